@@ -7,7 +7,7 @@ use Rattle.std.proofs.lemmas.List.Edits.{between_none, length-between}
 use Rattle.std.proofs.lemmas.Bool.{ltb-true}
 use Rattle.std.proofs.lemmas.Slice.{between_from_start, between_is}
 use Rattle.std.specs.Io.KnownBytes.{Consumes, IsAtEnd, Keeps}
-use Rattle.bundle_frames.specs.declared.coming.SourceStop.{SourceStop}
+use Rattle.fv_outside.specs.declared.failure.Failure.{Failure}
 use Rattle.bundle_frames.specs.declared.coming.Next.TheVariants.{Frame}
 use Rattle.bundle_frames.specs.declared.found.Found.TheVariants.{Frame as FoundFrame}
 use Rattle.bundle_frames.specs.Progress.{Progress, position, rest_of}
@@ -38,7 +38,7 @@ pub read_take : (front rest : List ℕ) (n : ℕ) → n ≡ length front → tak
 read_take front rest n is = take-append-le n front rest (omega arith) ∙ take_all n front (omega arith)
 
 -- bytes were read, where that is answered
-pub count_some : (count : ℕ) → (let more : Result Bool SourceStop = Ok (ltb 0 count) in more ≡ Ok true) → 0 < count
+pub count_some : (count : ℕ) → (let more : Result Bool Failure = Ok (ltb 0 count) in more ≡ Ok true) → 0 < count
 count_some count is =
     let more : ltb 0 count ≡ true = cc in
     ltb-true 0 count more

@@ -6,8 +6,8 @@ use Rattle.std.proofs.lemmas.Bool.{cases_lt}
 use Rattle.std.specs.Option.{option_map}
 use Rattle.lamport_clocks.specs.declared.header.Header.{Header}
 use Rattle.fv_outside.specs.Consumed.{StopsAtEnd, TookAtMost, TookJust, TookToEnd, most_behind}
-use Rattle.bundle_frames.specs.declared.coming.SourceStop.{SourceStop}
-use Rattle.bundle_frames.specs.declared.coming.SourceStop.TheVariants.{ReadFault, InputLimit}
+use Rattle.fv_outside.specs.declared.failure.Failure.{Failure}
+use Rattle.fv_outside.specs.declared.failure.Failure.TheVariants.{Memory, ReadFault, InputLimit, VaultFault, WriteFault}
 use Rattle.bundle_frames.specs.Bundle.{bundle_of}
 use Rattle.bundle_frames.specs.Extent.{end_in, reading_end, IsDue}
 use Rattle.bundle_frames.specs.Reading.{opening_reading, end_ahead, HasRead, ReadsAs}
@@ -115,10 +115,13 @@ past_near limit None f behind = tt
 past_near limit (Some bytes) f behind = omega arith
 
 -- the same where a reader stopped
-pub stops_stopped : (stop : SourceStop) (n limit : ℕ) (x y : Option (List ℕ)) (f : List ℕ → ℕ) → ((stop ≡ InputLimit → ⊥) → HasRead n x y) → (stop ≡ InputLimit → HasRead (limit + 1) x y)
+pub stops_stopped : (stop : Failure) (n limit : ℕ) (x y : Option (List ℕ)) (f : List ℕ → ℕ) → ((stop ≡ InputLimit → ⊥) → HasRead n x y) → (stop ≡ InputLimit → HasRead (limit + 1) x y)
     → (0 < n → IfSome x (λ bytes. n ≤ f bytes + most_behind)) → (stop ≡ InputLimit → IfSome x (λ bytes. limit < f bytes)) → StopsAtEnd f x y
+stops_stopped Memory n limit x y f read past near behind = stops_near n x y f (read (λ is. cc)) near
 stops_stopped ReadFault n limit x y f read past near behind = stops_near n x y f (read (λ is. cc)) near
 stops_stopped InputLimit n limit x y f read past near behind = stops_near (limit + 1) x y f (past refl) (λ some. past_near limit x f (behind refl))
+stops_stopped VaultFault n limit x y f read past near behind = stops_near n x y f (read (λ is. cc)) near
+stops_stopped WriteFault n limit x y f read past near behind = stops_near n x y f (read (λ is. cc)) near
 
 -- and where the end lies within what was taken, all up to it was
 pub took_to_end : (n : ℕ) (x y : Option (List ℕ)) (f g : List ℕ → ℕ) → HasRead n x y → ReadsAs n x f g → IfSome y (λ left. g left ≤ n) → TookToEnd f x y

@@ -3,7 +3,7 @@ use Rattle.std.specs.Prelude.{◌≡◌, ℕ, ◌≤◌, List, [], ◌∷◌, �
 use Rattle.lamport_clocks.specs.declared.header.Header.{Header}
 use Rattle.bundle_frames.specs.declared.coming.Next.{Next}
 use Rattle.bundle_frames.specs.declared.coming.Next.TheVariants.{Head, Frame, End}
-use Rattle.bundle_frames.specs.declared.coming.SourceStop.{SourceStop}
+use Rattle.fv_outside.specs.declared.failure.Failure.{Failure}
 use Rattle.bundle_frames.specs.Bundle.{Bundle, with_frames}
 use Rattle.bundle_frames.specs.Extent.{end_behind}
 use Rattle.bundle_frames.specs.Progress.{Progress, start, rest_of}
@@ -29,14 +29,14 @@ abbrev pub end_ahead : Reading → List ℕ → ℕ
 end_ahead reading more = end_behind reading.progress (reading.unread ++ more)
 
 -- what came, a frame with this body, and the rest behind it
-abbrev pub next_then : Result Next SourceStop → List ℕ → Bundle → Bundle
+abbrev pub next_then : Result Next Failure → List ℕ → Bundle → Bundle
 next_then (Ok (Head header)) body rest = rest
 next_then (Ok (Frame verifier)) body rest = with_frames (record { verifier = verifier; body = body } ∷ []) rest
 next_then (Ok End) body rest = rest
 next_then (Err stop) body rest = rest
 
 -- the header that is known then
-abbrev pub header_then : Result Next SourceStop → Option Header → Option Header
+abbrev pub header_then : Result Next Failure → Option Header → Option Header
 header_then (Ok (Head header)) known = Some header
 header_then (Ok (Frame verifier)) known = known
 header_then (Ok End) known = known

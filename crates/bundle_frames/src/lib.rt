@@ -19,7 +19,7 @@ mod splitter;
 mod whole;
 mod writers;
 
-pub use coming::{Next, SourceStop};
+pub use coming::Next;
 pub use found::{Fed, Found};
 pub use frame_buffer::FrameBuffer;
 pub use laws::{

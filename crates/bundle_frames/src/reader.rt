@@ -2,14 +2,15 @@
 ghost use Rattle.std.specs.Prelude.{◌≡◌, ◌≢◌, ℕ, ◌+◌, ◌-◌, ◌^◌, ◌<◌, ◌≤◌, List, [], length, true, false, take, IfOk, IfSome, IsSomeAnd, OnErr, Ok, Err, Some, None, vec_len};
 ghost use Rattle.std.specs.Io.KnownBytes.{IsAtEnd};
 ghost use Rattle.fv_outside.specs.Consumed.{ReadsOn};
+ghost use Rattle.fv_outside.specs.Failures.{FailsBySource};
 ghost use Rattle.fv_outside.specs.Faults.{Counts, Rose};
 
-use crate::coming::{Next, SourceStop};
+use crate::coming::Next;
 use crate::found::Found;
 use crate::frame_buffer::FrameBuffer;
 use crate::splitter::Splitter;
 use base_words::Memory;
-use fv_outside::{Failed, Source};
+use fv_outside::{Failed, Failure, Source};
 use lamport_clocks::Header;
 use std::alloc::{AllocError, Global};
 use std::marker::Model;
@@ -72,7 +73,7 @@ impl BundleReader {
     }
 
     /// Reads on, up to the next header or frame that is whole, or to the end.
-    pub fn next<S: Source>(&mut self, source: &mut S) -> Result<Next, SourceStop>
+    pub fn next<S: Source>(&mut self, source: &mut S) -> Result<Next, Failure>
         requires due { IsDue self.old.progress }
 
         // What was read means what came and the rest behind it, whatever follows; and reading ends where it did.
@@ -82,11 +83,11 @@ impl BundleReader {
             (end_ahead self.old) (end_ahead self.new) }
 
         // What was taken of the source. Past the limit it is one byte, and that is not read.
-        ensures took { result ≢ Err SourceStop.InputLimit
+        ensures took { result ≢ Err Failure.InputLimit
             → HasRead (self.new.taken - self.old.taken) (S.left source.old) (S.left source.new) }
-        ensures limit { result ≡ Err SourceStop.InputLimit
+        ensures limit { result ≡ Err Failure.InputLimit
             → HasRead (self.new.limit + 1 - self.old.taken) (S.left source.old) (S.left source.new) }
-        ensures full { result ≡ Err SourceStop.InputLimit → self.new.taken ≡ self.new.limit }
+        ensures full { result ≡ Err Failure.InputLimit → self.new.taken ≡ self.new.limit }
         ensures rises { self.old.taken ≤ self.new.taken }
         ensures within { self.new.taken ≤ self.new.limit }
         ensures same_limit { self.new.limit ≡ self.old.limit }
@@ -94,7 +95,7 @@ impl BundleReader {
         // A piece is read only while reading ends behind what was taken, and a byte past the limit too.
         ensures near { self.old.taken < self.new.taken
             → IfSome (S.left source.old) (λ bytes. self.new.taken ≤ end_ahead self.old bytes + most_behind) }
-        ensures beyond { result ≡ Err SourceStop.InputLimit
+        ensures beyond { result ≡ Err Failure.InputLimit
             → IfSome (S.left source.old) (λ bytes. self.new.limit < end_ahead self.old bytes) }
 
         // What comes is in its ranges, and is further on.
@@ -121,7 +122,8 @@ impl BundleReader {
         // A reader that stopped has nothing more to give of what was read. It may go on after a fault.
         ensures stopped { OnErr result (IsSpent self.new) }
         ensures due { result ≢ Ok Next.End → IsDue self.new.progress }
-        ensures fault { result ≡ Err SourceStop.ReadFault → Rose (S.faults source.old) (S.faults source.new) }
+        ensures failure { FailsBySource result }
+        ensures fault { result ≡ Err Failure.ReadFault → Rose (S.faults source.old) (S.faults source.new) }
         ensures never_falls { S.faults source.old ≤ S.faults source.new }
     {
         'pieces: loop {
@@ -140,22 +142,22 @@ impl BundleReader {
     }
 
     // Reads a piece, if all is split, and answers whether there are bytes to split.
-    fn fill<S: Source>(&mut self, source: &mut S) -> Result<bool, SourceStop>
+    fn fill<S: Source>(&mut self, source: &mut S) -> Result<bool, Failure>
         requires due { IsDue self.old.progress }
         ensures progress { self.new.progress ≡ self.old.progress }
         ensures means { ReadsAs (self.new.taken - self.old.taken) (S.left source.old) (ahead self.old) (ahead self.new) }
         ensures extent { ReadsAs (self.new.taken - self.old.taken) (S.left source.old) (end_ahead self.old) (end_ahead self.new) }
-        ensures took { result ≢ Err SourceStop.InputLimit
+        ensures took { result ≢ Err Failure.InputLimit
             → HasRead (self.new.taken - self.old.taken) (S.left source.old) (S.left source.new) }
-        ensures limit { result ≡ Err SourceStop.InputLimit
+        ensures limit { result ≡ Err Failure.InputLimit
             → HasRead (self.new.limit + 1 - self.old.taken) (S.left source.old) (S.left source.new) }
-        ensures full { result ≡ Err SourceStop.InputLimit → self.new.taken ≡ self.new.limit }
+        ensures full { result ≡ Err Failure.InputLimit → self.new.taken ≡ self.new.limit }
         ensures rises { self.old.taken ≤ self.new.taken }
         ensures within { self.new.taken ≤ self.new.limit }
         ensures same_limit { self.new.limit ≡ self.old.limit }
         ensures near { self.old.taken < self.new.taken
             → IfSome (S.left source.old) (λ bytes. self.new.taken ≤ end_ahead self.old bytes + most_behind) }
-        ensures beyond { result ≡ Err SourceStop.InputLimit
+        ensures beyond { result ≡ Err Failure.InputLimit
             → IfSome (S.left source.old) (λ bytes. self.new.limit < end_ahead self.old bytes) }
         ensures split { position self.new.progress ≤ self.new.taken }
         ensures some { result ≡ Ok true → 0 < length self.new.unread }
@@ -163,7 +165,8 @@ impl BundleReader {
         ensures end { result ≡ Ok false → IsAtEnd (S.left source.new) }
         ensures ended { result ≡ Ok false → self.new.unread ≡ [] }
         ensures stopped { OnErr result (self.new.unread ≡ []) }
-        ensures fault { result ≡ Err SourceStop.ReadFault → Rose (S.faults source.old) (S.faults source.new) }
+        ensures failure { FailsBySource result }
+        ensures fault { result ≡ Err Failure.ReadFault → Rose (S.faults source.old) (S.faults source.new) }
         ensures never_falls { S.faults source.old ≤ S.faults source.new }
     {
         if self.from < self.until {
@@ -172,11 +175,11 @@ impl BundleReader {
         let want = wanted(self.limit, self.taken);
         let count = match read_some(source, &mut self.room, want) {
             Ok(count) => count,
-            Err(_) => return Err(SourceStop::ReadFault),
+            Err(_) => return Err(Failure::ReadFault),
         };
         let read = count as u64;
         if read > self.limit - self.taken {
-            return Err(SourceStop::InputLimit);
+            return Err(Failure::InputLimit);
         }
         self.from = 0;
         self.until = count;

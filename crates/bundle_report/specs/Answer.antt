@@ -15,8 +15,8 @@ use Rattle.fv_outside.specs.Written.{Grows, GrowsByFront}
 use Rattle.soundness.specs.Certified.{certified_count}
 use Rattle.bundle_report.specs.Logged.{Logged, logged_of}
 use Rattle.bundle_report.specs.Report.{EpochText, told_by}
-use Rattle.bundle_report.specs.declared.report_stop.ReportStop.{ReportStop}
-use Rattle.bundle_report.specs.declared.report_stop.ReportStop.TheVariants as stops
+use Rattle.fv_outside.specs.declared.failure.Failure.{Failure}
+use Rattle.fv_outside.specs.declared.failure.Failure.TheVariants as failures
 use Rattle.bundle_report.specs.BundleReport.{histories_in, histories_at, end_of, certified_lines, report_of_logs}
 
 -- to logs under a header, in a bundle in which so much is bad: the lines of all epochs that they certify are due
@@ -56,7 +56,10 @@ abbrev pub sha_check_answer : Bool → List ℕ → List ℕ → Answer
 sha_check_answer receipts key bytes = check_answer receipts (sha_under key) bytes
 
 -- What was written is the text of an answer, whose status goes with this end; where the sink failed, a front of it.
-abbrev pub EndsAs : {E : Type 0} → (E → Status) → Result E ReportStop → Option (List ℕ) → Option (List ℕ) → Answer → Type 0
+abbrev pub EndsAs : {E : Type 0} → (E → Status) → Result E Failure → Option (List ℕ) → Option (List ℕ) → Answer → Type 0
 EndsAs status (Ok end) old new answer = (status end ≡ answer.status) × Grows old new answer.text
-EndsAs status (Err stops.Memory) old new answer = Unit {0}
-EndsAs status (Err stops.WriteFault) old new answer = GrowsByFront old new answer.text
+EndsAs status (Err failures.Memory) old new answer = Unit {0}
+EndsAs status (Err failures.ReadFault) old new answer = ⊥
+EndsAs status (Err failures.InputLimit) old new answer = ⊥
+EndsAs status (Err failures.VaultFault) old new answer = ⊥
+EndsAs status (Err failures.WriteFault) old new answer = GrowsByFront old new answer.text

@@ -3,7 +3,6 @@ pub mod Logs
 pub mod Logged
 pub mod Report
 pub mod BundleReport
-pub mod Stops
 pub mod Answer
 pub mod Headline
 pub mod RunReport

@@ -12,9 +12,7 @@
 mod judged;
 mod laws;
 mod refused_log;
-mod report_stop;
 
 pub use judged::{Judged, Uneven};
 pub use laws::certified_answers_are_sound;
 pub use refused_log::RefusedLog;
-pub use report_stop::ReportStop;

@@ -1,5 +1,6 @@
 //! Certifying epoch by epoch, as the logs come.
 ghost use Rattle.std.specs.Prelude.{◌≡◌, ◌≢◌, ◌+◌, ◌-◌, ◌<◌, ◌≤◌, ◌++◌, ℕ, List, map, length, slice_get, true, false, IfOk, IfSome, OnOk, OnErr, Ok, Err, None, Some};
+ghost use Rattle.fv_outside.specs.Failures.{FailsByWriting};
 ghost use Rattle.fv_outside.specs.Faults.{Counts, Rose};
 ghost use Rattle.fv_outside.specs.Written.{Grows, GrowsByFront};
 ghost use Rattle.lamport_clocks.specs.declared.header.Header.{Header};
@@ -29,9 +30,9 @@ use crate::gathering::verdict_on;
 use crate::lines::write_epoch_lines;
 use crate::telling::Telling;
 use base_words::Memory;
-use bundle_report::{Judged, ReportStop, Uneven};
+use bundle_report::{Judged, Uneven};
 use epoch_gather::Verdict;
-use fv_outside::Sink;
+use fv_outside::{Failure, Sink};
 use load_summary::Summary;
 use multiset_sum::Part;
 use record_hash::Digests;
@@ -93,7 +94,7 @@ impl Certifier {
         telling: &Telling<D>,
         summary: &mut Summary,
         out: &mut O,
-    ) -> Result<(), ReportStop>
+    ) -> Result<(), Failure>
         requires few { length runs.old ≤ 64 }
         requires logs { AreFed runs.old → HaveLogs self.old (map (λ fed. fed.run) runs.old) }
         requires settled { AreFed runs.old → AreVerdictsOn self.old (map (λ fed. fed.run) runs.old) settled.now }
@@ -124,13 +125,14 @@ impl Certifier {
 
         // With an answer, no run was starved; where one was, nothing is written.
         ensures fed { OnOk result (AreFed runs.old × AreFed runs.new) }
-        ensures starved { (AreFed runs.old → ⊥) → (result ≡ Err ReportStop.Memory) × (out.new ≡ out.old) }
+        ensures starved { (AreFed runs.old → ⊥) → (result ≡ Err Failure.Memory) × (out.new ≡ out.old) }
         ensures len { length runs.new ≡ length runs.old }
-        ensures write_fault { result ≡ Err ReportStop.WriteFault → Rose (O.faults out.old) (O.faults out.new) }
+        ensures failure { FailsByWriting result }
+        ensures write_fault { result ≡ Err Failure.WriteFault → Rose (O.faults out.old) (O.faults out.new) }
         ensures never_falls { O.faults out.old ≤ O.faults out.new }
     {
         if any_starved(runs) {
-            return Err(ReportStop::Memory);
+            return Err(Failure::Memory);
         }
         if let Some(_) = self.judged.unbalanced {
             return Ok(());
@@ -145,7 +147,7 @@ impl Certifier {
         }
         match page.flush(out) {
             Ok(()) => Ok(()),
-            Err(_) => Err(ReportStop::WriteFault),
+            Err(_) => Err(Failure::WriteFault),
         }
     }
 
@@ -168,7 +170,7 @@ impl Certifier {
         runs: &mut [FedRun],
         bad: Option<u64>,
         out: &mut O,
-    ) -> Result<BundleEnd, ReportStop>
+    ) -> Result<BundleEnd, Failure>
         requires few { length runs.old ≤ 64 }
 
         // Of all logs that the runs have taken, where all that these certify is counted: how their report ends.
@@ -183,13 +185,13 @@ impl Certifier {
             → OnErr result (GrowsByFront (O.held out.old) (O.held out.new)
             (last_line (status_of (end_of scheme header (map (read_log scheme.longest) logs) (histories_at scheme header logs) bad)))) }
         ensures write_fault { OnErr result (Rose (O.faults out.old) (O.faults out.new)) }
-        ensures stop { result ≢ Err ReportStop.Memory }
+        ensures stop { OnErr result (result ≡ Err Failure.WriteFault) }
         ensures never_falls { O.faults out.old ≤ O.faults out.new }
     {
         let end = self.end(runs, bad);
         match write_last(&end.status(), out) {
             Ok(()) => Ok(end),
-            Err(_) => Err(ReportStop::WriteFault),
+            Err(_) => Err(Failure::WriteFault),
         }
     }
 
@@ -203,7 +205,7 @@ impl Certifier {
         summary: &mut Summary,
         page: &mut Page,
         out: &mut O,
-    ) -> Result<bool, ReportStop>
+    ) -> Result<bool, Failure>
         requires few { length runs.old ≤ 64 }
         requires even { self.old.unbalanced ≡ None }
         requires logs { HaveLogs self.old (map (λ fed. fed.run) runs.old) }
@@ -219,7 +221,8 @@ impl Certifier {
         ensures fed { AreFed runs.old → AreFed runs.new }
         ensures less { result ≡ Ok true → parts_left runs.new < parts_left runs.old }
         ensures len { length runs.new ≡ length runs.old }
-        ensures write_fault { result ≡ Err ReportStop.WriteFault → Rose (O.faults out.old) (O.faults out.new) }
+        ensures failure { FailsByWriting result }
+        ensures write_fault { result ≡ Err Failure.WriteFault → Rose (O.faults out.old) (O.faults out.new) }
         ensures never_falls { O.faults out.old ≤ O.faults out.new }
     {
         let Some(epoch) = next_epoch(runs) else {
@@ -240,7 +243,7 @@ impl Certifier {
         take(&mut self.operations, runs, epoch)?;
         summary.count(&self.operations)?;
         if write_epoch_lines(telling, epoch, &self.operations, page, out).is_err() {
-            return Err(ReportStop::WriteFault);
+            return Err(Failure::WriteFault);
         }
         self.judged.count = one_more(self.judged.count, epoch);
         Ok(true)

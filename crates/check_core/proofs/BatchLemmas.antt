@@ -1,12 +1,14 @@
 -- Frames that were read, one more each time.
-use Rattle.std.proofs.Common.{◌≡◌, ℕ, ◌+◌, ◌-◌, ◌<◌, ◌≤◌, List, [], ◌∷◌, ◌++◌, length, map, take, set, Option, Some, None, Ok, Result, sym, ◌∙◌, ap, subst, true≢false, append_assoc, length-append, arith}
+use Rattle.std.proofs.Common.{◌≡◌, ◌⊎◌, ℕ, ◌+◌, ◌-◌, ◌<◌, ◌≤◌, List, [], ◌∷◌, ◌++◌, length, map, take, set, Option, Some, None, Ok, Err, Result, inl, inr, refl, sym, ◌∙◌, ap, subst, true≢false, append_assoc, length-append, arith}
 use Rattle.std.proofs.lemmas.List.{map-append, take_more_set}
 use Rattle.std.specs.Prelude.{IsSome, IsSomeAnd}
 use Rattle.std.specs.List.{AllByRecursion}
 use Rattle.lamport_clocks.specs.declared.header.Header.{Header}
 use Rattle.bundle_frames.specs.declared.coming.Next.{Next}
 use Rattle.bundle_frames.specs.declared.coming.Next.TheVariants.{Frame, End}
-use Rattle.bundle_frames.specs.declared.coming.SourceStop.{SourceStop}
+use Rattle.fv_outside.specs.declared.failure.Failure.{Failure}
+use Rattle.fv_outside.specs.declared.failure.Failure.TheVariants as failures
+use Rattle.fv_outside.specs.Failures.{FailsBySource}
 use Rattle.bundle_frames.specs.Bundle.{Bundle, IsFrame, with_frames, Frame as FrameOf}
 use Rattle.bundle_frames.specs.Extent.{IsDue}
 use Rattle.bundle_frames.specs.Progress.{position}
@@ -82,7 +84,7 @@ pub end_adds_none : (next : Next) (body : List ℕ) → next ≡ End → (rest :
 end_adds_none next body is rest = ap (λ (n : Next). next_then (Ok n) body rest) is
 
 -- a frame is not the end
-abbrev next_is : Next → Result Next SourceStop
+abbrev next_is : Next → Result Next Failure
 next_is next = Ok next
 
 pub frame_not_end : (next : Next) (verifier : ℕ) → next ≡ Frame verifier → next_is next ≡ next_is End → ⊥
@@ -96,17 +98,25 @@ filled_is filled = Ok filled
 pub whole_not_end : filled_is Ended ≡ filled_is Whole → ⊥
 whole_not_end same = cc
 
-pub stopped_not_end : (stop : SourceStop) → filled_is Ended ≡ filled_is (Stopped stop) → ⊥
+pub stopped_not_end : (stop : Failure) → filled_is Ended ≡ filled_is (Stopped stop) → ⊥
 stopped_not_end stop same = cc
 
-pub stopped_not_whole : (stop : SourceStop) → filled_is (Stopped stop) ≡ filled_is Whole → ⊥
+pub stopped_not_whole : (stop : Failure) → filled_is (Stopped stop) ≡ filled_is Whole → ⊥
 stopped_not_whole stop same = cc
 
-pub end_not_stopped : (stop : SourceStop) → filled_is (Stopped stop) ≡ filled_is Ended → ⊥
+pub end_not_stopped : (stop : Failure) → filled_is (Stopped stop) ≡ filled_is Ended → ⊥
 end_not_stopped stop same = cc
 
-pub stop_is : (stop other : SourceStop) → filled_is (Stopped stop) ≡ filled_is (Stopped other) → stop ≡ other
+pub stop_is : (stop other : Failure) → filled_is (Stopped stop) ≡ filled_is (Stopped other) → stop ≡ other
 stop_is stop other same = cc
+
+-- reading stops by the source alone
+pub by_source : (stop : Failure) → (let next : Result Next Failure = Err stop in FailsBySource next) → (stop ≡ failures.ReadFault) ⊎ (stop ≡ failures.InputLimit)
+by_source failures.Memory fails = absurd (fails.memory refl)
+by_source failures.ReadFault fails = inl refl
+by_source failures.InputLimit fails = inr refl
+by_source failures.VaultFault fails = absurd (fails.vault refl)
+by_source failures.WriteFault fails = absurd (fails.sink refl)
 
 -- ---- a frame that was handed over
 
@@ -138,7 +148,7 @@ joined : (some more : List FrameOf) (bundle : Bundle) → with_frames some (with
 joined some more bundle = ap (λ (frames : List FrameOf). record bundle { frames = frames }) (sym (append_assoc some more bundle.frames))
 
 -- a frame that came and was handed over stands behind the frames so far
-pub reads_frame : (n : ℕ) (x : Option (List ℕ)) (frames all : List FrameOf) (verifier : ℕ) (old new handed : Reading) (result : Result Next SourceStop)
+pub reads_frame : (n : ℕ) (x : Option (List ℕ)) (frames all : List FrameOf) (verifier : ℕ) (old new handed : Reading) (result : Result Next Failure)
     → ReadsAs n x (ahead old) (λ more. next_then result new.progress.body (ahead new more))
     → result ≡ Ok (Frame verifier) → handed ≡ record new { progress = record new.progress { body = [] } }
     → all ≡ frames ++ record { verifier = verifier; body = new.progress.body } ∷ []
@@ -147,13 +157,13 @@ reads_frame n x frames all verifier old new handed result reads is same more_fra
     ReadsAs-kept n x (λ more. with_frames frames (ahead old more)) (λ more. with_frames frames (next_then result new.progress.body (ahead new more)))
     (λ more. with_frames all (ahead handed more))
     (ReadsAs-map (with_frames frames) n x (ahead old) (λ more. next_then result new.progress.body (ahead new more)) reads)
-    (λ more. ap (λ (r : Result Next SourceStop). with_frames frames (next_then r new.progress.body (ahead new more))) is
+    (λ more. ap (λ (r : Result Next Failure). with_frames frames (next_then r new.progress.body (ahead new more))) is
     ∙ joined frames (record { verifier = verifier; body = new.progress.body } ∷ []) (ahead new more)
     ∙ ap (λ (fs : List FrameOf). with_frames fs (ahead new more)) (sym more_frames)
     ∙ ap (λ (r : Reading). with_frames all (ahead r more)) (sym same))
 
 -- where no frame came they are all
-pub reads_none : (n : ℕ) (x : Option (List ℕ)) (frames : List FrameOf) (old new : Reading) (result : Result Next SourceStop)
+pub reads_none : (n : ℕ) (x : Option (List ℕ)) (frames : List FrameOf) (old new : Reading) (result : Result Next Failure)
     → ReadsAs n x (ahead old) (λ more. next_then result new.progress.body (ahead new more))
     → ((rest : Bundle) → next_then result new.progress.body rest ≡ rest)
     → ReadsAs n x (λ more. with_frames frames (ahead old more)) (λ more. with_frames frames (ahead new more))

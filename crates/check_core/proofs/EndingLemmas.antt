@@ -1,14 +1,15 @@
 -- How a check ends behind a batch.
-use Rattle.std.proofs.Common.{◌≡◌, Bool, ℕ, ◌+◌, ◌-◌, ◌<◌, ◌≤◌, min, List, [], length, take, Option, None, Some, IfSome, Result, Ok, Err, refl, sym, ap, subst, length-drop, arith}
+use Rattle.std.proofs.Common.{◌≡◌, Bool, ◌⊎◌, ℕ, ◌+◌, ◌-◌, ◌<◌, ◌≤◌, min, List, [], length, take, Option, None, Some, IfSome, Result, Ok, Err, inl, inr, refl, sym, ap, subst, length-drop, arith}
 use Rattle.fv_outside.specs.Consumed.{StopsAtEnd, EndsBehind, TookAtMost, TookJust, TookToEnd, most_behind}
+use Rattle.fv_outside.specs.Failures.{FailsByWriting}
 use Rattle.fv_outside.specs.Faults.{Rose}
 use Rattle.fv_outside.specs.Written.{Grows, GrowsByFront}
 use Rattle.record_hash.specs.Functions.{DigestFunctions}
 use Rattle.lamport_clocks.specs.declared.header.Header.{Header}
 use Rattle.lamport_clocks.specs.Header.{IsHeader}
 use Rattle.bundle_frames.specs.declared.coming.Next.{Next}
-use Rattle.bundle_frames.specs.declared.coming.SourceStop.{SourceStop}
-use Rattle.bundle_frames.specs.declared.coming.SourceStop.TheVariants as sources
+use Rattle.fv_outside.specs.declared.failure.Failure.{Failure}
+use Rattle.fv_outside.specs.declared.failure.Failure.TheVariants as failures
 use Rattle.bundle_frames.specs.Extent.{reading_end}
 use Rattle.bundle_frames.specs.Reading.{Reading, ahead, end_ahead, HasRead, ReadsAs}
 use Rattle.bundle_frames.proofs.ReadingLaws.{HasRead-then, ReadsAs-back, TookAtMost-from_read, stops_near, stops_stopped}
@@ -16,10 +17,8 @@ use Rattle.report_text.specs.declared.status.Status.{Status}
 use Rattle.report_text.specs.declared.status.Status.TheVariants as statuses
 use Rattle.report_text.specs.declared.ending.BundleEnd.{BundleEnd}
 use Rattle.report_text.specs.declared.ending.BundleEnd.TheVariants as bundles
-use Rattle.report_text.specs.Ending.{status_of}
+use Rattle.report_text.specs.Ending.{status_of, failure_status}
 use Rattle.report_text.specs.Answer.{IsEnd, OfTaken, Writing, AnswersTo}
-use Rattle.bundle_report.specs.declared.report_stop.ReportStop.{ReportStop}
-use Rattle.bundle_report.specs.declared.report_stop.ReportStop.TheVariants as writes
 use Rattle.bundle_report.specs.Logs.{joined_from}
 use Rattle.bundle_report.specs.Logged.{Logged, logged_of}
 use Rattle.bundle_report.specs.Report.{told_by}
@@ -28,7 +27,6 @@ use Rattle.base_words.specs.declared.memory.Memory.{Memory}
 use Rattle.check_core.specs.declared.batch.Filled.{Filled}
 use Rattle.check_core.specs.declared.batch.Filled.TheVariants.{Whole, End, Stopped}
 use Rattle.check_core.specs.Intake.{behind_at}
-use Rattle.check_core.specs.Stops.{checking_stopped, stop_by_reading, stop_by_writing}
 use Rattle.check_core.specs.Stream.{HasCome, lines_due}
 use Rattle.report_text.proofs.AnsweringLaws.{answers-end, answers-read_fault, answers-limit, answers-memory, answers-write_fault}
 use Rattle.check_core.proofs.StreamLemmas.{reads_on, reads_all, reads_taken, same_left, near-more, due_spent, due_front, text_front}
@@ -87,31 +85,37 @@ module _ (limit : ℕ) (left left_now left_then : Option (List ℕ)) (faults fau
         read = omega (arith, full, same);
         most = omega arith;
         stops =
-            stops_stopped sources.InputLimit new.taken limit left left_then reading_end (λ other. absurd (other refl)) (λ _. all)
+            stops_stopped failures.InputLimit new.taken limit left left_then reading_end (λ other. absurd (other refl)) (λ _. all)
             (near-more left left_now faults faults_now logs old new come rises near) (λ _. ends_behind beyond);
       }
 
   -- however a batch was read
   pub took_batch : (result : Result Filled Memory) (filled : Filled) → result ≡ Ok filled
-      → ((result ≡ Ok (Stopped sources.InputLimit) → ⊥) → HasRead (new.taken - old.taken) left_now left_then)
-      → (result ≡ Ok (Stopped sources.InputLimit) → HasRead (new.limit + 1 - old.taken) left_now left_then)
-      → (result ≡ Ok (Stopped sources.InputLimit) → new.taken ≡ new.limit)
-      → (result ≡ Ok (Stopped sources.InputLimit) → IfSome left_now (λ bytes. new.limit < end_ahead old bytes))
+      → ((result ≡ Ok (Stopped failures.InputLimit) → ⊥) → HasRead (new.taken - old.taken) left_now left_then)
+      → (result ≡ Ok (Stopped failures.InputLimit) → HasRead (new.limit + 1 - old.taken) left_now left_then)
+      → (result ≡ Ok (Stopped failures.InputLimit) → new.taken ≡ new.limit)
+      → (result ≡ Ok (Stopped failures.InputLimit) → IfSome left_now (λ bytes. new.limit < end_ahead old bytes))
       → Took limit left left_then new
   took_batch result Whole is having_read past full beyond = took_within (having_read (λ limit. cc))
   took_batch result End is having_read past full beyond = took_within (having_read (λ limit. cc))
-  took_batch result (Stopped sources.ReadFault) is having_read past full beyond = took_within (having_read (λ limit. cc))
-  took_batch result (Stopped sources.InputLimit) is having_read past full beyond = took_past (past is) (full is) (beyond is)
+  took_batch result (Stopped failures.Memory) is having_read past full beyond = took_within (having_read (λ limit. cc))
+  took_batch result (Stopped failures.ReadFault) is having_read past full beyond = took_within (having_read (λ limit. cc))
+  took_batch result (Stopped failures.InputLimit) is having_read past full beyond = took_past (past is) (full is) (beyond is)
+  took_batch result (Stopped failures.VaultFault) is having_read past full beyond = took_within (having_read (λ limit. cc))
+  took_batch result (Stopped failures.WriteFault) is having_read past full beyond = took_within (having_read (λ limit. cc))
 
   -- the same of the header
-  pub took_first : (result : Result Next SourceStop) (stop : SourceStop) → result ≡ Err stop
-      → ((result ≡ Err sources.InputLimit → ⊥) → HasRead (new.taken - old.taken) left_now left_then)
-      → (result ≡ Err sources.InputLimit → HasRead (new.limit + 1 - old.taken) left_now left_then)
-      → (result ≡ Err sources.InputLimit → new.taken ≡ new.limit)
-      → (result ≡ Err sources.InputLimit → IfSome left_now (λ bytes. new.limit < end_ahead old bytes))
+  pub took_first : (result : Result Next Failure) (stop : Failure) → result ≡ Err stop
+      → ((result ≡ Err failures.InputLimit → ⊥) → HasRead (new.taken - old.taken) left_now left_then)
+      → (result ≡ Err failures.InputLimit → HasRead (new.limit + 1 - old.taken) left_now left_then)
+      → (result ≡ Err failures.InputLimit → new.taken ≡ new.limit)
+      → (result ≡ Err failures.InputLimit → IfSome left_now (λ bytes. new.limit < end_ahead old bytes))
       → Took limit left left_then new
-  took_first result sources.ReadFault is having_read past full beyond = took_within (having_read (λ limit. cc))
-  took_first result sources.InputLimit is having_read past full beyond = took_past (past is) (full is) (beyond is)
+  took_first result failures.Memory is having_read past full beyond = took_within (having_read (λ limit. cc))
+  took_first result failures.ReadFault is having_read past full beyond = took_within (having_read (λ limit. cc))
+  took_first result failures.InputLimit is having_read past full beyond = took_past (past is) (full is) (beyond is)
+  took_first result failures.VaultFault is having_read past full beyond = took_within (having_read (λ limit. cc))
+  took_first result failures.WriteFault is having_read past full beyond = took_within (having_read (λ limit. cc))
 
 -- ---- where it stops
 
@@ -123,17 +127,20 @@ module _ (receipts : Bool) (functions : DigestFunctions) (header : Header) (limi
       (record { left = left; left_after = left_then; faults = faults; faults_after = faults_then }) writing
 
   -- where memory was wanting, or the sink failed
-  pub stop_answers : (stop : ReportStop) → Took limit left left_then new → IsHeader header → length all ≡ header.verifiers
+  pub stop_answers : {A : Type 0} (result : Result A Failure) (stop : Failure) → result ≡ Err stop → FailsByWriting result → Took limit left left_then new → IsHeader header → length all ≡ header.verifiers
       → GrowsByFront writing.held writing.held_after (lines_due (told_by receipts functions header) functions header all)
-      → (stop ≡ writes.WriteFault → Rose writing.faults writing.faults_after)
-      → Answers (checking_stopped limit (stop_by_writing stop))
-  stop_answers writes.Memory having_read good whole front rose =
+      → (stop ≡ failures.WriteFault → Rose writing.faults writing.faults_after)
+      → Answers (failure_status limit stop)
+  stop_answers result failures.Memory is fails having_read good whole front rose =
       answers-memory (check_answer receipts functions) reading_end limit _ writing
       (of_taken (λ bytes. GrowsByFront writing.held writing.held_after (check_answer receipts functions bytes).due) limit having_read.count new.taken left left_then having_read.having_read having_read.read
       (reads_taken (λ (logged : Logged). GrowsByFront writing.held writing.held_after (answer_by receipts functions logged).due) new.taken left logged_of (behind_at all new) means
       (due_front receipts functions header all new known writing.held writing.held_after good whole front [])))
       (TookAtMost-from_read having_read.count (limit + 1) left left_then having_read.having_read having_read.most) having_read.stops
-  stop_answers writes.WriteFault having_read good whole front rose =
+  stop_answers result failures.ReadFault is fails having_read good whole front rose = absurd (fails.source is)
+  stop_answers result failures.InputLimit is fails having_read good whole front rose = absurd (fails.limit is)
+  stop_answers result failures.VaultFault is fails having_read good whole front rose = absurd (fails.vault is)
+  stop_answers result failures.WriteFault is fails having_read good whole front rose =
       answers-write_fault (check_answer receipts functions) reading_end limit _ writing
       (reads_all (λ (logged : Logged). GrowsByFront writing.held writing.held_after (answer_by receipts functions logged).text) new.taken left logged_of (behind_at all new) means
       (λ more. text_front receipts functions header all new known writing.held writing.held_after good whole front more))
@@ -188,23 +195,30 @@ module _ (receipts : Bool) (functions : DigestFunctions) (header : Header) (limi
 -- ---- where reading stops
 
 -- where the source failed, or gave too much
-pub cut_answers : (receipts : Bool) (functions : DigestFunctions) (limit : ℕ) (left left_then : Option (List ℕ)) (faults faults_then : ℕ) (new : Reading) (writing : Writing)
-    (stop : SourceStop) → Took limit left left_then new
-    → IfSome left (λ bytes. Grows writing.held writing.held_after (check_answer receipts functions (take new.taken bytes)).due)
-    → (stop ≡ sources.ReadFault → Rose faults faults_then)
-    → (stop ≡ sources.ReadFault → TookAtMost limit left left_then)
-    → (stop ≡ sources.InputLimit → TookJust (limit + 1) left left_then)
-    → (stop ≡ sources.InputLimit → EndsBehind reading_end limit left)
-    → AnswersTo (check_answer receipts functions) reading_end limit (checking_stopped limit (stop_by_reading stop))
-    (record { left = left; left_after = left_then; faults = faults; faults_after = faults_then }) writing
-cut_answers receipts functions limit left left_then faults faults_then new writing sources.ReadFault having_read due rose within just behind =
-    answers-read_fault (check_answer receipts functions) reading_end limit _ writing
-    (of_taken (λ bytes. Grows writing.held writing.held_after (check_answer receipts functions bytes).due) limit having_read.count new.taken left left_then having_read.having_read having_read.read due)
-    (within refl) having_read.stops (rose refl)
-cut_answers receipts functions limit left left_then faults faults_then new writing sources.InputLimit having_read due rose within just behind =
-    answers-limit (check_answer receipts functions) reading_end limit _ writing
-    (of_taken (λ bytes. Grows writing.held writing.held_after (check_answer receipts functions bytes).due) limit having_read.count new.taken left left_then having_read.having_read having_read.read due)
-    (just refl) having_read.stops (behind refl)
+module _ (receipts : Bool) (functions : DigestFunctions) (limit : ℕ) (left left_then : Option (List ℕ)) (faults faults_then : ℕ) (new : Reading) (writing : Writing)
+    (stop : Failure) (took : Took limit left left_then new)
+    (due : IfSome left (λ bytes. Grows writing.held writing.held_after (check_answer receipts functions (take new.taken bytes)).due)) where
+  abbrev CutAnswers : Failure → Type 0
+  CutAnswers failure =
+      AnswersTo (check_answer receipts functions) reading_end limit (failure_status limit failure)
+      (record { left = left; left_after = left_then; faults = faults; faults_after = faults_then }) writing
+
+  due_taken_of : OfTaken limit (λ bytes. Grows writing.held writing.held_after (check_answer receipts functions bytes).due) left left_then
+  due_taken_of =
+      of_taken (λ bytes. Grows writing.held writing.held_after (check_answer receipts functions bytes).due) limit took.count new.taken left left_then took.having_read took.read due
+
+  pub cut_answers : (stop ≡ failures.ReadFault → Rose faults faults_then)
+      → (stop ≡ failures.ReadFault → TookAtMost limit left left_then)
+      → (stop ≡ failures.InputLimit → TookJust (limit + 1) left left_then)
+      → (stop ≡ failures.InputLimit → EndsBehind reading_end limit left)
+      → (stop ≡ failures.ReadFault) ⊎ (stop ≡ failures.InputLimit)
+      → CutAnswers stop
+  cut_answers rose within just behind (inl is) =
+      subst CutAnswers (sym is)
+      (answers-read_fault (check_answer receipts functions) reading_end limit _ writing due_taken_of (within is) took.stops (rose is))
+  cut_answers rose within just behind (inr is) =
+      subst CutAnswers (sym is)
+      (answers-limit (check_answer receipts functions) reading_end limit _ writing due_taken_of (just is) took.stops (behind is))
 
 -- ---- nothing more was read, or not to the end of a batch
 

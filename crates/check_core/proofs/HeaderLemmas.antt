@@ -9,7 +9,7 @@ use Rattle.record_hash.specs.Functions.{DigestFunctions}
 use Rattle.lamport_clocks.specs.declared.header.Header.{Header}
 use Rattle.bundle_frames.specs.declared.coming.Next.{Next}
 use Rattle.bundle_frames.specs.declared.coming.Next.TheVariants.{Head, Frame}
-use Rattle.bundle_frames.specs.declared.coming.SourceStop.{SourceStop}
+use Rattle.fv_outside.specs.declared.failure.Failure.{Failure}
 use Rattle.bundle_frames.specs.Bundle.{IsFrame}
 use Rattle.bundle_frames.specs.Extent.{reading_end}
 use Rattle.bundle_frames.specs.Reading.{Reading, opening_reading, ahead, end_ahead, next_then, header_then, HasRead, ReadsAs}
@@ -21,10 +21,9 @@ use Rattle.report_text.specs.Answer.{Answer, Writing, AnswersTo}
 use Rattle.bundle_report.specs.Logs.{log_count, empty_logs, logs_then}
 use Rattle.bundle_report.specs.Logged.{Logged, behind, logged_of}
 use Rattle.bundle_report.specs.Answer.{no_answer, answer_at, answer_by, check_answer}
-use Rattle.check_core.specs.declared.stops.CheckStop.{CheckStop}
-use Rattle.check_core.specs.declared.stops.CheckStop.TheVariants.{WriteFault}
+use Rattle.fv_outside.specs.declared.failure.Failure.TheVariants.{WriteFault}
 use Rattle.check_core.specs.Intake.{behind_at}
-use Rattle.check_core.specs.Stops.{check_status}
+use Rattle.check_core.specs.Outcomes.{check_status}
 use Rattle.check_core.specs.Stream.{HasCome}
 use Rattle.report_text.proofs.AnsweringLaws.{answers-end, answers-write_fault}
 use Rattle.check_core.proofs.MeaningLemmas.{opening_joined, reads_next}
@@ -62,7 +61,7 @@ module _ (limit : ℕ) (left : Option (List ℕ)) (faults : ℕ) (old new : Read
       (sym (ap log_count none)) (sym (ap (λ (n : Next). logs_then n new.progress.body []) is))) sum
 
   -- none came
-  pub means_none : (result : Result Next SourceStop) → ((rest : _) → next_then result new.progress.body rest ≡ rest)
+  pub means_none : (result : Result Next Failure) → ((rest : _) → next_then result new.progress.body rest ≡ rest)
       → ReadsAs (new.taken - old.taken) left (ahead old) (λ more. next_then result new.progress.body (ahead new more))
       → new.progress.header ≡ old.progress.header
       → ReadsAs new.taken left logged_of (behind_at [] new)
@@ -94,7 +93,7 @@ module _ (receipts : Bool) (functions : DigestFunctions) (limit : ℕ) (left lef
       subst P (sym (none_answer receipts functions (behind_at [] new rest) (ap (λ b. b.header) same ∙ none))) holds
 
   -- the report is its last line
-  pub bad_answers : (result : Result BundleEnd CheckStop) → (result ≡ Ok (BadBundle 0)) ⊎ (result ≡ Err WriteFault)
+  pub bad_answers : (result : Result BundleEnd Failure) → (result ≡ Ok (BadBundle 0)) ⊎ (result ≡ Err WriteFault)
       → OnOk result (Grows writing.held writing.held_after no_answer.text)
       → OnErr result (GrowsByFront writing.held writing.held_after no_answer.text)
       → OnErr result (Rose writing.faults writing.faults_after)
@@ -104,21 +103,21 @@ module _ (receipts : Bool) (functions : DigestFunctions) (limit : ℕ) (left lef
       → AnswersTo (check_answer receipts functions) reading_end limit (check_status limit result)
       (record { left = left; left_after = left_then; faults = faults; faults_after = faults_then }) writing
   bad_answers result (inl is) whole front rose having_read within ends reached stops =
-      subst (λ (r : Result BundleEnd CheckStop). AnswersTo (check_answer receipts functions) reading_end limit (check_status limit r)
+      subst (λ (r : Result BundleEnd Failure). AnswersTo (check_answer receipts functions) reading_end limit (check_status limit r)
       (record { left = left; left_after = left_then; faults = faults; faults_after = faults_then }) writing) (sym is)
       (answers-end (check_answer receipts functions) reading_end limit _ writing (statuses.BadBundle 0) tt
       (ReadsAs-back (λ (logged : Logged). statuses.BadBundle 0 ≡ (answer_by receipts functions logged).status) new.taken left left_then logged_of (behind_at [] new) having_read means
       (at_end (λ (answer : Answer). statuses.BadBundle 0 ≡ answer.status) left_then ends refl))
       (ReadsAs-back (λ (logged : Logged). Grows writing.held writing.held_after (answer_by receipts functions logged).text) new.taken left left_then logged_of (behind_at [] new) having_read means
       (at_end (λ (answer : Answer). Grows writing.held writing.held_after answer.text) left_then ends
-      (subst (λ (r : Result BundleEnd CheckStop). OnOk r (Grows writing.held writing.held_after no_answer.text)) is whole)))
+      (subst (λ (r : Result BundleEnd Failure). OnOk r (Grows writing.held writing.held_after no_answer.text)) is whole)))
       (TookAtMost-from_read new.taken limit left left_then having_read within) reached stops)
   bad_answers result (inr is) whole front rose having_read within ends reached stops =
-      subst (λ (r : Result BundleEnd CheckStop). AnswersTo (check_answer receipts functions) reading_end limit (check_status limit r)
+      subst (λ (r : Result BundleEnd Failure). AnswersTo (check_answer receipts functions) reading_end limit (check_status limit r)
       (record { left = left; left_after = left_then; faults = faults; faults_after = faults_then }) writing) (sym is)
       (answers-write_fault (check_answer receipts functions) reading_end limit _ writing
       (ReadsAs-back (λ (logged : Logged). GrowsByFront writing.held writing.held_after (answer_by receipts functions logged).text) new.taken left left_then logged_of (behind_at [] new) having_read means
       (at_end (λ (answer : Answer). GrowsByFront writing.held writing.held_after answer.text) left_then ends
-      (subst (λ (r : Result BundleEnd CheckStop). OnErr r (GrowsByFront writing.held writing.held_after no_answer.text)) is front)))
+      (subst (λ (r : Result BundleEnd Failure). OnErr r (GrowsByFront writing.held writing.held_after no_answer.text)) is front)))
       (TookAtMost-from_read new.taken (limit + 1) left left_then having_read (omega (arith, within))) stops
-      (subst (λ (r : Result BundleEnd CheckStop). OnErr r (Rose writing.faults writing.faults_after)) is rose))
+      (subst (λ (r : Result BundleEnd Failure). OnErr r (Rose writing.faults writing.faults_after)) is rose))

@@ -3,6 +3,5 @@ pub mod Batch
 pub mod Feeding
 pub mod Intake
 pub mod Outcomes
-pub mod Stops
 pub mod Stream
 pub use Rattle.bundle_report.specs

@@ -1,4 +1,8 @@
 -- Which statuses a check can end with.
+use Rattle.std.specs.Prelude.{ℕ, Result, Ok, Err}
+use Rattle.fv_outside.specs.declared.failure.Failure.{Failure}
+use Rattle.report_text.specs.declared.ending.BundleEnd.{BundleEnd}
+use Rattle.report_text.specs.Ending.{status_of, failure_status}
 use Rattle.report_text.specs.declared.status.Status.{Status}
 use Rattle.report_text.specs.declared.status.Status.TheVariants.{Done, Usage, Memory, ReadFault, WriteFault, VaultFault, BadScript, BadBundle, Refused, Unbalanced, ClockEnd, NotTagged, NotCertified, Exhibit, InputLimit}
 
@@ -19,3 +23,8 @@ IsCheckStatus NotTagged = ⊥
 IsCheckStatus NotCertified = ⊥
 IsCheckStatus Exhibit = ⊥
 IsCheckStatus (InputLimit taken) = Unit {0}
+
+-- the status of a check that came to this
+abbrev pub check_status : ℕ → Result BundleEnd Failure → Status
+check_status limit (Ok end) = status_of end
+check_status limit (Err failure) = failure_status limit failure

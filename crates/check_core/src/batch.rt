@@ -1,5 +1,5 @@
 //! Frames that are read before they are fed.
-ghost use Rattle.std.specs.Prelude.{◌≡◌, ◌≢◌, ℕ, ◌+◌, ◌-◌, ◌<◌, ◌≤◌, ◌++◌, ◌∷◌, [], length, map, take, true, false, Ok, Some, IfOk, IfSome, IsSome, OnOk, OnErr, vec_len};
+ghost use Rattle.std.specs.Prelude.{◌≡◌, ◌≢◌, ◌⊎◌, ℕ, ◌+◌, ◌-◌, ◌<◌, ◌≤◌, ◌++◌, ◌∷◌, [], length, map, take, true, false, Ok, Some, IfOk, IfSome, IsSome, OnOk, OnErr, vec_len};
 ghost use Rattle.std.specs.List.{AllByRecursion};
 ghost use Rattle.fv_outside.specs.Consumed.{most_behind};
 ghost use Rattle.fv_outside.specs.Faults.{Rose};
@@ -11,8 +11,8 @@ ghost use Rattle.bundle_frames.specs.Reading.{ahead, end_ahead, HasRead, IsSpent
 ghost use Rattle.check_core.specs.Batch.{frame_in, bytes_of, GoesOnBy};
 
 use base_words::Memory;
-use bundle_frames::{BundleReader, FrameBuffer, Next, SourceStop};
-use fv_outside::Source;
+use bundle_frames::{BundleReader, FrameBuffer, Next};
+use fv_outside::{Failure, Source};
 use std::alloc::Global;
 use std::marker::Model;
 
@@ -27,7 +27,7 @@ pub enum Filled {
     /// The bundle ended, or what follows is bad.
     End,
     /// Reading stopped before the end.
-    Stopped(SourceStop),
+    Stopped(Failure),
 }
 
 /// A frame that was read: whose, and its body.
@@ -101,11 +101,11 @@ impl Batch {
         ensures whole { result ≡ Ok Filled.Whole → length self.new ≡ 64 }
 
         // What was taken of the source. Past the limit it is one byte, and that is not read.
-        ensures having_read { result ≢ Ok (Filled.Stopped SourceStop.InputLimit)
+        ensures having_read { result ≢ Ok (Filled.Stopped Failure.InputLimit)
             → HasRead (reader.new.taken - reader.old.taken) (S.left source.old) (S.left source.new) }
-        ensures limit { result ≡ Ok (Filled.Stopped SourceStop.InputLimit)
+        ensures limit { result ≡ Ok (Filled.Stopped Failure.InputLimit)
             → HasRead (reader.new.limit + 1 - reader.old.taken) (S.left source.old) (S.left source.new) }
-        ensures full { result ≡ Ok (Filled.Stopped SourceStop.InputLimit) → reader.new.taken ≡ reader.new.limit }
+        ensures full { result ≡ Ok (Filled.Stopped Failure.InputLimit) → reader.new.taken ≡ reader.new.limit }
         ensures rises { reader.old.taken ≤ reader.new.taken }
         ensures within { reader.new.taken ≤ reader.new.limit }
         ensures same_limit { reader.new.limit ≡ reader.old.limit }
@@ -114,7 +114,7 @@ impl Batch {
         // A piece is read only while reading ends behind what was taken, and a byte past the limit too.
         ensures near { reader.old.taken < reader.new.taken
             → IfSome (S.left source.old) (λ bytes. reader.new.taken ≤ end_ahead reader.old bytes + most_behind) }
-        ensures beyond { result ≡ Ok (Filled.Stopped SourceStop.InputLimit)
+        ensures beyond { result ≡ Ok (Filled.Stopped Failure.InputLimit)
             → IfSome (S.left source.old) (λ bytes. reader.new.limit < end_ahead reader.old bytes) }
 
         // At the end no byte that is left makes a difference, and reading ended within what was taken.
@@ -124,7 +124,8 @@ impl Batch {
         // There is no more of what was read, but where the batch is whole.
         ensures spent { IfOk result (λ filled. filled ≢ Filled.Whole → IsSpent reader.new) }
         ensures due { result ≡ Ok Filled.Whole → IsDue reader.new.progress }
-        ensures fault { result ≡ Ok (Filled.Stopped SourceStop.ReadFault) → Rose (S.faults source.old) (S.faults source.new) }
+        ensures stopped { (failure : Failure) → result ≡ Ok (Filled.Stopped failure) → (failure ≡ Failure.ReadFault) ⊎ (failure ≡ Failure.InputLimit) }
+        ensures fault { result ≡ Ok (Filled.Stopped Failure.ReadFault) → Rose (S.faults source.old) (S.faults source.new) }
         ensures never_falls { S.faults source.old ≤ S.faults source.new }
     {
         self.clear();

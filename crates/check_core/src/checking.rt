@@ -1,6 +1,7 @@
 //! A check of a bundle: what is certified, and how its report ends.
-ghost use Rattle.std.specs.Prelude.{◌≡◌, ◌+◌, ◌<◌, ◌≤◌, ◌^◌, ◌⊎◌, ℕ, List, Option, Some, length, map, IfSome, OnOk, OnErr, Ok, Err};
+ghost use Rattle.std.specs.Prelude.{◌≡◌, ◌≢◌, ◌+◌, ◌<◌, ◌≤◌, ◌^◌, ◌⊎◌, ℕ, List, Option, Some, length, map, IfSome, OnOk, OnErr, Ok, Err};
 ghost use Rattle.std.specs.List.{AllByRecursion};
+ghost use Rattle.fv_outside.specs.Failures.{FailsByWriting};
 ghost use Rattle.fv_outside.specs.Faults.{Rose};
 ghost use Rattle.fv_outside.specs.Written.{Grows, GrowsByFront};
 ghost use Rattle.lamport_clocks.specs.declared.header.Header.{Header};
@@ -17,17 +18,14 @@ ghost use Rattle.bundle_report.specs.RunReport.{courses_of};
 ghost use Rattle.bundle_report.specs.Judged.{judged};
 ghost use Rattle.certified_epochs.specs.Telling.{text_by};
 ghost use Rattle.check_core.specs.Batch.{bytes_of};
-ghost use Rattle.check_core.specs.Outcomes.{IsCheckStatus};
-ghost use Rattle.check_core.specs.Stops.{check_status};
+ghost use Rattle.check_core.specs.Outcomes.{IsCheckStatus, check_status};
 ghost use Rattle.check_core.specs.Stream.{HasCome, AreChecked, lines_counted, lines_due};
 
 use crate::batch::{Batch, Filled};
 use crate::feeding::feed_batch;
-use crate::stops::CheckStop;
 use bundle_frames::{BundleReader, Next};
-use bundle_report::ReportStop;
 use certified_epochs::{Certifier, FedRun, Telling, open_runs};
-use fv_outside::{Sink, Source};
+use fv_outside::{Failure, Sink, Source};
 use lamport_clocks::Header;
 use load_summary::Summary;
 use merkle_records::digests_have_32_bytes;
@@ -62,7 +60,7 @@ pub fn check<R: Threads + Sync, D: Digests + Sync, S: Source, O: Sink>(
     digests_have_32_bytes(d);
     match check_bundle(rt, alloc, d, limit, source, out, receipts) {
         Ok(end) => end.status(),
-        Err(stop) => stop.status(limit),
+        Err(failure) => Status::of_failure(failure, limit),
     }
 }
 
@@ -75,16 +73,17 @@ fn check_bundle<R: Threads + Sync, D: Digests + Sync, S: Source, O: Sink>(
     source: &mut S,
     out: &mut O,
     receipts: bool,
-) -> Result<BundleEnd, CheckStop>
+) -> Result<BundleEnd, Failure>
     requires limit { limit ≤ 2 ^ 40 }
     ensures answers { AnswersTo (check_answer receipts (D.functions d.now)) reading_end limit (check_status limit result)
         (record { left = S.left source.old; left_after = S.left source.new; faults = S.faults source.old; faults_after = S.faults source.new })
         (record { held = O.held out.old; held_after = O.held out.new; faults = O.faults out.old; faults_after = O.faults out.new }) }
+    ensures vault { result ≢ Err Failure.VaultFault }
 {
     let mut reader = BundleReader::new(alloc, limit)?;
     let next = match reader.next(source) {
         Ok(next) => next,
-        Err(stop) => return Err(CheckStop::from(stop)),
+        Err(stop) => return Err(stop),
     };
     match next {
         Next::Head(header) => check_frames(
@@ -113,7 +112,7 @@ fn check_frames<R: Threads + Sync, D: Digests + Sync, S: Source, O: Sink>(
     source: &mut S,
     out: &mut O,
     receipts: bool,
-) -> Result<BundleEnd, CheckStop>
+) -> Result<BundleEnd, Failure>
     requires header { IsHeader header.now }
     requires known { reader.old.progress.header ≡ Some header.now }
     requires due { IsDue reader.old.progress }
@@ -127,6 +126,7 @@ fn check_frames<R: Threads + Sync, D: Digests + Sync, S: Source, O: Sink>(
         → AnswersTo (check_answer receipts (D.functions d.now)) reading_end reader.old.limit (check_status reader.old.limit result)
         (record { left = left; left_after = S.left source.new; faults = faults; faults_after = S.faults source.new })
         (record { held = O.held out.old; held_after = O.held out.new; faults = O.faults out.old; faults_after = O.faults out.new }) }
+    ensures vault { result ≢ Err Failure.VaultFault }
 {
     let mut runs = open_runs(alloc, header)?;
     let telling = Telling::new(receipts, d, header);
@@ -149,7 +149,7 @@ fn check_frames<R: Threads + Sync, D: Digests + Sync, S: Source, O: Sink>(
         match filled {
             Filled::Whole => {}
             Filled::End => break,
-            Filled::Stopped(stop) => return Err(CheckStop::from(stop)),
+            Filled::Stopped(stop) => return Err(stop),
         }
     }
     Ok(certifier.finish(&mut runs, reader.bad(), out)?)
@@ -165,7 +165,7 @@ fn take_batch<R: Threads + Sync, D: Digests + Sync, O: Sink>(
     telling: &Telling<D>,
     summary: &mut Summary,
     out: &mut O,
-) -> Result<(), ReportStop>
+) -> Result<(), Failure>
     requires few { length runs.old ≤ 64 }
     requires room { AllByRecursion (λ fed. weight fed.run + bytes_of batch.now < 2 ^ 63) runs.old }
     requires logs { (header : Header) × (logs : List (List ℕ)) × AreChecked (D.functions d.now) header logs certifier.old runs.old }
@@ -185,7 +185,8 @@ fn take_batch<R: Threads + Sync, D: Digests + Sync, O: Sink>(
     ensures weight { (bound : ℕ) → AllByRecursion (λ fed. weight fed.run ≤ bound) runs.old
         → OnOk result (AllByRecursion (λ fed. weight fed.run ≤ bound + bytes_of batch.now) runs.new) }
     ensures len { length runs.new ≡ length runs.old }
-    ensures write_fault { result ≡ Err ReportStop.WriteFault → Rose (O.faults out.old) (O.faults out.new) }
+    ensures failure { FailsByWriting result }
+    ensures write_fault { result ≡ Err Failure.WriteFault → Rose (O.faults out.old) (O.faults out.new) }
     ensures never_falls { O.faults out.old ≤ O.faults out.new }
 {
     feed_batch(rt, d, batch, runs);
@@ -193,8 +194,8 @@ fn take_batch<R: Threads + Sync, D: Digests + Sync, O: Sink>(
 }
 
 // Writes the report of a bundle whose header is bad.
-fn write_bad_header<O: Sink>(out: &mut O) -> Result<BundleEnd, CheckStop>
-    ensures so { result ≡ Ok (BundleEnd.BadBundle 0) ⊎ result ≡ Err CheckStop.WriteFault }
+fn write_bad_header<O: Sink>(out: &mut O) -> Result<BundleEnd, Failure>
+    ensures so { result ≡ Ok (BundleEnd.BadBundle 0) ⊎ result ≡ Err Failure.WriteFault }
     ensures whole { OnOk result (Grows (O.held out.old) (O.held out.new) no_answer.text) }
     ensures front { OnErr result (GrowsByFront (O.held out.old) (O.held out.new) no_answer.text) }
     ensures write_fault { OnErr result (Rose (O.faults out.old) (O.faults out.new)) }
@@ -202,6 +203,6 @@ fn write_bad_header<O: Sink>(out: &mut O) -> Result<BundleEnd, CheckStop>
     let end = BundleEnd::BadBundle { offset: 0 };
     match write_last(&end.status(), out) {
         Ok(()) => Ok(end),
-        Err(_) => Err(CheckStop::WriteFault),
+        Err(_) => Err(Failure::WriteFault),
     }
 }

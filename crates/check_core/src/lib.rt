@@ -20,7 +20,6 @@ mod feeding;
 mod intake;
 mod judging;
 mod reading;
-mod stops;
 
 pub use batch::{BATCH_FRAMES, Batch, Filled, FrameHolder};
 pub use checking::check;
@@ -29,4 +28,3 @@ pub use feeding::{FEW_BYTES, feed_batch};
 pub use intake::Intake;
 pub use reading::read_bundle;
 pub use report_text::Status;
-pub use stops::{CheckStop, ReadStop};

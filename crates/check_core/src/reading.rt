@@ -1,5 +1,6 @@
 //! A source, read to its end or to the first bad frame, and the logs joined.
 ghost use Rattle.std.specs.Prelude.{◌≡◌, ◌≢◌, ℕ, ◌+◌, ◌^◌, ◌<◌, ◌≤◌, map, true, false, Some, IfOk, IfSome, OnOk, Ok, Err, vec_len};
+ghost use Rattle.fv_outside.specs.Failures.{FailsByReading};
 ghost use Rattle.fv_outside.specs.Faults.{Rose};
 ghost use Rattle.bundle_frames.specs.Extent.{reading_end};
 ghost use Rattle.bundle_frames.specs.Reading.{header_then};
@@ -10,23 +11,23 @@ ghost use Rattle.check_core.specs.Intake.{logs_in, logged};
 ghost use Rattle.fv_outside.specs.Consumed.{EndsBehind, StopsAtEnd, TookAtMost, TookJust, TookToEnd};
 
 use crate::intake::Intake;
-use crate::stops::ReadStop;
 use base_words::Memory;
 use bundle_frames::{BundleReader, Next};
-use fv_outside::Source;
+use fv_outside::{Failure, Source};
 use lamport_clocks::Header;
 use std::alloc::{AllocError, Global};
 
 /// Reads a bundle from a source, to its end or to the first bad frame, and no more than so many bytes.
-pub fn read_bundle<S: Source>(alloc: Global, limit: u64, source: &mut S) -> Result<Intake, ReadStop>
+pub fn read_bundle<S: Source>(alloc: Global, limit: u64, source: &mut S) -> Result<Intake, Failure>
     requires limit { limit ≤ 2 ^ 40 }
     ensures bundle { IfOk result (λ intake. IfSome (S.left source.old) (λ bytes. logged intake ≡ logged_of bytes)) }
-    ensures fault { result ≡ Err ReadStop.ReadFault → Rose (S.faults source.old) (S.faults source.new) }
-    ensures limit { result ≡ Err ReadStop.InputLimit → TookJust (limit + 1) (S.left source.old) (S.left source.new) }
-    ensures within { result ≢ Err ReadStop.InputLimit → TookAtMost limit (S.left source.old) (S.left source.new) }
+    ensures failure { FailsByReading result }
+    ensures fault { result ≡ Err Failure.ReadFault → Rose (S.faults source.old) (S.faults source.new) }
+    ensures limit { result ≡ Err Failure.InputLimit → TookJust (limit + 1) (S.left source.old) (S.left source.new) }
+    ensures within { result ≢ Err Failure.InputLimit → TookAtMost limit (S.left source.old) (S.left source.new) }
     ensures reached { OnOk result (TookToEnd reading_end (S.left source.old) (S.left source.new)) }
     ensures stops { StopsAtEnd reading_end (S.left source.old) (S.left source.new) }
-    ensures beyond { result ≡ Err ReadStop.InputLimit → EndsBehind reading_end limit (S.left source.old) }
+    ensures beyond { result ≡ Err Failure.InputLimit → EndsBehind reading_end limit (S.left source.old) }
     ensures never_falls { S.faults source.old ≤ S.faults source.new }
 {
     let mut reader = BundleReader::new(alloc, limit)?;
@@ -38,7 +39,7 @@ pub fn read_bundle<S: Source>(alloc: Global, limit: u64, source: &mut S) -> Resu
     'frames: loop {
         let next = match reader.next(source) {
             Ok(next) => next,
-            Err(stop) => return Err(ReadStop::from(stop)),
+            Err(stop) => return Err(stop),
         };
         let more = join(alloc, &mut intake, next, reader.body())?;
         if !more {

@@ -21,9 +21,9 @@ use Rattle.receipt_lines.specs.Evidence.{evidence_of}
 use Rattle.report_text.specs.declared.status.Status.{Status}
 use Rattle.report_text.specs.declared.status.Status.TheVariants as statuses
 use Rattle.report_text.specs.Answer.{Answer, Reading, Writing}
-use Rattle.check_core.specs.declared.stops.ReadStop.{ReadStop}
-use Rattle.check_core.specs.declared.stops.ReadStop.TheVariants as reads
-use Rattle.check_core.specs.Stops.{reading_stopped}
+use Rattle.fv_outside.specs.declared.failure.Failure.{Failure}
+use Rattle.fv_outside.specs.declared.failure.Failure.TheVariants as failures
+use Rattle.report_text.specs.Ending.{failure_status}
 use Rattle.fastver_top.specs.Accepting.{are_tagged, is_within, acceptance_of, acceptance_answer, evidence_answer, accept_answer, IsAnswered, IsBeforeAnswer, AnswersWhole}
 use Rattle.fastver_top.proofs.ReadLemmas.{all_taken}
 
@@ -83,10 +83,12 @@ pub answer-answered : (functions : DigestFunctions) (bytes : List ℕ) (status :
 answer-answered functions bytes status is = subst IsAnswered (sym is) (evidence-answered functions (evidence_of bytes))
 
 -- a reading that stopped is before any answer
-pub stop-before : (limit : ℕ) (stop : ReadStop) → IsBeforeAnswer (reading_stopped limit stop)
-stop-before limit reads.Memory = tt
-stop-before limit reads.ReadFault = tt
-stop-before limit reads.InputLimit = tt
+pub stop-before : (limit : ℕ) (stop : Failure) → (stop ≡ failures.VaultFault → ⊥) → (stop ≡ failures.WriteFault → ⊥) → IsBeforeAnswer (failure_status limit stop)
+stop-before limit failures.Memory vault sink = tt
+stop-before limit failures.ReadFault vault sink = tt
+stop-before limit failures.InputLimit vault sink = tt
+stop-before limit failures.VaultFault vault sink = absurd (vault refl)
+stop-before limit failures.WriteFault vault sink = absurd (sink refl)
 
 -- what is written of a receipt and a certificate comes behind what was read
 pub acceptance-not_before : (acceptance : Acceptance) → IsBeforeAnswer (acceptance_answer acceptance).status → ⊥
@@ -140,12 +142,12 @@ module _ (functions : DigestFunctions) (most : ℕ) (reading : Reading) (writing
     }
 
   -- the source was not read to its end
-  pub answers-unread : (stop : ReadStop) → writing.held_after ≡ writing.held
-      → (stop ≡ reads.ReadFault → Rose reading.faults reading.faults_after)
-      → (stop ≡ reads.InputLimit → TookJust (most + 1) reading.left reading.left_after)
-      → ((stop ≡ reads.InputLimit → ⊥) → TookAtMost most reading.left reading.left_after)
-      → AnswersWhole (accept_answer functions) most (reading_stopped most stop) reading writing
-  answers-unread reads.Memory kept fault long within = record {
+  pub answers-unread : (stop : Failure) → (stop ≡ failures.VaultFault → ⊥) → (stop ≡ failures.WriteFault → ⊥) → writing.held_after ≡ writing.held
+      → (stop ≡ failures.ReadFault → Rose reading.faults reading.faults_after)
+      → (stop ≡ failures.InputLimit → TookJust (most + 1) reading.left reading.left_after)
+      → ((stop ≡ failures.InputLimit → ⊥) → TookAtMost most reading.left reading.left_after)
+      → AnswersWhole (accept_answer functions) most (failure_status most stop) reading writing
+  answers-unread failures.Memory vault sink kept fault long within = record {
     status = λ never. absurd never;
     text = λ never. absurd never;
     front = λ is. absurd (cc);
@@ -160,7 +162,7 @@ module _ (functions : DigestFunctions) (most : ℕ) (reading : Reading) (writing
       neither : IsAnswered statuses.Memory ⊎ (statuses.Memory ≡ statuses.WriteFault) → ⊥
       neither (inl is) = is
       neither (inr is) = cc
-  answers-unread reads.ReadFault kept fault long within = record {
+  answers-unread failures.ReadFault vault sink kept fault long within = record {
     status = λ never. absurd never;
     text = λ never. absurd never;
     front = λ is. absurd (cc);
@@ -175,7 +177,9 @@ module _ (functions : DigestFunctions) (most : ℕ) (reading : Reading) (writing
       neither : IsAnswered statuses.ReadFault ⊎ (statuses.ReadFault ≡ statuses.WriteFault) → ⊥
       neither (inl is) = is
       neither (inr is) = cc
-  answers-unread reads.InputLimit kept fault long within = record {
+  answers-unread failures.VaultFault vault sink kept fault long within = absurd (vault refl)
+  answers-unread failures.WriteFault vault sink kept fault long within = absurd (sink refl)
+  answers-unread failures.InputLimit vault sink kept fault long within = record {
     status = λ never. absurd never;
     text = λ never. absurd never;
     front = λ is. absurd (cc);

@@ -11,7 +11,7 @@ use Rattle.program_words.specs.declared.words.Asked.{Asked}
 use Rattle.bundle_report.proofs.HeadlineLaws.{sha_headline, of_left}
 use Rattle.fastver_top.specs.Auditing.{sha_audit_answer}
 use Rattle.fastver_top.specs.Answers.{asked_key, AnswersFor, bundle_for, IsSoundFor}
-use Rattle.check_core.specs.declared.stops.ReadStop.TheVariants as reads
+use Rattle.fv_outside.specs.declared.failure.Failure.TheVariants as failures
 use Rattle.fastver_top.proofs.RunLemmas.{runs-memory}
 use Rattle.fastver_top.proofs.LoadLemmas.{gens-nothing}
 use Rattle.fastver_top.proofs.AcceptLemmas.{answers-unread}
@@ -48,4 +48,4 @@ answers-nothing (Gen load) most left held vault name r r' w w' v v' =
 answers-nothing (Accept key) most left held vault name r r' w w' v v' =
     answers-unread (sha_under key) most
     (record { left = left; left_after = left; faults = r; faults_after = r' }) (record { held = held; held_after = held; faults = w; faults_after = w' })
-    reads.Memory refl (λ is. absurd (cc)) (λ is. absurd (cc)) (λ _. took_none most left)
+    failures.Memory (λ is. absurd (cc)) (λ is. absurd (cc)) refl (λ is. absurd (cc)) (λ is. absurd (cc)) (λ _. took_none most left)

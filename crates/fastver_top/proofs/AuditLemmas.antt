@@ -12,14 +12,13 @@ use Rattle.record_text.specs.declared.operation.Operation.{Operation}
 use Rattle.record_text.specs.Longest.{longest_blob}
 use Rattle.report_text.specs.declared.ending.BundleEnd.{BundleEnd}
 use Rattle.report_text.specs.declared.ending.BundleEnd.TheVariants as bundles
-use Rattle.report_text.specs.Ending.{status_of}
+use Rattle.report_text.specs.Ending.{status_of, failure_status}
 use Rattle.report_text.specs.declared.status.Status.TheVariants as statuses
 use Rattle.report_text.specs.Answer.{Answer, IsEnd, Reading, Writing, AnswersTo}
 use Rattle.report_text.proofs.AnsweringLaws.{of_taken_any, took_more, answers-end, answers-memory, answers-write_fault}
 use Rattle.bundle_frames.specs.Extent.{reading_end}
-use Rattle.bundle_report.specs.declared.report_stop.ReportStop.{ReportStop}
-use Rattle.bundle_report.specs.declared.report_stop.ReportStop.TheVariants as writes
-use Rattle.bundle_report.specs.Stops.{writing_stopped}
+use Rattle.fv_outside.specs.declared.failure.Failure.{Failure}
+use Rattle.fv_outside.specs.declared.failure.Failure.TheVariants as failures
 use Rattle.log_codec.specs.declared.command.Command.{Command}
 use Rattle.log_codec.specs.Log.{Log, read_log}
 use Rattle.soundness.specs.History.{histories_of}
@@ -120,15 +119,18 @@ module _ (functions : DigestFunctions) (limit : ℕ) (reading : Reading) (writin
       within reached stops
 
   -- where its report stops
-  pub audit_stops : (stop : ReportStop) → EndsAs audit_end_status (Err stop) writing.held writing.held_after (audit_answer_by functions read)
-      → (stop ≡ writes.Memory → writing.held_after ≡ writing.held) → (stop ≡ writes.WriteFault → Rose writing.faults writing.faults_after)
-      → AnswersTo (audit_answer functions) reading_end limit (writing_stopped stop) reading writing
-  audit_stops writes.Memory told same rose =
+  pub audit_stops : (stop : Failure) → EndsAs audit_end_status (Err stop) writing.held writing.held_after (audit_answer_by functions read)
+      → (stop ≡ failures.Memory → writing.held_after ≡ writing.held) → (stop ≡ failures.WriteFault → Rose writing.faults writing.faults_after)
+      → AnswersTo (audit_answer functions) reading_end limit (failure_status limit stop) reading writing
+  audit_stops failures.Memory told same rose =
       answers-memory (audit_answer functions) reading_end limit reading writing
       (of_taken_any _ limit reading.left reading.left_after (λ bytes.
       subst (λ (held : Option (List ℕ)). GrowsByFront writing.held held []) (sym (same refl)) (GrowsByFront-none writing.held [])))
       (took_more limit reading.left reading.left_after within) stops
-  audit_stops writes.WriteFault told same rose =
+  audit_stops failures.ReadFault told same rose = absurd told
+  audit_stops failures.InputLimit told same rose = absurd told
+  audit_stops failures.VaultFault told same rose = absurd told
+  audit_stops failures.WriteFault told same rose =
       answers-write_fault (audit_answer functions) reading_end limit reading writing
       (left_answer (λ answer. GrowsByFront writing.held writing.held_after answer.text) functions reading.left read is told)
       (took_more limit reading.left reading.left_after within) stops (rose refl)

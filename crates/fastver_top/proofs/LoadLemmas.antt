@@ -12,6 +12,7 @@ use Rattle.record_text.proofs.FieldLaws.{AreBytes}
 use Rattle.program_words.specs.declared.load_words.GenWords.{GenWords}
 use Rattle.report_text.specs.declared.status.Status.TheVariants as statuses
 use Rattle.report_text.specs.Answer.{IsEnd, Writing}
+use Rattle.report_text.specs.Ending.{failure_status}
 use Rattle.script_text.specs.declared.shape.Shape.{Shape}
 use Rattle.script_text.specs.declared.task.Task.{Task}
 use Rattle.script_text.specs.declared.task.Line.{Line}
@@ -19,13 +20,13 @@ use Rattle.script_text.specs.declared.task.Line.TheVariants as said
 use Rattle.script_text.specs.Script.{phases_of}
 use Rattle.script_text.specs.Text.{IsTask, AreTasks}
 use Rattle.script_text.specs.Generator.{key_for, request_for, task_for, closes_behind, close_behind, lines_made}
-use Rattle.host_rounds.specs.declared.stops.RoundStop.{RoundStop}
-use Rattle.host_rounds.specs.declared.stops.RoundStop.TheVariants as rounds
+use Rattle.fv_outside.specs.declared.failure.Failure.{Failure}
+use Rattle.fv_outside.specs.declared.failure.Failure.TheVariants as failures
 use Rattle.verifier_threads.specs.declared.ending.RunEnd.{RunEnd}
 use Rattle.verifier_threads.specs.declared.ending.RunEnd.TheVariants as ends
 use Rattle.verifier_threads.specs.Serving.{Outputs, status_at}
 use Rattle.verifier_threads.specs.Summing.{IsCutBefore, IsCutInSummary, SumsTo}
-use Rattle.fastver_top.specs.Running.{run_stopped, settings_for, Keeping, outputs_of, IsNamedFor, IsUntouched}
+use Rattle.fastver_top.specs.Running.{settings_for, Keeping, outputs_of, IsNamedFor, IsUntouched}
 use Rattle.fastver_top.specs.Generating.{shape_for, script_for, load_for, GensTo}
 
 -- ---- what a load asks
@@ -198,14 +199,16 @@ module _ (functions : DigestFunctions) (words : GenWords) (writing : Writing) (k
       neither (inr is) = cc
 
   -- it was not served to its end
-  pub gens-stopped : (stop : RoundStop) → SumsTo functions (settings_for words.numbers) (script_for words) (load_for words.load) (Err stop) own_outputs
-      → ((stop ≡ rounds.VaultFault → ⊥) → IsNamedFor words.logs keeping.name keeping.name_after)
+  pub gens-stopped : (stop : Failure) → SumsTo functions (settings_for words.numbers) (script_for words) (load_for words.load) (Err stop) own_outputs
+      → ((stop ≡ failures.VaultFault → ⊥) → IsNamedFor words.logs keeping.name keeping.name_after)
       → IsNamedFor words.logs keeping.name keeping.name_after ⊎ IsUntouched keeping.name keeping.name_after own_outputs
-      → (stop ≡ rounds.VaultFault → Rose keeping.faults keeping.faults_after) → (stop ≡ rounds.WriteFault → Rose writing.faults writing.faults_after)
-      → GensTo functions words (run_stopped stop) writing keeping
-  gens-stopped rounds.Memory sums named first vault out = gens-memory (inr sums) first
-  gens-stopped rounds.VaultFault sums named first vault out = gens-vault_fault sums first (vault refl)
-  gens-stopped rounds.WriteFault sums named first vault out = gens-write_fault sums (named (λ is. cc)) (out refl)
+      → (stop ≡ failures.VaultFault → Rose keeping.faults keeping.faults_after) → (stop ≡ failures.WriteFault → Rose writing.faults writing.faults_after)
+      → GensTo functions words (failure_status 0 stop) writing keeping
+  gens-stopped failures.Memory sums named first vault out = gens-memory (inr sums) first
+  gens-stopped failures.ReadFault sums named first vault out = absurd sums
+  gens-stopped failures.InputLimit sums named first vault out = absurd sums
+  gens-stopped failures.VaultFault sums named first vault out = gens-vault_fault sums first (vault refl)
+  gens-stopped failures.WriteFault sums named first vault out = gens-write_fault sums (named (λ is. cc)) (out refl)
 
   -- it was
   pub gens-served : (end : RunEnd) → SumsTo functions (settings_for words.numbers) (script_for words) (load_for words.load) (Ok end) own_outputs

@@ -10,17 +10,15 @@ use Rattle.report_text.specs.declared.status.Status.{Status}
 use Rattle.report_text.specs.declared.status.Status.TheVariants as statuses
 use Rattle.report_text.specs.declared.ending.BundleEnd.TheVariants as bundles
 use Rattle.report_text.specs.Answer.{IsEnd, Reading, Writing}
-use Rattle.report_text.specs.Ending.{status_of}
+use Rattle.report_text.specs.Ending.{status_of, failure_status}
 use Rattle.report_text.specs.Status.{last_line}
-use Rattle.check_core.specs.declared.stops.ReadStop.TheVariants as reads
+use Rattle.fv_outside.specs.declared.failure.Failure.TheVariants as failures
 use Rattle.bundle_report.specs.Report.{told_by}
-use Rattle.script_text.specs.declared.fault.ScriptFault.TheVariants as faults
 use Rattle.script_text.specs.declared.task.Task.{Task}
 use Rattle.log_codec.specs.declared.command.Command.{Command}
 use Rattle.host_world.specs.declared.fault.ClockEnd.{ClockEnd}
 use Rattle.host_world.specs.declared.settings.Settings.{Settings}
-use Rattle.host_rounds.specs.declared.stops.RoundStop.{RoundStop}
-use Rattle.host_rounds.specs.declared.stops.RoundStop.TheVariants as rounds
+use Rattle.fv_outside.specs.declared.failure.Failure.{Failure}
 use Rattle.host_rounds.specs.SoFar.{lines_due, end_due}
 use Rattle.host_rounds.proofs.RoundLaws.{bundle-due, bundle-end, bundle-text}
 use Rattle.verifier_threads.specs.declared.ending.RunEnd.{RunEnd}
@@ -29,7 +27,7 @@ use Rattle.verifier_threads.specs.InRounds.{Logs}
 use Rattle.verifier_threads.specs.Serving.{Outputs, AreOfRun, IsServed, IsCutOff, IsCutByVault, IsCutAtEnd, ServesTo, end_by, status_at, texts_of}
 use Rattle.fastver_top.specs.declared.scripts.ScriptStop.{ScriptStop}
 use Rattle.fastver_top.specs.declared.scripts.ScriptStop.TheVariants as scripts
-use Rattle.fastver_top.specs.Running.{HasScript, HasBadLine, ReadsScript, script_stopped, run_stopped, settings_for, Keeping, outputs_of, EndsServed, EndsCutOff, IsDueByCheck, IsAnswerOfCheck, IsNamedFor, IsUntouched, IsBehindScript, RunsTo}
+use Rattle.fastver_top.specs.Running.{HasScript, HasBadLine, ReadsScript, script_stopped, settings_for, Keeping, outputs_of, EndsServed, EndsCutOff, IsDueByCheck, IsAnswerOfCheck, IsNamedFor, IsUntouched, IsBehindScript, RunsTo}
 
 -- ---- what a check of the vault's bytes answers
 
@@ -279,25 +277,27 @@ module _ (functions : DigestFunctions) (run : RunWords) (most : ℕ) (reading : 
   pub runs-unread : (stop : ScriptStop) → ReadsScript run.numbers.verifiers most (Err stop) reading
       → IsUntouched keeping.name keeping.name_after (outputs_of writing keeping)
       → RunsTo functions run most (script_stopped most stop) reading writing keeping
-  runs-unread (scripts.Reading reads.Memory) read untouched =
+  runs-unread (scripts.Failure failures.Memory) read untouched =
       runs-memory (read.within (λ is. cc)) (inl untouched) (inr untouched)
-  runs-unread (scripts.Reading reads.ReadFault) read untouched = runs-read_fault (read.within (λ is. cc)) (read.fault refl) untouched
-  runs-unread (scripts.Reading reads.InputLimit) read untouched = runs-limit (read.limit refl) untouched
-  runs-unread (scripts.Script faults.Memory) read untouched =
-      runs-memory (read.within (λ is. cc)) (inl untouched) (inr untouched)
-  runs-unread (scripts.Script (faults.BadScript line cause)) read untouched =
+  runs-unread (scripts.Failure failures.ReadFault) read untouched = runs-read_fault (read.within (λ is. cc)) (read.fault refl) untouched
+  runs-unread (scripts.Failure failures.InputLimit) read untouched = runs-limit (read.limit refl) untouched
+  runs-unread (scripts.Failure failures.VaultFault) read untouched = absurd (read.vault refl)
+  runs-unread (scripts.Failure failures.WriteFault) read untouched = absurd (read.sink refl)
+  runs-unread (scripts.BadScript line cause) read untouched =
       runs-bad_script line cause (read.within (λ is. cc)) (read.bad line cause refl) untouched
 
   module _ (script : List (List Task)) (read : ReadsScript run.numbers.verifiers most (Ok script) reading) where
     -- it was not served to its end
-    pub runs-stopped : (stop : RoundStop) → ServesTo run.receipts functions (settings_for run.numbers) script (Err stop) (outputs_of writing keeping)
-        → ((stop ≡ rounds.VaultFault → ⊥) → IsNamedFor run.logs keeping.name keeping.name_after)
+    pub runs-stopped : (stop : Failure) → ServesTo run.receipts functions (settings_for run.numbers) script (Err stop) (outputs_of writing keeping)
+        → ((stop ≡ failures.VaultFault → ⊥) → IsNamedFor run.logs keeping.name keeping.name_after)
         → IsNamedFor run.logs keeping.name keeping.name_after ⊎ IsUntouched keeping.name keeping.name_after (outputs_of writing keeping)
-        → (stop ≡ rounds.VaultFault → Rose keeping.faults keeping.faults_after) → (stop ≡ rounds.WriteFault → Rose writing.faults writing.faults_after)
-        → RunsTo functions run most (run_stopped stop) reading writing keeping
-    runs-stopped rounds.Memory served named first vault out = runs-memory (read.within (λ is. cc)) (inr (record { script = script; read = read.script; cut = served })) first
-    runs-stopped rounds.VaultFault served named first vault out = runs-vault_fault script read.script (read.within (λ is. cc)) served.0 served.1 first (vault refl)
-    runs-stopped rounds.WriteFault served named first vault out = runs-write_fault script read.script (read.within (λ is. cc)) served (named (λ is. cc)) (out refl)
+        → (stop ≡ failures.VaultFault → Rose keeping.faults keeping.faults_after) → (stop ≡ failures.WriteFault → Rose writing.faults writing.faults_after)
+        → RunsTo functions run most (failure_status most stop) reading writing keeping
+    runs-stopped failures.Memory served named first vault out = runs-memory (read.within (λ is. cc)) (inr (record { script = script; read = read.script; cut = served })) first
+    runs-stopped failures.ReadFault served named first vault out = absurd served
+    runs-stopped failures.InputLimit served named first vault out = absurd served
+    runs-stopped failures.VaultFault served named first vault out = runs-vault_fault script read.script (read.within (λ is. cc)) served.0 served.1 first (vault refl)
+    runs-stopped failures.WriteFault served named first vault out = runs-write_fault script read.script (read.within (λ is. cc)) served (named (λ is. cc)) (out refl)
 
     -- it was
     pub runs-served : ((rounds : List Logs) (logs : Logs) → AreOfRun functions (settings_for run.numbers) script rounds logs None

@@ -13,16 +13,15 @@ use Rattle.report_text.specs.declared.status.Status.{Status}
 use Rattle.report_text.specs.declared.status.Status.TheVariants as statuses
 use Rattle.report_text.specs.Answer.{IsEnd, Reading, Writing}
 use Rattle.report_text.specs.Status.{last_line}
-use Rattle.check_core.specs.declared.stops.ReadStop.TheVariants as reads
-use Rattle.check_core.specs.Stops.{reading_stopped}
+use Rattle.fv_outside.specs.declared.failure.Failure.TheVariants as failures
+use Rattle.report_text.specs.Ending.{failure_status}
 use Rattle.bundle_report.specs.Answer.{check_answer}
+use Rattle.script_text.specs.declared.fault.ScriptFault.{ScriptFault}
 use Rattle.script_text.specs.declared.fault.ScriptFault.TheVariants as faults
 use Rattle.script_text.specs.declared.task.Task.{Task}
 use Rattle.script_text.specs.Script.{script_of}
 use Rattle.host_world.specs.declared.settings.Settings.{Settings}
 use Rattle.host_world.specs.Settings.{shipped_cache}
-use Rattle.host_rounds.specs.declared.stops.RoundStop.{RoundStop}
-use Rattle.host_rounds.specs.declared.stops.RoundStop.TheVariants as rounds
 use Rattle.verifier_threads.specs.declared.ending.RunEnd.{RunEnd}
 use Rattle.verifier_threads.specs.Serving.{Outputs, IsServed, IsCutOff, IsCutByVault, IsCutAtEnd, status_at}
 use Rattle.fastver_top.specs.declared.scripts.ScriptStop.{ScriptStop}
@@ -30,17 +29,15 @@ use Rattle.fastver_top.specs.declared.scripts.ScriptStop.TheVariants as scripts
 
 -- ---- statuses
 
+-- why no script is read, where what was read is none or memory ran out
+abbrev pub unread_by : ScriptFault → ScriptStop
+unread_by faults.Memory = scripts.Failure failures.Memory
+unread_by (faults.BadScript line cause) = scripts.BadScript line cause
+
 -- the status of a run that reads no script
 abbrev pub script_stopped : ℕ → ScriptStop → Status
-script_stopped limit (scripts.Reading stop) = reading_stopped limit stop
-script_stopped limit (scripts.Script faults.Memory) = statuses.Memory
-script_stopped limit (scripts.Script (faults.BadScript line cause)) = statuses.BadScript line cause
-
--- the status of a run that stops while it serves
-abbrev pub run_stopped : RoundStop → Status
-run_stopped rounds.Memory = statuses.Memory
-run_stopped rounds.VaultFault = statuses.VaultFault
-run_stopped rounds.WriteFault = statuses.WriteFault
+script_stopped limit (scripts.Failure failure) = failure_status limit failure
+script_stopped limit (scripts.BadScript line cause) = statuses.BadScript line cause
 
 -- a status that comes only where no whole and good script was read
 abbrev pub IsBeforeRun : Status → Type 0
@@ -93,10 +90,12 @@ pub record HasBadLine (verifiers : ℕ) (reading : Reading) (line : ℕ) (cause 
 -- A script is read of a source that has no more than so many bytes, or there is a cause why not.
 pub record ReadsScript (verifiers most : ℕ) (result : Result (List (List Task)) ScriptStop) (reading : Reading) : Type 0 where
   pub script : IfOk result (HasScript verifiers reading)
-  pub bad : (line : ℕ) (cause : Cause) → result ≡ Err (scripts.Script (faults.BadScript line cause)) → HasBadLine verifiers reading line cause
-  pub limit : result ≡ Err (scripts.Reading reads.InputLimit) → TookJust (most + 1) reading.left reading.left_after
-  pub within : result ≢ Err (scripts.Reading reads.InputLimit) → TookAtMost most reading.left reading.left_after
-  pub fault : result ≡ Err (scripts.Reading reads.ReadFault) → Rose reading.faults reading.faults_after
+  pub bad : (line : ℕ) (cause : Cause) → result ≡ Err (scripts.BadScript line cause) → HasBadLine verifiers reading line cause
+  pub limit : result ≡ Err (scripts.Failure failures.InputLimit) → TookJust (most + 1) reading.left reading.left_after
+  pub within : result ≢ Err (scripts.Failure failures.InputLimit) → TookAtMost most reading.left reading.left_after
+  pub fault : result ≡ Err (scripts.Failure failures.ReadFault) → Rose reading.faults reading.faults_after
+  pub vault : result ≢ Err (scripts.Failure failures.VaultFault)
+  pub sink : result ≢ Err (scripts.Failure failures.WriteFault)
 
 -- ---- what is served
 

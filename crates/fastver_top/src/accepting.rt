@@ -35,7 +35,7 @@ pub fn accept_text<D: Digests, S: Source, O: Sink>(
 {
     let bytes = match read_all(alloc, limit, source) {
         Ok(bytes) => bytes,
-        Err(stop) => return stop.status(limit),
+        Err(failure) => return Status::of_failure(failure, limit),
     };
     match answer(d, &bytes, out) {
         Ok(status) => status,

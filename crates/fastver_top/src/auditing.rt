@@ -1,5 +1,6 @@
 //! An audit of a bundle: what there is to exhibit, and how its report ends.
 ghost use Rattle.std.specs.Prelude.{◌≡◌, ◌≢◌, ◌⊎◌, ◌≤◌, ◌^◌, ◌++◌, ℕ, List, map, IfOk, IfSome, OnOk, OnErr, Ok, Err};
+ghost use Rattle.fv_outside.specs.Failures.{FailsByWriting};
 ghost use Rattle.fv_outside.specs.Faults.{Counts, Rose};
 ghost use Rattle.fv_outside.specs.Written.{Grows, GrowsByFront};
 ghost use Rattle.report_text.specs.Ending.{status_of};
@@ -18,10 +19,9 @@ ghost use Rattle.fastver_top.specs.Answers.{IsAuditStatus};
 
 use crate::audit_end::AuditEnd;
 use base_words::Memory;
-use bundle_report::ReportStop;
 use check_core::{Conclusion, Intake, conclude, read_bundle};
 use collision_exhibit::{AuditEvent, exhibit_of_runs};
-use fv_outside::{Failed, Sink, Source};
+use fv_outside::{Failed, Failure, Sink, Source};
 use lamport_clocks::Header;
 use merkle_records::digests_have_32_bytes;
 use record_hash::Digests;
@@ -59,9 +59,9 @@ pub fn audit_text<D: Digests + Sync, S: Source, O: Sink>(
     match read_bundle(alloc, limit, source) {
         Ok(intake) => match audit_intake(alloc, d, &intake, out) {
             Ok(end) => end.status(),
-            Err(stop) => stop.status(),
+            Err(failure) => Status::of_failure(failure, limit),
         },
-        Err(stop) => stop.status(limit),
+        Err(failure) => Status::of_failure(failure, limit),
     }
 }
 
@@ -71,12 +71,13 @@ fn audit_intake<D: Digests, O: Sink>(
     d: &D,
     intake: &Intake,
     out: &mut O,
-) -> Result<AuditEnd, ReportStop>
+) -> Result<AuditEnd, Failure>
     ensures ends { EndsAs audit_end_status result (O.held out.old) (O.held out.new) (audit_answer_by (D.functions d.now) (logged intake.now)) }
     ensures shown { result ≡ Ok AuditEnd.Exhibit
         → exhibit_at (D.functions d.now) intake.now.header (logs_in intake.now) ≢ Exhibit.Clean }
-    ensures unwritten { result ≡ Err ReportStop.Memory → out.new ≡ out.old }
-    ensures write_fault { result ≡ Err ReportStop.WriteFault → Rose (O.faults out.old) (O.faults out.new) }
+    ensures unwritten { result ≡ Err Failure.Memory → out.new ≡ out.old }
+    ensures failure { FailsByWriting result }
+    ensures write_fault { result ≡ Err Failure.WriteFault → Rose (O.faults out.old) (O.faults out.new) }
 {
     let found = conclude::<AuditEvent, D>(alloc, d, intake)?;
     let exhibit = exhibit_of(alloc, intake.header, found.runs, found.conclusion.certified)?;
@@ -102,19 +103,15 @@ fn exhibit_of(
 }
 
 // Writes an audit that shows this.
-fn written<O: Sink>(
-    exhibit: &Exhibit,
-    found: &Conclusion,
-    out: &mut O,
-) -> Result<AuditEnd, ReportStop>
-    ensures so { result ≡ Ok (audit_end exhibit.now found.now.end) ⊎ result ≡ Err ReportStop.WriteFault }
+fn written<O: Sink>(exhibit: &Exhibit, found: &Conclusion, out: &mut O) -> Result<AuditEnd, Failure>
+    ensures so { result ≡ Ok (audit_end exhibit.now found.now.end) ⊎ result ≡ Err Failure.WriteFault }
     ensures ends { EndsAs audit_end_status result (O.held out.old) (O.held out.new)
         (audit_of exhibit.now found.now.certified (status_of found.now.end)) }
-    ensures write_fault { result ≡ Err ReportStop.WriteFault → Rose (O.faults out.old) (O.faults out.new) }
+    ensures write_fault { result ≡ Err Failure.WriteFault → Rose (O.faults out.old) (O.faults out.new) }
 {
     match write_audit(exhibit, found, out) {
         Ok(()) => Ok(AuditEnd::of(exhibit, found.end)),
-        Err(_) => Err(ReportStop::WriteFault),
+        Err(_) => Err(Failure::WriteFault),
     }
 }
 

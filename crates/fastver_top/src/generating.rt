@@ -8,9 +8,8 @@ ghost use Rattle.verifier_threads.specs.Summing.{SumsTo};
 ghost use Rattle.fastver_top.specs.Running.{IsNamedFor, IsUntouched, settings_for};
 ghost use Rattle.fastver_top.specs.Generating.{GensTo, IsGenStatus, load_for, shape_for};
 
-use crate::running::{name_vault, settings_for, status_of};
-use fv_outside::{Gate, Sink, Vault};
-use host_rounds::RoundStop;
+use crate::running::{name_vault, settings_for};
+use fv_outside::{Failure, Gate, Sink, Vault};
 use program_words::{GenWords, LoadNumbers};
 use record_hash::Digests;
 use report_text::Status;
@@ -49,7 +48,7 @@ pub fn serve_generated<
     };
     match serve(rt, alloc, d, words, &requests, gate, vault, out) {
         Ok(end) => end.status(),
-        Err(stop) => status_of(stop),
+        Err(failure) => Status::of_failure(failure, 0),
     }
 }
 
@@ -63,17 +62,17 @@ fn serve<R: Threads + Wait + Sync, D: Digests + Sync, V: Vault, O: Sink, G: Gate
     gate: &G,
     vault: &mut V,
     out: &mut O,
-) -> Result<RunEnd, RoundStop>
+) -> Result<RunEnd, Failure>
     requires numbers { AreHostNumbers words.now.numbers }
     requires tasks { AreTasks words.now.numbers.verifiers requests.now }
     requires fresh { V.fresh vault.old }
     ensures sums { SumsTo (D.functions d.now) (settings_for words.now.numbers) requests.now (load_for words.now.load) result
         (record { vault = V.held vault.old; vault_after = V.held vault.new; out = O.held out.old; out_after = O.held out.new }) }
-    ensures named { result ≢ Err RoundStop.VaultFault → IsNamedFor words.now.logs (V.name vault.old) (V.name vault.new) }
+    ensures named { result ≢ Err Failure.VaultFault → IsNamedFor words.now.logs (V.name vault.old) (V.name vault.new) }
     ensures named_first { IsNamedFor words.now.logs (V.name vault.old) (V.name vault.new) ⊎ IsUntouched (V.name vault.old) (V.name vault.new)
         (record { vault = V.held vault.old; vault_after = V.held vault.new; out = O.held out.old; out_after = O.held out.new }) }
-    ensures vault_fault { result ≡ Err RoundStop.VaultFault → Rose (V.faults vault.old) (V.faults vault.new) }
-    ensures write_fault { result ≡ Err RoundStop.WriteFault → Rose (O.faults out.old) (O.faults out.new) }
+    ensures vault_fault { result ≡ Err Failure.VaultFault → Rose (V.faults vault.old) (V.faults vault.new) }
+    ensures write_fault { result ≡ Err Failure.WriteFault → Rose (O.faults out.old) (O.faults out.new) }
 {
     let settings = settings_for(&words.numbers);
     a_header_begins_the_bundle(&settings);
@@ -82,7 +81,7 @@ fn serve<R: Threads + Wait + Sync, D: Digests + Sync, V: Vault, O: Sink, G: Gate
             let load = load_for(&words.load);
             serve_load(rt, alloc, d, &settings, requests, &load, gate, vault, out)
         }
-        Err(_) => Err(RoundStop::VaultFault),
+        Err(_) => Err(Failure::VaultFault),
     }
 }
 

@@ -2,23 +2,24 @@
 ghost use Rattle.std.specs.Prelude.{◌≡◌, ◌≢◌, ◌+◌, ◌^◌, ◌<◌, ◌≤◌, length, vec_len, IfOk, OnOk, Err};
 ghost use Rattle.std.specs.Io.KnownBytes.{Consumes, IsAtEnd};
 ghost use Rattle.fv_outside.specs.Consumed.{ReadsOn, TookAtMost, TookJust};
+ghost use Rattle.fv_outside.specs.Failures.{FailsByReading};
 ghost use Rattle.fv_outside.specs.Faults.{Counts, Rose};
 
-use check_core::ReadStop;
-use fv_outside::{Failed, Source};
+use fv_outside::{Failed, Failure, Source};
 use std::alloc::{AllocError, Global};
 
 // The most bytes that are read at a time.
 const PIECE_BYTES: usize = 65_536;
 
 /// Reads a source to its end, and no more than so many bytes.
-pub fn read_all<S: Source>(alloc: Global, limit: u64, source: &mut S) -> Result<Vec<u8>, ReadStop>
+pub fn read_all<S: Source>(alloc: Global, limit: u64, source: &mut S) -> Result<Vec<u8>, Failure>
     requires limit { limit ≤ 2 ^ 40 }
     ensures bytes { IfOk result (λ bytes. Consumes (S.left source.old) (S.left source.new) bytes.items) }
     ensures end { OnOk result (IsAtEnd (S.left source.new)) }
-    ensures fault { result ≡ Err ReadStop.ReadFault → Rose (S.faults source.old) (S.faults source.new) }
-    ensures limit { result ≡ Err ReadStop.InputLimit → TookJust (limit + 1) (S.left source.old) (S.left source.new) }
-    ensures within { result ≢ Err ReadStop.InputLimit → TookAtMost limit (S.left source.old) (S.left source.new) }
+    ensures failure { FailsByReading result }
+    ensures fault { result ≡ Err Failure.ReadFault → Rose (S.faults source.old) (S.faults source.new) }
+    ensures limit { result ≡ Err Failure.InputLimit → TookJust (limit + 1) (S.left source.old) (S.left source.new) }
+    ensures within { result ≢ Err Failure.InputLimit → TookAtMost limit (S.left source.old) (S.left source.new) }
     ensures never_falls { S.faults source.old ≤ S.faults source.new }
 {
     let mut room = new_room(alloc)?;
@@ -28,10 +29,10 @@ pub fn read_all<S: Source>(alloc: Global, limit: u64, source: &mut S) -> Result<
         let want = wanted(limit, taken);
         let count = match read_some(source, &mut room, want) {
             Ok(count) => count,
-            Err(_) => return Err(ReadStop::ReadFault),
+            Err(_) => return Err(Failure::ReadFault),
         };
         if count as u64 > limit - taken {
-            return Err(ReadStop::InputLimit);
+            return Err(Failure::InputLimit);
         }
         if count == 0 {
             break;

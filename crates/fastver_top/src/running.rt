@@ -6,12 +6,11 @@ ghost use Rattle.program_words.specs.HostWords.{AreHostNumbers};
 ghost use Rattle.script_text.specs.Text.{AreTasks};
 ghost use Rattle.verifier_threads.specs.Serving.{ServesTo};
 ghost use Rattle.fastver_top.specs.Answers.{IsRunStatus};
-ghost use Rattle.fastver_top.specs.Running.{IsBeforeRun, IsNamedFor, IsUntouched, RunsTo, run_stopped, settings_for};
+ghost use Rattle.fastver_top.specs.Running.{IsBeforeRun, IsNamedFor, IsUntouched, RunsTo, settings_for};
 
 use crate::scripts::read_script;
-use fv_outside::{Failed, Gate, Sink, Source, Vault};
+use fv_outside::{Failed, Failure, Gate, Sink, Source, Vault};
 use host_fits::scripts_ask_for_keys_in_range;
-use host_rounds::RoundStop;
 use host_world::Settings;
 use lamport_clocks::Header;
 use merkle_records::digests_have_32_bytes;
@@ -72,7 +71,7 @@ pub fn run_script<
     };
     match serve(rt, alloc, d, run, &requests, gate, vault, out) {
         Ok(end) => end.status(),
-        Err(stop) => status_of(stop),
+        Err(failure) => Status::of_failure(failure, limit),
     }
 }
 
@@ -86,17 +85,17 @@ fn serve<R: Threads + Wait + Sync, D: Digests + Sync, V: Vault, O: Sink, G: Gate
     gate: &G,
     vault: &mut V,
     out: &mut O,
-) -> Result<RunEnd, RoundStop>
+) -> Result<RunEnd, Failure>
     requires numbers { AreHostNumbers run.now.numbers }
     requires tasks { AreTasks run.now.numbers.verifiers requests.now }
     requires fresh { V.fresh vault.old }
     ensures serves { ServesTo run.now.receipts (D.functions d.now) (settings_for run.now.numbers) requests.now result
         (record { vault = V.held vault.old; vault_after = V.held vault.new; out = O.held out.old; out_after = O.held out.new }) }
-    ensures named { result ≢ Err RoundStop.VaultFault → IsNamedFor run.now.logs (V.name vault.old) (V.name vault.new) }
+    ensures named { result ≢ Err Failure.VaultFault → IsNamedFor run.now.logs (V.name vault.old) (V.name vault.new) }
     ensures named_first { IsNamedFor run.now.logs (V.name vault.old) (V.name vault.new) ⊎ IsUntouched (V.name vault.old) (V.name vault.new)
         (record { vault = V.held vault.old; vault_after = V.held vault.new; out = O.held out.old; out_after = O.held out.new }) }
-    ensures vault_fault { result ≡ Err RoundStop.VaultFault → Rose (V.faults vault.old) (V.faults vault.new) }
-    ensures write_fault { result ≡ Err RoundStop.WriteFault → Rose (O.faults out.old) (O.faults out.new) }
+    ensures vault_fault { result ≡ Err Failure.VaultFault → Rose (V.faults vault.old) (V.faults vault.new) }
+    ensures write_fault { result ≡ Err Failure.WriteFault → Rose (O.faults out.old) (O.faults out.new) }
 {
     let settings = settings_for(&run.numbers);
     a_header_begins_the_bundle(&settings);
@@ -112,7 +111,7 @@ fn serve<R: Threads + Wait + Sync, D: Digests + Sync, V: Vault, O: Sink, G: Gate
             vault,
             out,
         ),
-        Err(_) => Err(RoundStop::VaultFault),
+        Err(_) => Err(Failure::VaultFault),
     }
 }
 
@@ -144,16 +143,5 @@ pub(crate) fn settings_for(numbers: &HostNumbers) -> Settings
         ),
         shards: numbers.shards,
         hot: numbers.hot,
-    }
-}
-
-/// The status of a run that stops so.
-pub(crate) fn status_of(stop: RoundStop) -> Status
-    ensures value { result ≡ run_stopped stop }
-{
-    match stop {
-        RoundStop::Memory => Status::Memory,
-        RoundStop::VaultFault => Status::VaultFault,
-        RoundStop::WriteFault => Status::WriteFault,
     }
 }

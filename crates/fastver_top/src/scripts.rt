@@ -4,8 +4,8 @@ ghost use Rattle.script_text.specs.Text.{AreTasks};
 ghost use Rattle.fastver_top.specs.Running.{ReadsScript, script_stopped};
 
 use crate::reading::read_all;
-use check_core::ReadStop;
-use fv_outside::Source;
+use fv_outside::{Failure, Source};
+use record_text::Cause;
 use report_text::Status;
 use script_text::{Requests, ScriptFault, scripts_are_read_back};
 use std::alloc::Global;
@@ -13,10 +13,10 @@ use std::alloc::Global;
 /// Why no script is read.
 #[derive(Clone, Copy, Debug, PartialEq, Eq)]
 pub enum ScriptStop {
-    /// The source could not be read to its end.
-    Reading(ReadStop),
-    /// What was read is no script, or memory ran out.
-    Script(ScriptFault),
+    /// The source could not be read to its end, or memory ran out.
+    Failure(Failure),
+    /// This line, counted from 1, is the first outside the grammar, and this is the first test that it doesn't pass.
+    BadScript { line: u64, cause: Cause },
 }
 
 impl ScriptStop {
@@ -24,13 +24,32 @@ impl ScriptStop {
     pub fn status(&self, limit: u64) -> Status
         ensures value { result ≡ script_stopped limit self.now }
     {
-        match self {
-            ScriptStop::Reading(stop) => stop.status(limit),
-            ScriptStop::Script(ScriptFault::Memory) => Status::Memory,
-            ScriptStop::Script(ScriptFault::BadScript { line, cause }) => Status::BadScript {
-                line: *line,
-                cause: *cause,
-            },
+        match *self {
+            ScriptStop::Failure(failure) => Status::of_failure(failure, limit),
+            ScriptStop::BadScript { line, cause } => Status::BadScript { line, cause },
+        }
+    }
+}
+
+impl From<Failure> for ScriptStop {
+    ghost use Rattle.fastver_top.specs.declared.scripts.ScriptStop.TheVariants.{Failure as Stopped};
+
+    ghost from_gives = { λ failure stop. stop ≡ Stopped failure };
+
+    fn from(failure: Failure) -> ScriptStop {
+        ScriptStop::Failure(failure)
+    }
+}
+
+impl From<ScriptFault> for ScriptStop {
+    ghost use Rattle.fastver_top.specs.Running.{unread_by};
+
+    ghost from_gives = { λ fault stop. stop ≡ unread_by fault };
+
+    fn from(fault: ScriptFault) -> ScriptStop {
+        match fault {
+            ScriptFault::Memory => ScriptStop::Failure(Failure::Memory),
+            ScriptFault::BadScript { line, cause } => ScriptStop::BadScript { line, cause },
         }
     }
 }
@@ -49,12 +68,6 @@ pub fn read_script<S: Source>(
         (record { left = S.left source.old; left_after = S.left source.new; faults = S.faults source.old; faults_after = S.faults source.new }) }
 {
     scripts_are_read_back();
-    let bytes = match read_all(alloc, limit, source) {
-        Ok(bytes) => bytes,
-        Err(stop) => return Err(ScriptStop::Reading(stop)),
-    };
-    match Requests::read(alloc, &bytes, verifiers) {
-        Ok(requests) => Ok(requests),
-        Err(fault) => Err(ScriptStop::Script(fault)),
-    }
+    let bytes = read_all(alloc, limit, source)?;
+    Ok(Requests::read(alloc, &bytes, verifiers)?)
 }

@@ -1,6 +1,7 @@
 -- The words of this crate's contracts.
 pub mod Calls
 pub mod Errors
+pub mod Failures
 pub mod Faults
 pub mod FileVaultState
 pub mod SinkState

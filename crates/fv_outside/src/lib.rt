@@ -4,7 +4,7 @@
 //! Begin with the traits: `Source`, `Sink`, `Vault` (a sink with a name) and `Gate`. Each object
 //! means bytes, where it tells them, and a count of faults, so that a caller who is answered
 //! `Failed` can see that it was the object that failed. `write_all` is the loop over `Sink::write`
-//! that engines share.
+//! that engines share, and `Failure` says why a call of theirs was not carried through.
 //!
 //! The objects in memory say in their contracts what each call answers, so any run over them can be
 //! computed: `MemorySource`, `MemorySink` and `MemoryVault` fail where they are told to, and
@@ -14,6 +14,7 @@
 
 mod calls;
 mod errors;
+mod failure;
 mod file_vaults;
 mod gates;
 mod memory_sinks;
@@ -25,6 +26,7 @@ mod sure_sinks;
 
 pub use base_words::Memory;
 pub use errors::Failed;
+pub use failure::Failure;
 pub use file_vaults::FileVault;
 pub use gates::{FreeGate, Gate};
 pub use memory_sinks::{MemorySink, MemoryVault};

@@ -2,7 +2,6 @@
 pub mod RoundLaws
 pub mod BundleLaws
 mod FramingLemmas
-mod OpeningLemmas
 mod RunLemmas
 mod LendingLemmas
 mod WithPassLemmas

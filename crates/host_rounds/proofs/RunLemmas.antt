@@ -26,6 +26,7 @@ use Rattle.bundle_report.proofs.SoFarLaws.{taken-more, lines-taken, counted-with
 use Rattle.bundle_report.proofs.DueLaws.{lines-certified, lines-due}
 use Rattle.certified_epochs.specs.declared.fed_run.FedRun.{FedRun}
 use Rattle.certified_epochs.specs.Turn.{AreFed}
+use Rattle.certified_epochs.proofs.RunsLaws.{all_runs, all_feds, headers_from, weights_from}
 use Rattle.host_rounds.specs.Round.{logs_with, pieces_of}
 use Rattle.host_rounds.specs.Feeding.{AllRead}
 use Rattle.load_summary.specs.Counting.{Counted, counted_of}
@@ -65,48 +66,12 @@ runs-few so_far some = omega (arith, runs-length some.0 some.1 some.2 so_far som
 
 -- ---- what each run has
 
-all_runs : (P : Progress Operation → Type 0) (feds : List FedRun) → AllByRecursion P (map (λ fed. fed.run) feds) → AllByRecursion (λ fed. P fed.run) feds
-all_runs P [] all = tt
-all_runs P (fed ∷ feds) all = (all.0, all_runs P feds all.1)
-
-all_feds : (P : Progress Operation → Type 0) (feds : List FedRun) → AllByRecursion (λ fed. P fed.run) feds → AllByRecursion P (map (λ fed. fed.run) feds)
-all_feds P [] all = tt
-all_feds P (fed ∷ feds) all = (all.0, all_feds P feds all.1)
-
--- taking epochs out of a run leaves its header and its weight
-left_header : (first count : ℕ) (run : Progress Operation) → (left_from first count run).course.machine.header ≡ run.course.machine.header
-left_header first zero run = refl
-left_header first (suc count) run = refl
-
-left_weight : (first count : ℕ) (run : Progress Operation) → weight (left_from first count run) ≡ weight run
-left_weight first zero run = refl
-left_weight first (suc count) run = refl
-
-headers_from : (scheme : Scheme) (header : Header) (count number : ℕ) (logs : List (List ℕ))
-    → AllByRecursion (λ run. run.course.machine.header ≡ header) (runs_from scheme header count number logs)
-headers_from scheme header count number [] = tt
-headers_from scheme header count number (log ∷ logs) = (
-  left_header header.first count (fed keeps_operations scheme (opening_progress number header) log) ∙ (fed_goes_on scheme (opening_progress number header) log).header,
-  headers_from scheme header count (suc number) logs,
-)
-
 runs_headers : (functions : DigestFunctions) (header : Header) (logs : List (List ℕ)) (so_far : RunsSoFar)
     → HaveRun functions header logs so_far → AllByRecursion (λ fed. fed.run.course.machine.header ≡ header) so_far.runs
 runs_headers functions header logs so_far have =
     all_runs (λ run. run.course.machine.header ≡ header) so_far.runs
     (subst (AllByRecursion (λ run. run.course.machine.header ≡ header)) (sym have.taken.runs_are)
     (headers_from (scheme_of functions header) header so_far.judged.count 0 logs))
-
--- runs that more epochs are taken out of weigh what they did
-weights_from : (scheme : Scheme) (header : Header) (count other number bound : ℕ) (logs : List (List ℕ))
-    → AllByRecursion (λ run. weight run ≤ bound) (runs_from scheme header count number logs)
-    → AllByRecursion (λ run. weight run ≤ bound) (runs_from scheme header other number logs)
-weights_from scheme header count other number bound [] all = tt
-weights_from scheme header count other number bound (log ∷ logs) all =
-    let run = fed keeps_operations scheme (opening_progress number header) log in (
-      omega (arith, all.0, left_weight header.first count run, left_weight header.first other run),
-      weights_from scheme header count other (suc number) bound logs all.1,
-    )
 
 runs_weights : (functions : DigestFunctions) (header : Header) (logs : List (List ℕ)) (so_far now : RunsSoFar) → HaveRun functions header logs so_far
     → HaveRead (scheme_of functions header) header logs now.judged (map (λ fed. fed.run) now.runs)

@@ -3,6 +3,5 @@ pub mod Round
 pub mod Feeding
 pub mod Bundle
 pub mod SoFar
-pub mod Stops
 pub mod WithPass
 pub mod Sealing

@@ -1,5 +1,6 @@
 //! A close's round: the logs are taken, and verdicts are settled on the epochs that they may seal.
-ghost use Rattle.std.specs.Prelude.{◌≡◌, ◌≢◌, ℕ, ◌≤◌, ◌++◌, ◌∷◌, [], List, Option, true, false, length, map, OnOk, OnErr, IfOk, Err};
+ghost use Rattle.std.specs.Prelude.{◌≡◌, ℕ, ◌≤◌, ◌++◌, ◌∷◌, [], List, Option, true, false, length, map, OnOk, OnErr, IfOk, Err};
+ghost use Rattle.fv_outside.specs.Failures.{FailsByVault};
 ghost use Rattle.fv_outside.specs.Faults.{Rose};
 ghost use Rattle.fv_outside.specs.Written.{Grows, GrowsByFront};
 ghost use Rattle.lamport_clocks.specs.declared.header.Header.{Header};
@@ -14,9 +15,8 @@ use crate::framing::write_round;
 use crate::laws::rounds_make_a_bundle;
 use crate::rounds::Rounds;
 use crate::sealing::seal_round;
-use crate::stops::RoundStop;
 use epoch_gather::Verdict;
-use fv_outside::Sink;
+use fv_outside::{Failure, Sink};
 use host_log::LogBuffer;
 use record_hash::Digests;
 use std::alloc::Global;
@@ -36,7 +36,7 @@ impl Rounds {
         logs: &[LogBuffer],
         last: bool,
         vault: &mut V,
-    ) -> Result<Vec<Verdict>, RoundStop>
+    ) -> Result<Vec<Verdict>, Failure>
         requires each { length logs.now ≡ length self.old.runs }
         requires runs { HaveRunBy (D.functions d.now) self.old }
 
@@ -56,18 +56,18 @@ impl Rounds {
         // Where it stops, the vault has a front of their bundle, and at want of memory the whole. What it had before stays, in any
         // case.
         ensures grown { GrowsByFront (V.held vault.old) (V.held vault.new) (round_text logs.now) }
-        ensures whole { result ≡ Err RoundStop.Memory → Grows (V.held vault.old) (V.held vault.new) (round_text logs.now) }
+        ensures whole { result ≡ Err Failure.Memory → Grows (V.held vault.old) (V.held vault.new) (round_text logs.now) }
         ensures front { (header : Header) (before : List (List ℕ)) (rounds : List (List (List ℕ))) (held : Option (List ℕ))
             → Keeps (D.functions d.now) header before rounds self.old held (V.held vault.old)
             → OnErr result (HasFront header (logs_with before logs.now) (rounds ++ (logs.now ∷ [])) held (V.held vault.new)) }
-        ensures stop { result ≢ Err RoundStop.WriteFault }
-        ensures vault_fault { result ≡ Err RoundStop.VaultFault → Rose (V.faults vault.old) (V.faults vault.new) }
+        ensures failure { FailsByVault result }
+        ensures vault_fault { result ≡ Err Failure.VaultFault → Rose (V.faults vault.old) (V.faults vault.new) }
         ensures never_falls { V.faults vault.old ≤ V.faults vault.new }
         ensures name { V.name vault.new ≡ V.name vault.old }
     {
         rounds_make_a_bundle();
         if write_round(logs, vault).is_err() {
-            return Err(RoundStop::VaultFault);
+            return Err(Failure::VaultFault);
         }
         let runs = replace(&mut self.runs, Vec::new(alloc));
         let (runs, settled) = seal_round(rt, alloc, d, logs, last, runs, &mut self.bytes)?;

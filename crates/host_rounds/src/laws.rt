@@ -19,8 +19,3 @@ pub fn rounds_make_a_bundle()
 {
     bundles_hold_the_logs();
 }
-
-/// An epoch fits the bytes in which a header spells it.
-pub fn epochs_fit_32_bits(epoch: u32)
-    ensures below { epoch < 2 ^ 32 }
-{}

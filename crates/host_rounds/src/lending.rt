@@ -5,16 +5,16 @@ use crate::counting::bytes_with;
 use crate::framing::write_round;
 use crate::laws::rounds_make_a_bundle;
 use crate::rounds::Rounds;
-use crate::stops::RoundStop;
 use certified_epochs::FedRun;
-use fv_outside::Sink;
+use fv_outside::{Failure, Sink};
 use host_log::LogBuffer;
 use record_text::Operation;
 use std::mem;
 use verifier_run::pieces_do_not_matter;
 
 impl Rounds {
-    ghost use Rattle.std.specs.Prelude.{◌≡◌, ◌≢◌, ◌≤◌, ◌++◌, ◌∷◌, ℕ, [], List, Option, Err, length, OnOk, OnErr};
+    ghost use Rattle.std.specs.Prelude.{◌≡◌, ◌≤◌, ◌++◌, ◌∷◌, ℕ, [], List, Option, Err, length, OnOk, OnErr};
+    ghost use Rattle.fv_outside.specs.Failures.{FailsByVault};
     ghost use Rattle.fv_outside.specs.Faults.{Rose};
     ghost use Rattle.fv_outside.specs.Written.{Grows, GrowsByFront};
     ghost use Rattle.lamport_clocks.specs.declared.header.Header.{Header};
@@ -51,7 +51,7 @@ impl Rounds {
 
     /// Writes the logs of a round, one of each verifier, to the vault in frames, where the runs have already taken them. Of 2^63
     /// bytes or more in all it answers want of memory.
-    pub fn write<V: Sink>(&mut self, logs: &[LogBuffer], vault: &mut V) -> Result<(), RoundStop>
+    pub fn write<V: Sink>(&mut self, logs: &[LogBuffer], vault: &mut V) -> Result<(), Failure>
         requires few { length logs.now ≤ 64 }
 
         // Whatever runs took them, with whatever logs before. Of epochs no more are counted yet, and their lines stay what they
@@ -68,19 +68,19 @@ impl Rounds {
         // Where it stops, the vault has a front of their bundle, and at want of memory the whole. What it had before stays, in any
         // case.
         ensures grown { GrowsByFront (V.held vault.old) (V.held vault.new) (round_text logs.now) }
-        ensures whole { result ≡ Err RoundStop.Memory → Grows (V.held vault.old) (V.held vault.new) (round_text logs.now) }
+        ensures whole { result ≡ Err Failure.Memory → Grows (V.held vault.old) (V.held vault.new) (round_text logs.now) }
         ensures front { (functions : DigestFunctions) (header : Header) (before : List (List ℕ)) (rounds : List (List (List ℕ))) (held : Option (List ℕ)) (runs : List FedRun)
             → Keeps functions header before rounds (with_runs runs self.old) held (V.held vault.old) → AllRead functions logs.now runs self.old.runs
             → OnErr result (HasFront header (logs_with before logs.now) (rounds ++ (logs.now ∷ [])) held (V.held vault.new)) }
-        ensures stop { result ≢ Err RoundStop.WriteFault }
-        ensures vault_fault { result ≡ Err RoundStop.VaultFault → Rose (V.faults vault.old) (V.faults vault.new) }
+        ensures failure { FailsByVault result }
+        ensures vault_fault { result ≡ Err Failure.VaultFault → Rose (V.faults vault.old) (V.faults vault.new) }
         ensures never_falls { V.faults vault.old ≤ V.faults vault.new }
         ensures name { V.name vault.new ≡ V.name vault.old }
     {
         rounds_make_a_bundle();
         pieces_do_not_matter::<Operation>();
         if write_round(logs, vault).is_err() {
-            return Err(RoundStop::VaultFault);
+            return Err(Failure::VaultFault);
         }
         self.bytes = bytes_with(self.bytes, logs)?;
         Ok(())

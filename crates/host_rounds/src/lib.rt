@@ -12,14 +12,11 @@ mod counting;
 mod framing;
 mod laws;
 mod lending;
-mod opening;
 mod rounds;
 mod sealers;
 mod sealing;
-mod stops;
 mod with_pass;
 
 pub use counting::with_more;
-pub use laws::{epochs_fit_32_bits, rounds_make_a_bundle};
+pub use laws::rounds_make_a_bundle;
 pub use rounds::{Rounds, write_end};
-pub use stops::RoundStop;

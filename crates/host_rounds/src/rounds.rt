@@ -1,5 +1,6 @@
 //! The rounds of a host, from the header of the bundle to how its report ends.
-ghost use Rattle.std.specs.Prelude.{◌≡◌, ◌≢◌, ℕ, ◌≤◌, [], List, Option, length, map, OnOk, OnErr, IfOk, Err};
+ghost use Rattle.std.specs.Prelude.{◌≡◌, ℕ, ◌≤◌, [], List, Option, length, map, OnOk, OnErr, IfOk, Err};
+ghost use Rattle.fv_outside.specs.Failures.{FailsByVault, FailsByWriting};
 ghost use Rattle.fv_outside.specs.Faults.{Rose};
 ghost use Rattle.fv_outside.specs.Written.{Grows, GrowsByFront};
 ghost use Rattle.lamport_clocks.specs.declared.header.Header.{Header};
@@ -14,13 +15,12 @@ ghost use Rattle.certified_epochs.specs.Telling.{text_by};
 ghost use Rattle.certified_epochs.specs.Turn.{AreVerdictsOn};
 ghost use Rattle.host_rounds.specs.SoFar.{RunsSoFar, HaveRun, HaveRunSome, Keeps, AllCounted, lines_counted, lines_due, end_due};
 
-use crate::laws::{epochs_fit_32_bits, rounds_make_a_bundle};
-use crate::opening::open_runs;
-use crate::stops::RoundStop;
+use crate::laws::rounds_make_a_bundle;
+use base_words::a_number_of_32_bits_is_below;
 use bundle_frames::write_header;
-use certified_epochs::{Certifier, FedRun, Telling};
+use certified_epochs::{Certifier, FedRun, Telling, open_runs};
 use epoch_gather::Verdict;
-use fv_outside::Sink;
+use fv_outside::{Failure, Sink};
 use lamport_clocks::Header;
 use load_summary::Summary;
 use record_hash::Digests;
@@ -51,25 +51,25 @@ impl Model for Rounds {
 
 impl Rounds {
     /// Before the first round: writes the header of the bundle to the vault.
-    pub fn new<V: Sink>(alloc: Global, header: &Header, vault: &mut V) -> Result<Self, RoundStop>
+    pub fn new<V: Sink>(alloc: Global, header: &Header, vault: &mut V) -> Result<Self, Failure>
         requires header { IsHeader header.now }
         ensures keeps { (functions : DigestFunctions)
             → IfOk result (λ rounds. Keeps functions header.now (empty_logs header.now.verifiers) [] rounds (V.held vault.old) (V.held vault.new)) }
         ensures none { IfOk result (λ rounds. rounds.judged.count ≡ 0) }
         ensures runs { IfOk result (λ rounds. length rounds.runs ≡ header.now.verifiers) }
         ensures front { OnErr result (GrowsByFront (V.held vault.old) (V.held vault.new) (header_text header.now)) }
-        ensures unwritten { result ≡ Err RoundStop.Memory → vault.new ≡ vault.old }
-        ensures stop { result ≢ Err RoundStop.WriteFault }
-        ensures vault_fault { result ≡ Err RoundStop.VaultFault → Rose (V.faults vault.old) (V.faults vault.new) }
+        ensures unwritten { result ≡ Err Failure.Memory → vault.new ≡ vault.old }
+        ensures failure { FailsByVault result }
+        ensures vault_fault { result ≡ Err Failure.VaultFault → Rose (V.faults vault.old) (V.faults vault.new) }
         ensures never_falls { V.faults vault.old ≤ V.faults vault.new }
         ensures name { V.name vault.new ≡ V.name vault.old }
     {
         rounds_make_a_bundle();
-        epochs_fit_32_bits(header.first);
+        a_number_of_32_bits_is_below(header.first);
         let runs = open_runs(alloc, header)?;
         let summary = Summary::new(alloc, header.verifiers)?;
         if write_header(header, vault).is_err() {
-            return Err(RoundStop::VaultFault);
+            return Err(Failure::VaultFault);
         }
         Ok(Rounds {
             runs,
@@ -86,7 +86,7 @@ impl Rounds {
         settled: &[Verdict],
         telling: &Telling<D>,
         out: &mut O,
-    ) -> Result<(), RoundStop>
+    ) -> Result<(), Failure>
         requires runs { HaveRunSome self.old }
         requires settled { AreVerdictsOn self.old.judged (map (λ fed. fed.run) self.old.runs) settled.now }
         ensures runs { (functions : DigestFunctions) (header : Header) (logs : List (List ℕ)) → HaveRun functions header logs self.old
@@ -106,8 +106,8 @@ impl Rounds {
         ensures front { (functions : DigestFunctions) (header : Header) (logs : List (List ℕ)) (held : Option (List ℕ))
             → HaveRun functions header logs self.old → Grows held (O.held out.old) (lines_counted (text_by D.functions telling.now) functions header logs self.old)
             → OnErr result (GrowsByFront held (O.held out.new) (lines_due (text_by D.functions telling.now) functions header logs)) }
-        ensures stop { result ≢ Err RoundStop.VaultFault }
-        ensures write_fault { result ≡ Err RoundStop.WriteFault → Rose (O.faults out.old) (O.faults out.new) }
+        ensures failure { FailsByWriting result }
+        ensures write_fault { result ≡ Err Failure.WriteFault → Rose (O.faults out.old) (O.faults out.new) }
         ensures never_falls { O.faults out.old ≤ O.faults out.new }
     {
         let runs = self.runs.as_mut_slice();
@@ -137,31 +137,31 @@ impl Rounds {
         ops: u32,
         end: &Status,
         out: &mut O,
-    ) -> Result<(), RoundStop>
+    ) -> Result<(), Failure>
         ensures whole { OnOk result (Grows (O.held out.old) (O.held out.new) (summary_with_end seed ops self.now.judged.count self.now.summary.tallies end.now)) }
         ensures front { OnErr result (GrowsByFront (O.held out.old) (O.held out.new) (summary_with_end seed ops self.now.judged.count self.now.summary.tallies end.now)) }
-        ensures stop { OnErr result (result ≡ Err RoundStop.WriteFault) }
+        ensures stop { OnErr result (result ≡ Err Failure.WriteFault) }
         ensures write_fault { OnErr result (Rose (O.faults out.old) (O.faults out.new)) }
         ensures never_falls { O.faults out.old ≤ O.faults out.new }
     {
         let epochs = self.certifier.judged().count as u64;
         match self.summary.write(seed, ops, epochs, end, out) {
             Ok(()) => Ok(()),
-            Err(_) => Err(RoundStop::WriteFault),
+            Err(_) => Err(Failure::WriteFault),
         }
     }
 }
 
 /// Writes the last line of a report.
-pub fn write_end<O: Sink>(status: &Status, out: &mut O) -> Result<(), RoundStop>
+pub fn write_end<O: Sink>(status: &Status, out: &mut O) -> Result<(), Failure>
     ensures line { OnOk result (Grows (O.held out.old) (O.held out.new) (last_line status.now)) }
     ensures front { OnErr result (GrowsByFront (O.held out.old) (O.held out.new) (last_line status.now)) }
-    ensures stop { OnErr result (result ≡ Err RoundStop.WriteFault) }
+    ensures stop { OnErr result (result ≡ Err Failure.WriteFault) }
     ensures write_fault { OnErr result (Rose (O.faults out.old) (O.faults out.new)) }
     ensures never_falls { O.faults out.old ≤ O.faults out.new }
 {
     match write_last(status, out) {
         Ok(()) => Ok(()),
-        Err(_) => Err(RoundStop::WriteFault),
+        Err(_) => Err(Failure::WriteFault),
     }
 }

@@ -59,7 +59,7 @@ impl<D: Digests> Records<D> {
             Taking::Busy => return Attempt::Busy,
         };
         let before = clock.at();
-        value_fits(&request.value);
+        a_blob_has_at_most_64_bytes(&request.value);
         match plan(alloc, d, &mut content, request, hand.number, clock) {
             Ok(plan) => {
                 note::<D, Brand>(&self.board, hand, place, before, request, &content);
@@ -102,8 +102,8 @@ fn note_end<D: Digests, N: Told>(
     board.shared.load::<End<N>>(&mut hand.seat, place);
 }
 
-// A data value is one that a key may have: its type says so.
-fn value_fits(value: &Blob)
+// A data value has 64 bytes at most: its type says so.
+fn a_blob_has_at_most_64_bytes(value: &Blob)
     ensures fits { IsBlob longest_blob value.now }
 {
     let _ = value.bytes();

@@ -7,6 +7,7 @@ ghost use Rattle.report_text.specs.Status.{bad_script_words, clock_end_words, re
 use crate::digits::{push_decimal, push_text};
 use crate::lines::{LONGEST_LINE, push_stamp};
 use arrayvec::ArrayVec;
+use fv_outside::Failure;
 use lamport_clocks::Stamp;
 use multiset_sum::Sum;
 use record_text::{Cause, Refusal};
@@ -67,7 +68,21 @@ pub enum Status {
 }
 
 impl Status {
+    ghost use Rattle.report_text.specs.Ending.{failure_status};
     ghost use Rattle.report_text.specs.Status.{status_number, status_words};
+
+    /// The status of a call that fails so, where its source may give so many bytes.
+    pub fn of_failure(failure: Failure, limit: u64) -> Self
+        ensures value { result ≡ failure_status limit failure }
+    {
+        match failure {
+            Failure::Memory => Status::Memory,
+            Failure::ReadFault => Status::ReadFault,
+            Failure::InputLimit => Status::InputLimit { taken: limit },
+            Failure::VaultFault => Status::VaultFault,
+            Failure::WriteFault => Status::WriteFault,
+        }
+    }
 
     /// The text of the status, without an end of line. `Done` says how many epochs are certified.
     pub fn line(&self) -> ArrayVec<u8, LONGEST_LINE>

@@ -2,8 +2,8 @@
 ghost use Rattle.std.specs.Prelude.{◌≡◌, ◌≢◌, true};
 
 use crate::rows::{bytes_of, field, number, same, same_bytes};
-use bundle_frames::{BundleReader, FrameBuffer, Next, SourceStop};
-use fv_outside::MemorySource;
+use bundle_frames::{BundleReader, FrameBuffer, Next};
+use fv_outside::{Failure, MemorySource};
 use std::alloc::Global;
 use std::fmt::Write;
 use std::process::Abort;
@@ -40,11 +40,11 @@ fn words_of(rt: &impl Abort, alloc: Global, limit: u64, source: &mut MemorySourc
     for _ in 0..9 {
         let next = match reader.next(source) {
             Ok(next) => next,
-            Err(SourceStop::ReadFault) => {
+            Err(Failure::ReadFault) => {
                 words.push_str("fault").expect(rt, "memory");
                 return words;
             }
-            Err(SourceStop::InputLimit) => {
+            Err(Failure::InputLimit) => {
                 words.push_str("limit").expect(rt, "memory");
                 return words;
             }

@@ -20,7 +20,7 @@ use Rattle.host_world.specs.Behind.{StandsBehind, AreOfOneHost, host_of}
 use Rattle.host_serving.specs.Leading.{first_of}
 use Rattle.host_serving.proofs.FormLaws.{GoesOn}
 use Rattle.certified_epochs.specs.declared.fed_run.FedRun.{FedRun}
-use Rattle.host_rounds.specs.declared.stops.RoundStop.{RoundStop}
+use Rattle.fv_outside.specs.declared.failure.Failure.{Failure}
 use Rattle.host_rounds.specs.Feeding.{AllRead}
 use Rattle.host_rounds.specs.Round.{logs_with}
 use Rattle.host_rounds.specs.SoFar.{RunsSoFar, Keeps, HaveRun, AllCounted, lines_counted, lines_due, with_runs}
@@ -59,11 +59,11 @@ err_any (Ok value) p = tt
 err_any (Err fault) p = p
 
 -- an answer that is passed on is the one that came
-pub same-fault : {A B : Type 0} (result : Result B RoundStop) (passed came : RoundStop) {stop : RoundStop} → result ≡ Err stop → result ≡ Err passed → passed ≡ came
-    → (let one : Result A RoundStop = Err came in one ≡ Err stop)
+pub same-fault : {A B : Type 0} (result : Result B Failure) (passed came : Failure) {stop : Failure} → result ≡ Err stop → result ≡ Err passed → passed ≡ came
+    → (let one : Result A Failure = Err came in one ≡ Err stop)
 same-fault {A} {B} result passed came {stop} is was same =
     let own : stop ≡ came = (let both : passed ≡ stop = cc in sym both ∙ same) in
-    ap (λ (e : RoundStop). let r : Result A RoundStop = Err e in r) (sym own)
+    ap (λ (e : Failure). let r : Result A Failure = Err e in r) (sym own)
 
 -- ---- how many runs there are
 

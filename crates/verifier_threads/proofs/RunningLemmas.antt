@@ -22,8 +22,8 @@ use Rattle.host_serving.specs.Leading.{Leads, LeadsAs, first_of}
 use Rattle.host_serving.specs.Form.{AreInRounds}
 use Rattle.host_serving.proofs.LeadingLaws.{leads-with}
 use Rattle.host_serving.proofs.FormLaws.{GoesOn}
-use Rattle.host_rounds.specs.declared.stops.RoundStop.{RoundStop}
-use Rattle.host_rounds.specs.declared.stops.RoundStop.TheVariants as stops
+use Rattle.fv_outside.specs.declared.failure.Failure.{Failure}
+use Rattle.fv_outside.specs.declared.failure.Failure.TheVariants as failures
 use Rattle.host_rounds.specs.Round.{logs_with}
 use Rattle.host_rounds.specs.SoFar.{RunsSoFar, Keeps, lines_counted}
 use Rattle.verifier_threads.specs.declared.ending.RunEnd.{RunEnd}
@@ -138,34 +138,37 @@ module _ (receipts : Bool) (functions : DigestFunctions) (settings : Settings) (
 -- ---- where it stops
 
 -- a run that was cut off stops so, whatever the reason
-pub stops-so : (receipts : Bool) (functions : DigestFunctions) (settings : Settings) (script : List (List Task)) (stop : RoundStop) (outputs : Outputs)
-    → IsCutOff receipts functions settings script outputs → (stop ≡ stops.VaultFault → IsCutByVault receipts functions settings script outputs)
+pub stops-so : (receipts : Bool) (functions : DigestFunctions) (settings : Settings) (script : List (List Task)) (stop : Failure) (outputs : Outputs)
+    → (stop ≡ failures.ReadFault → ⊥) → (stop ≡ failures.InputLimit → ⊥)
+    → IsCutOff receipts functions settings script outputs → (stop ≡ failures.VaultFault → IsCutByVault receipts functions settings script outputs)
     → ServesTo receipts functions settings script (Err stop) outputs
-stops-so receipts functions settings script stops.Memory outputs cut by_vault = cut
-stops-so receipts functions settings script stops.VaultFault outputs cut by_vault = (cut, by_vault refl)
-stops-so receipts functions settings script stops.WriteFault outputs cut by_vault = inl cut
+stops-so receipts functions settings script failures.Memory outputs source limit cut by_vault = cut
+stops-so receipts functions settings script failures.ReadFault outputs source limit cut by_vault = absurd (source refl)
+stops-so receipts functions settings script failures.InputLimit outputs source limit cut by_vault = absurd (limit refl)
+stops-so receipts functions settings script failures.VaultFault outputs source limit cut by_vault = (cut, by_vault refl)
+stops-so receipts functions settings script failures.WriteFault outputs source limit cut by_vault = inl cut
 
 -- a run that was cut off at its end stops because the sink failed
-pub ends-so : (receipts : Bool) (functions : DigestFunctions) (settings : Settings) (script : List (List Task)) (stop : RoundStop) (outputs : Outputs)
-    → stop ≡ stops.WriteFault → IsCutAtEnd receipts functions settings script outputs → ServesTo receipts functions settings script (Err stop) outputs
+pub ends-so : (receipts : Bool) (functions : DigestFunctions) (settings : Settings) (script : List (List Task)) (stop : Failure) (outputs : Outputs)
+    → stop ≡ failures.WriteFault → IsCutAtEnd receipts functions settings script outputs → ServesTo receipts functions settings script (Err stop) outputs
 ends-so receipts functions settings script stop outputs is cut =
-    subst (λ (s : RoundStop). ServesTo receipts functions settings script (Err s) outputs) (sym is) (inr cut)
+    subst (λ (s : Failure). ServesTo receipts functions settings script (Err s) outputs) (sym is) (inr cut)
 
-pub stop-is : {A : Type 0} (result : Result A RoundStop) (stop : RoundStop) → result ≡ Err stop → result ≡ Err stops.WriteFault → stop ≡ stops.WriteFault
+pub stop-is : {A : Type 0} (result : Result A Failure) (stop : Failure) → result ≡ Err stop → result ≡ Err failures.WriteFault → stop ≡ failures.WriteFault
 stop-is result stop is fault = cc
 
 -- an error that is passed on is the one that came
-pub came-so : {A : Type 0} (passed came stop : RoundStop) → passed ≡ came → passed ≡ stop → (let one : Result A RoundStop = Err came in one ≡ Err stop)
-came-so {A} passed came stop same is = ap (λ (e : RoundStop). let r : Result A RoundStop = Err e in r) (sym same ∙ is)
+pub came-so : {A : Type 0} (passed came stop : Failure) → passed ≡ came → passed ≡ stop → (let one : Result A Failure = Err came in one ≡ Err stop)
+came-so {A} passed came stop same is = ap (λ (e : Failure). let r : Result A Failure = Err e in r) (sym same ∙ is)
 
 -- an error of one answer is that of another
-pub err-of : {A B : Type 0} (a b : RoundStop) → (let one : Result A RoundStop = Err a in one ≡ Err b) → (let one : Result B RoundStop = Err a in one ≡ Err b)
-err-of {A} {B} a b is = let same : a ≡ b = cc in ap (λ (e : RoundStop). Err e) same
+pub err-of : {A B : Type 0} (a b : Failure) → (let one : Result A Failure = Err a in one ≡ Err b) → (let one : Result B Failure = Err a in one ≡ Err b)
+err-of {A} {B} a b is = let same : a ≡ b = cc in ap (λ (e : Failure). Err e) same
 
 -- a run that came to its end ends so
-pub finishes-so : (receipts : Bool) (functions : DigestFunctions) (settings : Settings) (script : List (List Task)) (result : Result RunEnd RoundStop) (outputs : Outputs)
+pub finishes-so : (receipts : Bool) (functions : DigestFunctions) (settings : Settings) (script : List (List Task)) (result : Result RunEnd Failure) (outputs : Outputs)
     → IfOk result (λ end. IsServed receipts functions settings script end outputs) → OnErr result (IsCutAtEnd receipts functions settings script outputs)
-    → OnErr result (result ≡ Err stops.WriteFault) → ServesTo receipts functions settings script result outputs
+    → OnErr result (result ≡ Err failures.WriteFault) → ServesTo receipts functions settings script result outputs
 finishes-so receipts functions settings script (Ok end) outputs served cut stop = served
 finishes-so receipts functions settings script (Err fault) outputs served cut stop =
     ends-so receipts functions settings script fault outputs (stop-is {A = RunEnd} (Err fault) fault refl stop) cut

@@ -15,8 +15,8 @@ use Rattle.bundle_report.specs.Report.{operations_told}
 use Rattle.script_text.specs.declared.task.Task.{Task}
 use Rattle.host_world.specs.declared.fault.ClockEnd.{ClockEnd}
 use Rattle.host_world.specs.declared.settings.Settings.{Settings}
-use Rattle.host_rounds.specs.declared.stops.RoundStop.{RoundStop}
-use Rattle.host_rounds.specs.declared.stops.RoundStop.TheVariants as stops
+use Rattle.fv_outside.specs.declared.failure.Failure.{Failure}
+use Rattle.fv_outside.specs.declared.failure.Failure.TheVariants as failures
 use Rattle.host_rounds.specs.Bundle.{HasBundle}
 use Rattle.host_rounds.specs.SoFar.{RunsSoFar, HaveRun, operations_due, epochs_due, summary_due}
 use Rattle.host_rounds.proofs.RoundLaws.{counted-none}
@@ -30,36 +30,42 @@ use Rattle.verifier_threads.proofs.NothingLemmas.{NoTexts, empty-are}
 -- ---- it stops
 
 -- before anything is written
-pub stops-before : (functions : DigestFunctions) (settings : Settings) (script : List (List Task)) (load : Load) (stop : RoundStop) (outputs : Outputs)
-    → (stop ≡ stops.WriteFault → ⊥) → IsCutBefore functions settings script outputs → SumsTo functions settings script load (Err stop) outputs
-stops-before functions settings script load stops.Memory outputs other cut = cut
-stops-before functions settings script load stops.VaultFault outputs other cut = cut
-stops-before functions settings script load stops.WriteFault outputs other cut = absurd (other refl)
+pub stops-before : (functions : DigestFunctions) (settings : Settings) (script : List (List Task)) (load : Load) (stop : Failure) (outputs : Outputs)
+    → (stop ≡ failures.ReadFault → ⊥) → (stop ≡ failures.InputLimit → ⊥) → (stop ≡ failures.WriteFault → ⊥)
+    → IsCutBefore functions settings script outputs → SumsTo functions settings script load (Err stop) outputs
+stops-before functions settings script load failures.Memory outputs source limit sink cut = cut
+stops-before functions settings script load failures.ReadFault outputs source limit sink cut = absurd (source refl)
+stops-before functions settings script load failures.InputLimit outputs source limit sink cut = absurd (limit refl)
+stops-before functions settings script load failures.VaultFault outputs source limit sink cut = cut
+stops-before functions settings script load failures.WriteFault outputs source limit sink cut = absurd (sink refl)
+
+-- for want of memory
+pub memory-before : (functions : DigestFunctions) (settings : Settings) (script : List (List Task)) (load : Load) (stop : Failure) (outputs : Outputs)
+    → stop ≡ failures.Memory → IsCutBefore functions settings script outputs → SumsTo functions settings script load (Err stop) outputs
+memory-before functions settings script load stop outputs is cut =
+    subst (λ (s : Failure). SumsTo functions settings script load (Err s) outputs) (sym is) cut
 
 -- an error is not another one where no answer with it is
-pub other-stop : {A : Type 0} (a b stop : RoundStop) → a ≡ b → ((let one : Result A RoundStop = Err b in one ≡ Err stop) → ⊥) → a ≡ stop → ⊥
-other-stop {A} a b stop same other is = other (let both : b ≡ stop = sym same ∙ is in ap (λ (e : RoundStop). let r : Result A RoundStop = Err e in r) both)
+pub other-stop : {A : Type 0} (a b stop : Failure) → a ≡ b → ((let one : Result A Failure = Err b in one ≡ Err stop) → ⊥) → a ≡ stop → ⊥
+other-stop {A} a b stop same other is = other (let both : b ≡ stop = sym same ∙ is in ap (λ (e : Failure). let r : Result A Failure = Err e in r) both)
 
 -- a count of faults that stays at 0 never rose
 pub never-rose : Rose 0 0 → ⊥
 never-rose rose = elim rose [ inl less ↦ absurd (omega (arith, less)) | inr last ↦ absurd (omega (arith, last)) ]
 
-pub memory-other : (stop : RoundStop) → stop ≡ stops.Memory → stop ≡ stops.WriteFault → ⊥
-memory-other stop is fault = cc
-
 -- in the summary, because the sink failed
-pub stops-inside : (functions : DigestFunctions) (settings : Settings) (script : List (List Task)) (load : Load) (stop : RoundStop) (outputs : Outputs)
-    → stop ≡ stops.WriteFault → IsCutInSummary functions settings script load outputs → SumsTo functions settings script load (Err stop) outputs
+pub stops-inside : (functions : DigestFunctions) (settings : Settings) (script : List (List Task)) (load : Load) (stop : Failure) (outputs : Outputs)
+    → stop ≡ failures.WriteFault → IsCutInSummary functions settings script load outputs → SumsTo functions settings script load (Err stop) outputs
 stops-inside functions settings script load stop outputs is cut =
-    subst (λ (s : RoundStop). SumsTo functions settings script load (Err s) outputs) (sym is) cut
+    subst (λ (s : Failure). SumsTo functions settings script load (Err s) outputs) (sym is) cut
 
-pub write-fault : {A : Type 0} (stop : RoundStop) → (let one : Result A RoundStop = Err stop in one ≡ Err stops.WriteFault) → stop ≡ stops.WriteFault
+pub write-fault : {A : Type 0} (stop : Failure) → (let one : Result A Failure = Err stop in one ≡ Err failures.WriteFault) → stop ≡ failures.WriteFault
 write-fault stop is = cc
 
 -- a load that came to its end ends so
-pub sums-so : (functions : DigestFunctions) (settings : Settings) (script : List (List Task)) (load : Load) (result : Result RunEnd RoundStop) (outputs : Outputs)
+pub sums-so : (functions : DigestFunctions) (settings : Settings) (script : List (List Task)) (load : Load) (result : Result RunEnd Failure) (outputs : Outputs)
     → IfOk result (λ end. IsSummed functions settings script load end outputs) → OnErr result (IsCutInSummary functions settings script load outputs)
-    → OnErr result (result ≡ Err stops.WriteFault) → SumsTo functions settings script load result outputs
+    → OnErr result (result ≡ Err failures.WriteFault) → SumsTo functions settings script load result outputs
 sums-so functions settings script load (Ok end) outputs summed cut stop = summed
 sums-so functions settings script load (Err fault) outputs summed cut stop =
     stops-inside functions settings script load fault outputs (write-fault {A = RunEnd} fault stop) cut

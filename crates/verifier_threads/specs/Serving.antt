@@ -19,8 +19,8 @@ use Rattle.host_world.specs.ShippedHost.{shipped_host}
 use Rattle.host_serving.specs.Leading.{LeadsAs, CanDoNoMore}
 use Rattle.host_serving.specs.Form.{AreInRounds}
 use Rattle.host_serving.specs.Standing.{IsLowest, IsAllServed}
-use Rattle.host_rounds.specs.declared.stops.RoundStop.{RoundStop}
-use Rattle.host_rounds.specs.declared.stops.RoundStop.TheVariants as stops
+use Rattle.fv_outside.specs.declared.failure.Failure.{Failure}
+use Rattle.fv_outside.specs.declared.failure.Failure.TheVariants as failures
 use Rattle.bundle_frames.specs.Bundle.{header_text}
 use Rattle.host_rounds.specs.Round.{round_text, logs_in}
 use Rattle.host_rounds.specs.Bundle.{HasBundle, HasFront}
@@ -159,8 +159,10 @@ abbrev pub IsCutByVault : Bool → DigestFunctions → Settings → List (List T
 IsCutByVault receipts functions settings script outputs = IsCutInHeader settings outputs ⊎ IsCutInRound receipts functions settings script outputs
 
 -- What stands where a run ends, and where it stops.
-abbrev pub ServesTo : Bool → DigestFunctions → Settings → List (List Task) → Result RunEnd RoundStop → Outputs → Type 0
+abbrev pub ServesTo : Bool → DigestFunctions → Settings → List (List Task) → Result RunEnd Failure → Outputs → Type 0
 ServesTo receipts functions settings script (Ok result) outputs = IsServed receipts functions settings script result outputs
-ServesTo receipts functions settings script (Err stops.Memory) outputs = IsCutOff receipts functions settings script outputs
-ServesTo receipts functions settings script (Err stops.VaultFault) outputs = IsCutOff receipts functions settings script outputs × IsCutByVault receipts functions settings script outputs
-ServesTo receipts functions settings script (Err stops.WriteFault) outputs = IsCutOff receipts functions settings script outputs ⊎ IsCutAtEnd receipts functions settings script outputs
+ServesTo receipts functions settings script (Err failures.Memory) outputs = IsCutOff receipts functions settings script outputs
+ServesTo receipts functions settings script (Err failures.ReadFault) outputs = ⊥
+ServesTo receipts functions settings script (Err failures.InputLimit) outputs = ⊥
+ServesTo receipts functions settings script (Err failures.VaultFault) outputs = IsCutOff receipts functions settings script outputs × IsCutByVault receipts functions settings script outputs
+ServesTo receipts functions settings script (Err failures.WriteFault) outputs = IsCutOff receipts functions settings script outputs ⊎ IsCutAtEnd receipts functions settings script outputs

@@ -7,8 +7,8 @@ use Rattle.log_codec.specs.declared.command.Command.{Command}
 use Rattle.script_text.specs.declared.task.Task.{Task}
 use Rattle.host_world.specs.declared.fault.ClockEnd.{ClockEnd}
 use Rattle.host_world.specs.declared.settings.Settings.{Settings}
-use Rattle.host_rounds.specs.declared.stops.RoundStop.{RoundStop}
-use Rattle.host_rounds.specs.declared.stops.RoundStop.TheVariants as stops
+use Rattle.fv_outside.specs.declared.failure.Failure.{Failure}
+use Rattle.fv_outside.specs.declared.failure.Failure.TheVariants as failures
 use Rattle.host_rounds.specs.Bundle.{HasBundle, HasFront}
 use Rattle.host_rounds.specs.SoFar.{summary_due}
 use Rattle.verifier_threads.specs.InRounds.{Logs}
@@ -49,8 +49,10 @@ pub record IsCutBefore (functions : DigestFunctions) (settings : Settings) (scri
   pub out : outputs.out_after ≡ outputs.out
 
 -- What stands where a load ends, and where it stops.
-abbrev pub SumsTo : DigestFunctions → Settings → List (List Task) → Load → Result RunEnd RoundStop → Outputs → Type 0
+abbrev pub SumsTo : DigestFunctions → Settings → List (List Task) → Load → Result RunEnd Failure → Outputs → Type 0
 SumsTo functions settings script load (Ok result) outputs = IsSummed functions settings script load result outputs
-SumsTo functions settings script load (Err stops.Memory) outputs = IsCutBefore functions settings script outputs
-SumsTo functions settings script load (Err stops.VaultFault) outputs = IsCutBefore functions settings script outputs
-SumsTo functions settings script load (Err stops.WriteFault) outputs = IsCutInSummary functions settings script load outputs
+SumsTo functions settings script load (Err failures.Memory) outputs = IsCutBefore functions settings script outputs
+SumsTo functions settings script load (Err failures.ReadFault) outputs = ⊥
+SumsTo functions settings script load (Err failures.InputLimit) outputs = ⊥
+SumsTo functions settings script load (Err failures.VaultFault) outputs = IsCutBefore functions settings script outputs
+SumsTo functions settings script load (Err failures.WriteFault) outputs = IsCutInSummary functions settings script load outputs

@@ -13,9 +13,11 @@ ghost use Rattle.host_world.specs.Settings.{IsSettings};
 ghost use Rattle.verifier_threads.specs.Serving.{IsCutOff, ServesTo};
 ghost use Rattle.verifier_threads.specs.Summing.{IsCutBefore};
 
+use base_words::a_number_of_32_bits_is_below;
 use bundle_frames::{bytes_bound_the_frames, frames_are_read_back, headers_are_read_back};
+use fv_outside::Failure;
 use host_log::{bundles_hold_the_logs, frames_join_to_the_bytes};
-use host_rounds::{RoundStop, epochs_fit_32_bits, rounds_make_a_bundle};
+use host_rounds::rounds_make_a_bundle;
 use host_world::Settings;
 
 /// What the bundle of logs certifies is due whatever bytes follow it, and more may be due behind.
@@ -39,11 +41,11 @@ pub fn a_header_begins_the_bundle(settings: &Settings)
         → IsCutOff receipts functions settings.now script (record { vault = vault; vault_after = vault_after; out = out; out_after = out }) }
     ensures fault { (receipts : Bool) (functions : DigestFunctions) (script : List (List Task)) (vault vault_after out : Option (List ℕ))
         → GrowsByFront vault vault_after (header_text settings.now.header)
-        → ServesTo receipts functions settings.now script (Err RoundStop.VaultFault) (record { vault = vault; vault_after = vault_after; out = out; out_after = out }) }
+        → ServesTo receipts functions settings.now script (Err Failure.VaultFault) (record { vault = vault; vault_after = vault_after; out = out; out_after = out }) }
     ensures before { (functions : DigestFunctions) (script : List (List Task)) (vault vault_after out : Option (List ℕ))
         → GrowsByFront vault vault_after (header_text settings.now.header)
         → IsCutBefore functions settings.now script (record { vault = vault; vault_after = vault_after; out = out; out_after = out }) }
 {
     rounds_make_a_bundle();
-    epochs_fit_32_bits(settings.header.first);
+    a_number_of_32_bits_is_below(settings.header.first);
 }

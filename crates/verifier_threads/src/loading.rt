@@ -16,9 +16,9 @@ use crate::laws::a_header_begins_the_bundle;
 use crate::loads::Load;
 use crate::runner::Runner;
 use crate::serving::{a_script_has_a_phase, serve_phases};
-use fv_outside::{Gate, Sink, SureSink};
+use fv_outside::{Failure, Gate, Sink, SureSink};
 use host_fits::scripts_ask_for_keys_in_range;
-use host_rounds::{RoundStop, Rounds};
+use host_rounds::Rounds;
 use host_world::{ClockEnd, Settings, World, WorldFault};
 use record_hash::Digests;
 use run_reports::logs_of_no_bytes_certify_nothing;
@@ -43,13 +43,13 @@ pub fn serve_load<R: Threads + Wait + Sync, D: Digests + Sync, V: Sink, O: Sink,
     gate: &G,
     vault: &mut V,
     out: &mut O,
-) -> Result<RunEnd, RoundStop>
+) -> Result<RunEnd, Failure>
     requires settings { IsSettings settings.now }
     requires tasks { AreTasks settings.now.header.verifiers requests.now }
     ensures sums { SumsTo (D.functions d.now) settings.now requests.now load.now result
         (record { vault = V.held vault.old; vault_after = V.held vault.new; out = O.held out.old; out_after = O.held out.new }) }
-    ensures vault_fault { result ≡ Err RoundStop.VaultFault → Rose (V.faults vault.old) (V.faults vault.new) }
-    ensures write_fault { result ≡ Err RoundStop.WriteFault → Rose (O.faults out.old) (O.faults out.new) }
+    ensures vault_fault { result ≡ Err Failure.VaultFault → Rose (V.faults vault.old) (V.faults vault.new) }
+    ensures write_fault { result ≡ Err Failure.WriteFault → Rose (O.faults out.old) (O.faults out.new) }
     ensures vault_never_falls { V.faults vault.old ≤ V.faults vault.new }
     ensures never_falls { O.faults out.old ≤ O.faults out.new }
     ensures name { V.name vault.new ≡ V.name vault.old }
@@ -59,7 +59,7 @@ pub fn serve_load<R: Threads + Wait + Sync, D: Digests + Sync, V: Sink, O: Sink,
     match World::new(alloc, d, settings, requests) {
         Ok(world) => sum_up_world(rt, alloc, world, load, gate, vault, out),
         Err(WorldFault::ClockEnd(end)) => sum_up_nothing(alloc, settings, load, end, vault, out),
-        Err(WorldFault::Memory) => Err(RoundStop::Memory),
+        Err(WorldFault::Memory) => Err(Failure::Memory),
     }
 }
 
@@ -72,15 +72,15 @@ fn sum_up_world<R: Threads + Wait + Sync, D: Digests + Sync, V: Sink, O: Sink, G
     gate: &G,
     vault: &mut V,
     out: &mut O,
-) -> Result<RunEnd, RoundStop>
+) -> Result<RunEnd, Failure>
     requires setup { shown_world world ≡ set_up (host_of (D.functions (digests_of world)) world) }
     requires settings { IsSettings (settings_of world) }
     requires counters { (settings_of world).shards ≤ (settings_of world).header.end }
     requires tasks { AreTasks (settings_of world).header.verifiers (requests_of world) }
     ensures sums { SumsTo (D.functions (digests_of world.entry)) (settings_of world.entry) (requests_of world.entry) load.now result
         (record { vault = V.held vault.old; vault_after = V.held vault.new; out = O.held out.old; out_after = O.held out.new }) }
-    ensures vault_fault { result ≡ Err RoundStop.VaultFault → Rose (V.faults vault.old) (V.faults vault.new) }
-    ensures write_fault { result ≡ Err RoundStop.WriteFault → Rose (O.faults out.old) (O.faults out.new) }
+    ensures vault_fault { result ≡ Err Failure.VaultFault → Rose (V.faults vault.old) (V.faults vault.new) }
+    ensures write_fault { result ≡ Err Failure.WriteFault → Rose (O.faults out.old) (O.faults out.new) }
     ensures vault_never_falls { V.faults vault.old ≤ V.faults vault.new }
     ensures never_falls { O.faults out.old ≤ O.faults out.new }
     ensures name { V.name vault.new ≡ V.name vault.old }
@@ -103,14 +103,14 @@ fn sum_up_nothing<V: Sink, O: Sink>(
     end: ClockEnd,
     vault: &mut V,
     out: &mut O,
-) -> Result<RunEnd, RoundStop>
+) -> Result<RunEnd, Failure>
     requires settings { IsSettings settings.now }
     requires unserved { settings.now.header.end < settings.now.shards }
     requires end { end ≡ setup_end settings.now }
     ensures sums { (functions : DigestFunctions) (script : List (List Task)) → SumsTo functions settings.now script load.now result
         (record { vault = V.held vault.old; vault_after = V.held vault.new; out = O.held out.old; out_after = O.held out.new }) }
-    ensures vault_fault { result ≡ Err RoundStop.VaultFault → Rose (V.faults vault.old) (V.faults vault.new) }
-    ensures write_fault { result ≡ Err RoundStop.WriteFault → Rose (O.faults out.old) (O.faults out.new) }
+    ensures vault_fault { result ≡ Err Failure.VaultFault → Rose (V.faults vault.old) (V.faults vault.new) }
+    ensures write_fault { result ≡ Err Failure.WriteFault → Rose (O.faults out.old) (O.faults out.new) }
     ensures vault_never_falls { V.faults vault.old ≤ V.faults vault.new }
     ensures never_falls { O.faults out.old ≤ O.faults out.new }
     ensures name { V.name vault.new ≡ V.name vault.old }

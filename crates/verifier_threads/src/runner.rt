@@ -1,6 +1,7 @@
 //! A run of a script: its world, phase by phase, and what becomes of the logs.
 ghost use Rattle.std.specs.Prelude.{◌≡◌, ◌≢◌, ◌↔◌, ◌⊎◌, ◌≤◌, ◌<◌, Bool, ℕ, suc, true, false, List, [], ◌∷◌, ◌++◌, Option, None, length, map, replicate, OnOk, OnErr, IfOk, Err};
 ghost use Rattle.std.specs.List.{AllByRecursion};
+ghost use Rattle.fv_outside.specs.Failures.{FailsByOutput, FailsByVault};
 ghost use Rattle.fv_outside.specs.Faults.{Rose};
 ghost use Rattle.bundle_report.specs.Report.{told_by};
 ghost use Rattle.certified_epochs.specs.declared.fed_run.FedRun.{FedRun};
@@ -25,9 +26,9 @@ use crate::loads::Load;
 use base_words::Memory;
 use certified_epochs::Telling;
 use epoch_gather::Verdict;
-use fv_outside::{Gate, Sink};
+use fv_outside::{Failure, Gate, Sink};
 use host_log::LogBuffer;
-use host_rounds::{RoundStop, Rounds, rounds_make_a_bundle, write_end};
+use host_rounds::{Rounds, rounds_make_a_bundle, write_end};
 use host_serving::close_phase;
 use host_world::{ClockEnd, World};
 use record_hash::Digests;
@@ -60,7 +61,7 @@ impl<'a, D: Digests> Runner<'a, D> {
         alloc: Global,
         world: World<'a, D>,
         vault: &mut V,
-    ) -> Result<Self, RoundStop>
+    ) -> Result<Self, Failure>
         requires setup { shown_world world ≡ set_up (host_of (D.functions (digests_of world)) world) }
         requires settings { IsSettings (settings_of world) }
         requires counters { (settings_of world).shards ≤ (settings_of world).header.end }
@@ -75,8 +76,8 @@ impl<'a, D: Digests> Runner<'a, D> {
             (settings_of world.entry) (requests_of world.entry) (record { vault = V.held vault.old; vault_after = V.held vault.new; out = held; out_after = held })) }
         ensures header { (held : Option (List ℕ)) → OnErr result (IsCutInHeader (settings_of world.entry)
             (record { vault = V.held vault.old; vault_after = V.held vault.new; out = held; out_after = held })) }
-        ensures stop { result ≢ Err RoundStop.WriteFault }
-        ensures vault_fault { result ≡ Err RoundStop.VaultFault → Rose (V.faults vault.old) (V.faults vault.new) }
+        ensures failure { FailsByVault result }
+        ensures vault_fault { result ≡ Err Failure.VaultFault → Rose (V.faults vault.old) (V.faults vault.new) }
         ensures never_falls { V.faults vault.old ≤ V.faults vault.new }
         ensures name { V.name vault.new ≡ V.name vault.old }
     {
@@ -98,7 +99,7 @@ impl<'a, D: Digests> Runner<'a, D> {
     }
 
     /// Behind the last close: writes the last line of the report.
-    pub(crate) fn finish<O: Sink>(&mut self, out: &mut O) -> Result<RunEnd, RoundStop>
+    pub(crate) fn finish<O: Sink>(&mut self, out: &mut O) -> Result<RunEnd, Failure>
         requires runs { IsUnderWayWhole D.functions self.old }
         requires ended { IsAtEnd (host_of (D.functions (digests_of self.old.world)) self.old.world) (shown_world self.old.world) self.old.end }
         ensures served { (receipts : Bool) (outputs : Outputs) → RunsToEnd receipts D.functions self.old outputs → outputs.out_after ≡ O.held out.old
@@ -107,7 +108,7 @@ impl<'a, D: Digests> Runner<'a, D> {
         ensures cut { (receipts : Bool) (outputs : Outputs) → RunsToEnd receipts D.functions self.old outputs → outputs.out_after ≡ O.held out.old
             → OnErr result (IsCutAtEnd receipts (D.functions (digests_of self.old.world)) (settings_of self.old.world) (requests_of self.old.world)
             (record outputs { out_after = O.held out.new })) }
-        ensures stop { OnErr result (result ≡ Err RoundStop.WriteFault) }
+        ensures stop { OnErr result (result ≡ Err Failure.WriteFault) }
         ensures write_fault { OnErr result (Rose (O.faults out.old) (O.faults out.new)) }
         ensures never_falls { O.faults out.old ≤ O.faults out.new }
     {
@@ -117,7 +118,7 @@ impl<'a, D: Digests> Runner<'a, D> {
     }
 
     /// Behind the last close: writes the summary of a load, in place of the last line of a report.
-    pub(crate) fn sum_up<O: Sink>(&mut self, load: &Load, out: &mut O) -> Result<RunEnd, RoundStop>
+    pub(crate) fn sum_up<O: Sink>(&mut self, load: &Load, out: &mut O) -> Result<RunEnd, Failure>
         requires runs { IsUnderWayWhole D.functions self.old }
         requires ended { IsAtEnd (host_of (D.functions (digests_of self.old.world)) self.old.world) (shown_world self.old.world) self.old.end }
         ensures summed { (receipts : Bool) (outputs : Outputs) → RunsToEnd receipts D.functions self.old outputs
@@ -126,7 +127,7 @@ impl<'a, D: Digests> Runner<'a, D> {
         ensures cut { (receipts : Bool) (outputs : Outputs) → RunsToEnd receipts D.functions self.old outputs
             → OnErr result (IsCutInSummary (D.functions (digests_of self.old.world)) (settings_of self.old.world) (requests_of self.old.world) load.now
             (record outputs { out = O.held out.old; out_after = O.held out.new })) }
-        ensures stop { OnErr result (result ≡ Err RoundStop.WriteFault) }
+        ensures stop { OnErr result (result ≡ Err Failure.WriteFault) }
         ensures write_fault { OnErr result (Rose (O.faults out.old) (O.faults out.new)) }
         ensures never_falls { O.faults out.old ≤ O.faults out.new }
     {
@@ -166,7 +167,7 @@ impl<'a, D: Digests> Runner<'a, D> {
     }
 
     // Hands out what all workers logged, where the verifiers' runs have already taken it: it goes to the vault.
-    fn set_down<V: Sink>(&mut self, vault: &mut V) -> Result<(), RoundStop>
+    fn set_down<V: Sink>(&mut self, vault: &mut V) -> Result<(), Failure>
         requires runs { IsFedUnderWay D.functions self.old (V.held vault.old) }
         ensures runs { (receipts : Bool) (outputs : Outputs) (before : List FedRun) (past : List Logs)
             → Runs receipts D.functions (with_runs_of before self.old) past outputs → HaveReadRound D.functions before self.old
@@ -184,8 +185,8 @@ impl<'a, D: Digests> Runner<'a, D> {
             → OnErr result (IsCutInRound receipts (D.functions (digests_of self.old.world)) (settings_of self.old.world) (requests_of self.old.world)
             (record outputs { vault_after = V.held vault.new })) }
         ensures host { AreOfOneHost self.old.world self.new.world }
-        ensures stop { result ≢ Err RoundStop.WriteFault }
-        ensures vault_fault { result ≡ Err RoundStop.VaultFault → Rose (V.faults vault.old) (V.faults vault.new) }
+        ensures failure { FailsByVault result }
+        ensures vault_fault { result ≡ Err Failure.VaultFault → Rose (V.faults vault.old) (V.faults vault.new) }
         ensures never_falls { V.faults vault.old ≤ V.faults vault.new }
         ensures name { V.name vault.new ≡ V.name vault.old }
     {
@@ -206,7 +207,7 @@ impl<'a, D: Digests + Sync> Runner<'a, D> {
         receipts: bool,
         vault: &mut V,
         out: &mut O,
-    ) -> Result<(), RoundStop>
+    ) -> Result<(), Failure>
         requires runs { IsUnderWayBehind D.functions self.old (suc (shown_world self.old.world).phase) (shown_world self.old.world).phase (V.held vault.old) }
         requires served { IsAtClose (host_of (D.functions (digests_of self.old.world)) self.old.world)
             (shown_world self.old.world) self.old.end }
@@ -227,12 +228,13 @@ impl<'a, D: Digests + Sync> Runner<'a, D> {
             → OnErr result (IsCutOff receipts (D.functions (digests_of self.old.world)) (settings_of self.old.world) (requests_of self.old.world)
             (record outputs { vault_after = V.held vault.new; out_after = O.held out.new })) }
         ensures cut_round { (outputs : Outputs) → RunsBehind receipts D.functions self.old (suc (shown_world self.old.world).phase) (shown_world self.old.world).phase outputs
-            → outputs.vault_after ≡ V.held vault.old → outputs.out_after ≡ O.held out.old → result ≡ Err RoundStop.VaultFault
+            → outputs.vault_after ≡ V.held vault.old → outputs.out_after ≡ O.held out.old → result ≡ Err Failure.VaultFault
             → IsCutInRound receipts (D.functions (digests_of self.old.world)) (settings_of self.old.world) (requests_of self.old.world)
             (record outputs { vault_after = V.held vault.new; out_after = O.held out.new }) }
         ensures host { AreOfOneHost self.old.world self.new.world }
-        ensures vault_fault { result ≡ Err RoundStop.VaultFault → Rose (V.faults vault.old) (V.faults vault.new) }
-        ensures write_fault { result ≡ Err RoundStop.WriteFault → Rose (O.faults out.old) (O.faults out.new) }
+        ensures failure { FailsByOutput result }
+        ensures vault_fault { result ≡ Err Failure.VaultFault → Rose (V.faults vault.old) (V.faults vault.new) }
+        ensures write_fault { result ≡ Err Failure.WriteFault → Rose (O.faults out.old) (O.faults out.new) }
         ensures vault_never_falls { V.faults vault.old ≤ V.faults vault.new }
         ensures never_falls { O.faults out.old ≤ O.faults out.new }
         ensures name { V.name vault.new ≡ V.name vault.old }
@@ -253,7 +255,7 @@ impl<'a, D: Digests + Sync> Runner<'a, D> {
         rt: &R,
         last: bool,
         vault: &mut V,
-    ) -> Result<Vec<Verdict>, RoundStop>
+    ) -> Result<Vec<Verdict>, Failure>
         requires runs { IsUnderWay D.functions self.old (V.held vault.old) }
         ensures runs { (receipts : Bool) (outputs : Outputs) (past : List Logs) → Runs receipts D.functions self.old past outputs
             → IsBehindRounds (host_of (D.functions (digests_of self.old.world)) self.old.world) (suc (length past)) (shown_world self.old.world)
@@ -270,8 +272,8 @@ impl<'a, D: Digests + Sync> Runner<'a, D> {
             → OnErr result (IsCutInRound receipts (D.functions (digests_of self.old.world)) (settings_of self.old.world) (requests_of self.old.world)
             (record outputs { vault_after = V.held vault.new })) }
         ensures host { AreOfOneHost self.old.world self.new.world }
-        ensures stop { result ≢ Err RoundStop.WriteFault }
-        ensures vault_fault { result ≡ Err RoundStop.VaultFault → Rose (V.faults vault.old) (V.faults vault.new) }
+        ensures failure { FailsByVault result }
+        ensures vault_fault { result ≡ Err Failure.VaultFault → Rose (V.faults vault.old) (V.faults vault.new) }
         ensures never_falls { V.faults vault.old ≤ V.faults vault.new }
         ensures name { V.name vault.new ≡ V.name vault.old }
     {
@@ -290,7 +292,7 @@ impl<'a, D: Digests + Sync> Runner<'a, D> {
         rt: &R,
         gate: &G,
         vault: &mut V,
-    ) -> Result<(), RoundStop>
+    ) -> Result<(), Failure>
         requires runs { IsUnderWayBehind D.functions self.old (shown_world self.old.world).phase (shown_world self.old.world).phase (V.held vault.old) }
         requires begins { IsAtPhase (host_of (D.functions (digests_of self.old.world)) self.old.world)
             (shown_world self.old.world) self.old.end }
@@ -311,8 +313,8 @@ impl<'a, D: Digests + Sync> Runner<'a, D> {
             → OnErr result (IsCutInRound receipts (D.functions (digests_of self.old.world)) (settings_of self.old.world) (requests_of self.old.world)
             (record outputs { vault_after = V.held vault.new })) }
         ensures host { AreOfOneHost self.old.world self.new.world }
-        ensures stop { result ≢ Err RoundStop.WriteFault }
-        ensures vault_fault { result ≡ Err RoundStop.VaultFault → Rose (V.faults vault.old) (V.faults vault.new) }
+        ensures failure { FailsByVault result }
+        ensures vault_fault { result ≡ Err Failure.VaultFault → Rose (V.faults vault.old) (V.faults vault.new) }
         ensures never_falls { V.faults vault.old ≤ V.faults vault.new }
         ensures name { V.name vault.new ≡ V.name vault.old }
     {
@@ -342,7 +344,7 @@ impl<'a, D: Digests + Sync> Runner<'a, D> {
         gate: &G,
         vault: &mut V,
         out: &mut O,
-    ) -> Result<(), RoundStop>
+    ) -> Result<(), Failure>
         requires runs { IsUnderWayWith receipts D.functions self.old (shown_world self.old.world).phase (V.held vault.old) (O.held out.old) }
         requires begins { IsAtPhase (host_of (D.functions (digests_of self.old.world)) self.old.world)
             (shown_world self.old.world) self.old.end }
@@ -365,12 +367,13 @@ impl<'a, D: Digests + Sync> Runner<'a, D> {
             → OnErr result (IsCutOff receipts (D.functions (digests_of self.old.world)) (settings_of self.old.world) (requests_of self.old.world)
             (record outputs { vault_after = V.held vault.new; out_after = O.held out.new })) }
         ensures cut_round { (outputs : Outputs) → RunsBehind receipts D.functions self.old (shown_world self.old.world).phase (shown_world self.old.world).phase outputs
-            → outputs.vault_after ≡ V.held vault.old → outputs.out_after ≡ O.held out.old → result ≡ Err RoundStop.VaultFault
+            → outputs.vault_after ≡ V.held vault.old → outputs.out_after ≡ O.held out.old → result ≡ Err Failure.VaultFault
             → IsCutInRound receipts (D.functions (digests_of self.old.world)) (settings_of self.old.world) (requests_of self.old.world)
             (record outputs { vault_after = V.held vault.new; out_after = O.held out.new }) }
         ensures host { AreOfOneHost self.old.world self.new.world }
-        ensures vault_fault { result ≡ Err RoundStop.VaultFault → Rose (V.faults vault.old) (V.faults vault.new) }
-        ensures write_fault { result ≡ Err RoundStop.WriteFault → Rose (O.faults out.old) (O.faults out.new) }
+        ensures failure { FailsByOutput result }
+        ensures vault_fault { result ≡ Err Failure.VaultFault → Rose (V.faults vault.old) (V.faults vault.new) }
+        ensures write_fault { result ≡ Err Failure.WriteFault → Rose (O.faults out.old) (O.faults out.new) }
         ensures vault_never_falls { V.faults vault.old ≤ V.faults vault.new }
         ensures never_falls { O.faults out.old ≤ O.faults out.new }
         ensures name { V.name vault.new ≡ V.name vault.old }

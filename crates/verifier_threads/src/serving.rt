@@ -1,5 +1,6 @@
 //! A script that is served, from the setup to the last line of the report.
 ghost use Rattle.std.specs.Prelude.{◌≡◌, ◌≢◌, ◌↔◌, ◌⊎◌, ◌≤◌, ◌<◌, Bool, ℕ, suc, true, List, Option, None, length, OnOk, OnErr, Err};
+ghost use Rattle.fv_outside.specs.Failures.{FailsByOutput};
 ghost use Rattle.fv_outside.specs.Faults.{Rose};
 ghost use Rattle.record_hash.specs.Functions.{DigestFunctions};
 ghost use Rattle.script_text.specs.Text.{AreTasks};
@@ -14,9 +15,9 @@ ghost use Rattle.verifier_threads.specs.Running.{RunsBehind, RunsToEnd, IsUnderW
 use crate::ending::RunEnd;
 use crate::laws::a_header_begins_the_bundle;
 use crate::runner::Runner;
-use fv_outside::{Gate, Sink};
+use fv_outside::{Failure, Gate, Sink};
 use host_fits::scripts_ask_for_keys_in_range;
-use host_rounds::{RoundStop, Rounds, write_end};
+use host_rounds::{Rounds, write_end};
 use host_world::{ClockEnd, Settings, World, WorldFault};
 use record_hash::Digests;
 use run_reports::logs_of_no_bytes_certify_nothing;
@@ -42,13 +43,13 @@ pub fn serve_script<R: Threads + Wait + Sync, D: Digests + Sync, V: Sink, O: Sin
     gate: &G,
     vault: &mut V,
     out: &mut O,
-) -> Result<RunEnd, RoundStop>
+) -> Result<RunEnd, Failure>
     requires settings { IsSettings settings.now }
     requires tasks { AreTasks settings.now.header.verifiers requests.now }
     ensures serves { ServesTo receipts (D.functions d.now) settings.now requests.now result
         (record { vault = V.held vault.old; vault_after = V.held vault.new; out = O.held out.old; out_after = O.held out.new }) }
-    ensures vault_fault { result ≡ Err RoundStop.VaultFault → Rose (V.faults vault.old) (V.faults vault.new) }
-    ensures write_fault { result ≡ Err RoundStop.WriteFault → Rose (O.faults out.old) (O.faults out.new) }
+    ensures vault_fault { result ≡ Err Failure.VaultFault → Rose (V.faults vault.old) (V.faults vault.new) }
+    ensures write_fault { result ≡ Err Failure.WriteFault → Rose (O.faults out.old) (O.faults out.new) }
     ensures vault_never_falls { V.faults vault.old ≤ V.faults vault.new }
     ensures never_falls { O.faults out.old ≤ O.faults out.new }
     ensures name { V.name vault.new ≡ V.name vault.old }
@@ -58,7 +59,7 @@ pub fn serve_script<R: Threads + Wait + Sync, D: Digests + Sync, V: Sink, O: Sin
     match World::new(alloc, d, settings, requests) {
         Ok(world) => serve_world(rt, alloc, world, receipts, gate, vault, out),
         Err(WorldFault::ClockEnd(end)) => serve_nothing(alloc, settings, end, vault, out),
-        Err(WorldFault::Memory) => Err(RoundStop::Memory),
+        Err(WorldFault::Memory) => Err(Failure::Memory),
     }
 }
 
@@ -71,15 +72,15 @@ fn serve_world<R: Threads + Wait + Sync, D: Digests + Sync, V: Sink, O: Sink, G:
     gate: &G,
     vault: &mut V,
     out: &mut O,
-) -> Result<RunEnd, RoundStop>
+) -> Result<RunEnd, Failure>
     requires setup { shown_world world ≡ set_up (host_of (D.functions (digests_of world)) world) }
     requires settings { IsSettings (settings_of world) }
     requires counters { (settings_of world).shards ≤ (settings_of world).header.end }
     requires tasks { AreTasks (settings_of world).header.verifiers (requests_of world) }
     ensures serves { ServesTo receipts (D.functions (digests_of world.entry)) (settings_of world.entry) (requests_of world.entry) result
         (record { vault = V.held vault.old; vault_after = V.held vault.new; out = O.held out.old; out_after = O.held out.new }) }
-    ensures vault_fault { result ≡ Err RoundStop.VaultFault → Rose (V.faults vault.old) (V.faults vault.new) }
-    ensures write_fault { result ≡ Err RoundStop.WriteFault → Rose (O.faults out.old) (O.faults out.new) }
+    ensures vault_fault { result ≡ Err Failure.VaultFault → Rose (V.faults vault.old) (V.faults vault.new) }
+    ensures write_fault { result ≡ Err Failure.WriteFault → Rose (O.faults out.old) (O.faults out.new) }
     ensures vault_never_falls { V.faults vault.old ≤ V.faults vault.new }
     ensures never_falls { O.faults out.old ≤ O.faults out.new }
     ensures name { V.name vault.new ≡ V.name vault.old }
@@ -105,7 +106,7 @@ pub(crate) fn serve_phases<
     gate: &G,
     vault: &mut V,
     out: &mut O,
-) -> Result<(), RoundStop>
+) -> Result<(), Failure>
     requires runs { IsUnderWayWith receipts D.functions runner.old 0 (V.held vault.old) (O.held out.old) }
     requires begins { IsAtPhase (host_of (D.functions (digests_of runner.old.world)) runner.old.world)
         (shown_world runner.old.world) runner.old.end }
@@ -121,12 +122,13 @@ pub(crate) fn serve_phases<
         → OnErr result (IsCutOff receipts (D.functions (digests_of runner.old.world)) (settings_of runner.old.world) (requests_of runner.old.world)
         (record outputs { vault_after = V.held vault.new; out_after = O.held out.new })) }
     ensures cut_round { (outputs : Outputs) → RunsBehind receipts D.functions runner.old 0 0 outputs → outputs.vault_after ≡ V.held vault.old
-        → outputs.out_after ≡ O.held out.old → result ≡ Err RoundStop.VaultFault
+        → outputs.out_after ≡ O.held out.old → result ≡ Err Failure.VaultFault
         → IsCutInRound receipts (D.functions (digests_of runner.old.world)) (settings_of runner.old.world) (requests_of runner.old.world)
         (record outputs { vault_after = V.held vault.new; out_after = O.held out.new }) }
     ensures host { AreOfOneHost runner.old.world runner.new.world }
-    ensures vault_fault { result ≡ Err RoundStop.VaultFault → Rose (V.faults vault.old) (V.faults vault.new) }
-    ensures write_fault { result ≡ Err RoundStop.WriteFault → Rose (O.faults out.old) (O.faults out.new) }
+    ensures failure { FailsByOutput result }
+    ensures vault_fault { result ≡ Err Failure.VaultFault → Rose (V.faults vault.old) (V.faults vault.new) }
+    ensures write_fault { result ≡ Err Failure.WriteFault → Rose (O.faults out.old) (O.faults out.new) }
     ensures vault_never_falls { V.faults vault.old ≤ V.faults vault.new }
     ensures never_falls { O.faults out.old ≤ O.faults out.new }
     ensures name { V.name vault.new ≡ V.name vault.old }
@@ -148,14 +150,14 @@ fn serve_nothing<V: Sink, O: Sink>(
     end: ClockEnd,
     vault: &mut V,
     out: &mut O,
-) -> Result<RunEnd, RoundStop>
+) -> Result<RunEnd, Failure>
     requires settings { IsSettings settings.now }
     requires unserved { settings.now.header.end < settings.now.shards }
     requires end { end ≡ setup_end settings.now }
     ensures serves { (receipts : Bool) (functions : DigestFunctions) (script : List (List Task)) → ServesTo receipts functions settings.now script result
         (record { vault = V.held vault.old; vault_after = V.held vault.new; out = O.held out.old; out_after = O.held out.new }) }
-    ensures vault_fault { result ≡ Err RoundStop.VaultFault → Rose (V.faults vault.old) (V.faults vault.new) }
-    ensures write_fault { result ≡ Err RoundStop.WriteFault → Rose (O.faults out.old) (O.faults out.new) }
+    ensures vault_fault { result ≡ Err Failure.VaultFault → Rose (V.faults vault.old) (V.faults vault.new) }
+    ensures write_fault { result ≡ Err Failure.WriteFault → Rose (O.faults out.old) (O.faults out.new) }
     ensures vault_never_falls { V.faults vault.old ≤ V.faults vault.new }
     ensures never_falls { O.faults out.old ≤ O.faults out.new }
     ensures name { V.name vault.new ≡ V.name vault.old }

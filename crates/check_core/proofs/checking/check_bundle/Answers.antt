@@ -2,17 +2,17 @@ use Rattle.std.proofs.Common.{◌≡◌, ◌+◌, ◌-◌, ℕ, Option, None, Re
 use Rattle.std.specs.Prelude.{IsSomeAnd}
 use Rattle.lamport_clocks.specs.declared.header.Header.{Header}
 use Rattle.bundle_frames.specs.declared.coming.Next.{Next}
-use Rattle.bundle_frames.specs.declared.coming.SourceStop.{SourceStop}
-use Rattle.bundle_frames.specs.declared.coming.SourceStop.TheVariants.{ReadFault, InputLimit}
+use Rattle.fv_outside.specs.declared.failure.Failure.{Failure}
+use Rattle.fv_outside.specs.declared.failure.Failure.TheVariants.{ReadFault, InputLimit}
 use Rattle.bundle_frames.specs.Extent.{reading_end}
 use Rattle.bundle_frames.specs.Reading.{Reading, end_ahead, next_then, header_then}
 use Rattle.bundle_frames.proofs.ReadingLaws.{HasRead-then, TookAtMost-from_read, TookJust-from_read, stops_near, took_to_end}
 use Rattle.report_text.specs.Answer.{Reading as ReadBy, Writing, AnswersTo}
 use Rattle.bundle_report.specs.Logs.{empty_logs}
 use Rattle.bundle_report.specs.Answer.{check_answer}
-use Rattle.check_core.specs.declared.stops.CheckStop.{CheckStop}
-use Rattle.check_core.specs.Stops.{checking_stopped, check_status}
+use Rattle.check_core.specs.Outcomes.{check_status}
 use Rattle.check_core.proofs.StreamLemmas.{extent-more, near-more, come-more}
+use Rattle.check_core.proofs.BatchLemmas.{by_source}
 use Rattle.check_core.proofs.EndingLemmas.{ends_behind, took_first, cut_answers}
 use Rattle.check_core.proofs.HeaderLemmas.{come_none, means_header, means_none, due_none, bad_answers}
 use Rattle.check_core.proofs.checking.check_bundle.Goals as goal
@@ -22,104 +22,98 @@ no_frame : (P : Header → Type 0) (known : Option Header) → known ≡ None �
 no_frame P known none frame = subst (λ (h : Option Header). IsSomeAnd h P) none frame
 
 -- a failed read is no limit
-fault_no_limit : (r : Result Next SourceStop) (stop : SourceStop) → r ≡ Err stop → stop ≡ ReadFault → r ≡ Err InputLimit → ⊥
+fault_no_limit : (r : Result Next Failure) (stop : Failure) → r ≡ Err stop → stop ≡ ReadFault → r ≡ Err InputLimit → ⊥
 fault_no_limit r stop is fault limit = cc
 
-pub returns-in-Err : goal.returns-in-Err
-returns-in-Err g c = record {
-  answers =
-      let functions = g.D.Digests.functions c.args.d.now in
-      let limit = c.args.limit in
-      let left = g.S.Source.left c.args.source.now in
-      let left_then = g.S.Source.left c.next.new.source in
-      let faults = g.S.Source.faults c.args.source.now in
-      let old = c.in_ok-reader.reader in
-      let new = c.next.new.self in
-      let next = c.in-Err.ensures in
-      let opening = c.in_ok-reader.ensures.opening in
-      let come = come_none limit left faults old opening in
-      let same = next.same_limit ∙ ap (λ (r : Reading). r.limit) opening in
-      let read : ReadBy = record { left = left; left_after = left_then; faults = faults; faults_after = g.S.Source.faults c.next.new.source } in
-      let wrote : Writing = record {
-        held = g.O.Sink.held c.args.out.now;
-        held_after = g.O.Sink.held c.args.out.now;
-        faults = g.O.Sink.faults c.args.out.now;
-        faults_after = g.O.Sink.faults c.args.out.now;
-      } in
-      let sum : new.taken ≡ old.taken + (new.taken - old.taken) = omega (arith, next.rises) in
-      let sum' : limit + 1 ≡ old.taken + (new.limit + 1 - old.taken) = omega (arith, next.rises, next.within, same) in
-      subst (λ (stop : CheckStop). AnswersTo (check_answer c.args.receipts functions) reading_end limit (checking_stopped limit stop) read wrote) (sym c.from.ensures)
-      (cut_answers c.args.receipts functions limit left left_then faults (g.S.Source.faults c.next.new.source) new wrote c.in-Err.stop
-      (took_first limit left left left_then faults faults _ old new come next.rises same next.within next.near (Err c.in-Err.stop) c.in-Err.stop refl next.took next.limit next.full next.beyond)
-      (due_none c.args.receipts functions limit left left_then faults (g.S.Source.faults c.next.new.source) new
-      (means_none limit left faults old new opening next.rises (Err c.in-Err.stop) (λ rest. refl) next.means next.header)
-      (next.stopped.no_header ∙ next.header ∙ ap (λ (r : Reading). r.progress.header) opening) wrote refl)
-      (λ is. next.fault (ap Err is))
-      (λ is. TookAtMost-from_read new.taken limit _ _ (HasRead-then _ _ _ _ _ _ come.having_read (next.took (fault_no_limit (Err c.in-Err.stop) c.in-Err.stop refl is)) sum) (omega (arith, next.within, same)))
-      (λ is. TookJust-from_read (limit + 1) _ _ (HasRead-then _ _ _ _ _ _ come.having_read (next.limit (ap Err is)) sum'))
-      (λ is. ends_behind limit left left left_then faults faults _ old new come next.rises same next.within next.near (next.beyond (ap Err is))));
-}
+pub returns-in-Err-clause-answers : goal.returns-in-Err-clause-answers
+returns-in-Err-clause-answers g c =
+    let functions = g.D.Digests.functions c.args.d.now in
+    let limit = c.args.limit in
+    let left = g.S.Source.left c.args.source.now in
+    let left_then = g.S.Source.left c.next.new.source in
+    let faults = g.S.Source.faults c.args.source.now in
+    let old = c.in_ok-reader.reader in
+    let new = c.next.new.self in
+    let next = c.in-Err.ensures in
+    let opening = c.in_ok-reader.ensures.opening in
+    let come = come_none limit left faults old opening in
+    let same = next.same_limit ∙ ap (λ (r : Reading). r.limit) opening in
+    let read : ReadBy = record { left = left; left_after = left_then; faults = faults; faults_after = g.S.Source.faults c.next.new.source } in
+    let wrote : Writing = record {
+      held = g.O.Sink.held c.args.out.now;
+      held_after = g.O.Sink.held c.args.out.now;
+      faults = g.O.Sink.faults c.args.out.now;
+      faults_after = g.O.Sink.faults c.args.out.now;
+    } in
+    let sum : new.taken ≡ old.taken + (new.taken - old.taken) = omega (arith, next.rises) in
+    let sum' : limit + 1 ≡ old.taken + (new.limit + 1 - old.taken) = omega (arith, next.rises, next.within, same) in
+    cut_answers c.args.receipts functions limit left left_then faults (g.S.Source.faults c.next.new.source) new wrote c.in-Err.stop
+    (took_first limit left left left_then faults faults _ old new come next.rises same next.within next.near (Err c.in-Err.stop) c.in-Err.stop refl next.took next.limit next.full next.beyond)
+    (due_none c.args.receipts functions limit left left_then faults (g.S.Source.faults c.next.new.source) new
+    (means_none limit left faults old new opening next.rises (Err c.in-Err.stop) (λ rest. refl) next.means next.header)
+    (next.stopped.no_header ∙ next.header ∙ ap (λ (r : Reading). r.progress.header) opening) wrote refl)
+    (λ is. next.fault (ap Err is))
+    (λ is. TookAtMost-from_read new.taken limit _ _ (HasRead-then _ _ _ _ _ _ come.having_read (next.took (fault_no_limit (Err c.in-Err.stop) c.in-Err.stop refl is)) sum) (omega (arith, next.within, same)))
+    (λ is. TookJust-from_read (limit + 1) _ _ (HasRead-then _ _ _ _ _ _ come.having_read (next.limit (ap Err is)) sum'))
+    (λ is. ends_behind limit left left left_then faults faults _ old new come next.rises same next.within next.near (next.beyond (ap Err is)))
+    (by_source c.in-Err.stop next.failure)
 
-pub returns-in-Head : goal.returns-in-Head
-returns-in-Head g c = record {
-  answers =
-      let functions = g.D.Digests.functions c.args.d.now in
-      let limit = c.args.limit in
-      let left = g.S.Source.left c.args.source.now in
-      let faults = g.S.Source.faults c.args.source.now in
-      let old = c.in_ok-reader.reader in
-      let new = c.next.new.self in
-      let next = c.in-Ok.ensures in
-      let opening = c.in_ok-reader.ensures.opening in
-      let come = come_none limit left faults old opening in
-      let same = next.same_limit ∙ ap (λ (r : Reading). r.limit) opening in
-      let read : ReadBy = record { left = left; left_after = g.S.Source.left c.check_frames.new.source; faults = faults; faults_after = g.S.Source.faults c.check_frames.new.source } in
-      let wrote : Writing = record {
-        held = g.O.Sink.held c.args.out.now;
-        held_after = g.O.Sink.held c.check_frames.new.out;
-        faults = g.O.Sink.faults c.args.out.now;
-        faults_after = g.O.Sink.faults c.check_frames.new.out;
-      } in
-      subst (λ (most : ℕ). AnswersTo (check_answer c.args.receipts functions) reading_end most (check_status most c.check_frames.result) read wrote) same
-      (c.check_frames.ensures.answers left faults
-      (come-more left left faults faults _ old new come next.rises (empty_logs c.in-Head.header.verifiers) _ _
-      (next.took (λ is. true≢false (ap is_ok is)))
-      (means_header limit left faults old new opening next.rises c.in-Ok.next c.in-Head.header c.in-Head.is next.means next.header (λ verifier is. next.frame verifier (ap Ok is)))
-      next.extent next.near next.never_falls));
-}
+pub returns-in-Head-clause-answers : goal.returns-in-Head-clause-answers
+returns-in-Head-clause-answers g c =
+    let functions = g.D.Digests.functions c.args.d.now in
+    let limit = c.args.limit in
+    let left = g.S.Source.left c.args.source.now in
+    let faults = g.S.Source.faults c.args.source.now in
+    let old = c.in_ok-reader.reader in
+    let new = c.next.new.self in
+    let next = c.in-Ok.ensures in
+    let opening = c.in_ok-reader.ensures.opening in
+    let come = come_none limit left faults old opening in
+    let same = next.same_limit ∙ ap (λ (r : Reading). r.limit) opening in
+    let read : ReadBy = record { left = left; left_after = g.S.Source.left c.check_frames.new.source; faults = faults; faults_after = g.S.Source.faults c.check_frames.new.source } in
+    let wrote : Writing = record {
+      held = g.O.Sink.held c.args.out.now;
+      held_after = g.O.Sink.held c.check_frames.new.out;
+      faults = g.O.Sink.faults c.args.out.now;
+      faults_after = g.O.Sink.faults c.check_frames.new.out;
+    } in
+    subst (λ (most : ℕ). AnswersTo (check_answer c.args.receipts functions) reading_end most (check_status most c.check_frames.result) read wrote) same
+    (c.check_frames.ensures.answers left faults
+    (come-more left left faults faults _ old new come next.rises (empty_logs c.in-Head.header.verifiers) _ _
+    (next.took (λ is. true≢false (ap is_ok is)))
+    (means_header limit left faults old new opening next.rises c.in-Ok.next c.in-Head.header c.in-Head.is next.means next.header (λ verifier is. next.frame verifier (ap Ok is)))
+    next.extent next.near next.never_falls))
 
 pub returns-in-Frame : goal.returns-in-Frame
 returns-in-Frame g c = absurd (no_frame _ _ (ap (λ (r : Reading). r.progress.header) c.in_ok-reader.ensures.opening) (c.in-Ok.ensures.frame _ (ap Ok c.in-Frame.is)))
 
-pub returns : goal.returns
-returns g c = record {
-  answers =
-      let functions = g.D.Digests.functions c.args.d.now in
-      let limit = c.args.limit in
-      let left = g.S.Source.left c.args.source.now in
-      let left_then = g.S.Source.left c.next.new.source in
-      let faults = g.S.Source.faults c.args.source.now in
-      let old = c.in_ok-reader.reader in
-      let new = c.next.new.self in
-      let next = c.in-Ok.ensures in
-      let opening = c.in_ok-reader.ensures.opening in
-      let come = come_none limit left faults old opening in
-      let same = next.same_limit ∙ ap (λ (r : Reading). r.limit) opening in
-      let sum : new.taken ≡ old.taken + (new.taken - old.taken) = omega (arith, next.rises) in
-      let having_read = HasRead-then _ _ _ _ _ _ come.having_read (next.took (λ is. true≢false (ap is_ok is))) sum in
-      let known = next.header ∙ ap (λ (n : Next). header_then (Ok n) old.progress.header) c.in-End.is in
-      let ends = ap Ok c.in-End.is in
-      let wrote : Writing = record {
-        held = g.O.Sink.held c.args.out.now;
-        held_after = g.O.Sink.held c.write_bad_header-in-End.new.out;
-        faults = g.O.Sink.faults c.args.out.now;
-        faults_after = g.O.Sink.faults c.write_bad_header-in-End.new.out;
-      } in
-      bad_answers c.args.receipts functions limit left left_then faults (g.S.Source.faults c.next.new.source) new
-      (means_none limit left faults old new opening next.rises (Ok c.in-Ok.next) (λ rest. ap (λ (n : Next). next_then (Ok n) new.progress.body rest) c.in-End.is) next.means known)
-      ((next.ended ends).no_header ∙ known ∙ ap (λ (r : Reading). r.progress.header) opening) wrote
-      c.write_bad_header-in-End.result c.write_bad_header-in-End.ensures.so c.write_bad_header-in-End.ensures.whole c.write_bad_header-in-End.ensures.front
-      c.write_bad_header-in-End.ensures.write_fault having_read (omega (arith, next.within, same)) (next.end ends)
-      (took_to_end new.taken left left_then reading_end (end_ahead new) having_read (extent-more left left faults faults _ old new come next.rises next.extent) (next.reached ends))
-      (stops_near _ _ _ reading_end having_read (near-more left left faults faults _ old new come next.rises next.near));
-}
+pub returns-clause-answers : goal.returns-clause-answers
+returns-clause-answers g c =
+    let functions = g.D.Digests.functions c.args.d.now in
+    let limit = c.args.limit in
+    let left = g.S.Source.left c.args.source.now in
+    let left_then = g.S.Source.left c.next.new.source in
+    let faults = g.S.Source.faults c.args.source.now in
+    let old = c.in_ok-reader.reader in
+    let new = c.next.new.self in
+    let next = c.in-Ok.ensures in
+    let opening = c.in_ok-reader.ensures.opening in
+    let come = come_none limit left faults old opening in
+    let same = next.same_limit ∙ ap (λ (r : Reading). r.limit) opening in
+    let sum : new.taken ≡ old.taken + (new.taken - old.taken) = omega (arith, next.rises) in
+    let having_read = HasRead-then _ _ _ _ _ _ come.having_read (next.took (λ is. true≢false (ap is_ok is))) sum in
+    let known = next.header ∙ ap (λ (n : Next). header_then (Ok n) old.progress.header) c.in-End.is in
+    let ends = ap Ok c.in-End.is in
+    let wrote : Writing = record {
+      held = g.O.Sink.held c.args.out.now;
+      held_after = g.O.Sink.held c.write_bad_header-in-End.new.out;
+      faults = g.O.Sink.faults c.args.out.now;
+      faults_after = g.O.Sink.faults c.write_bad_header-in-End.new.out;
+    } in
+    bad_answers c.args.receipts functions limit left left_then faults (g.S.Source.faults c.next.new.source) new
+    (means_none limit left faults old new opening next.rises (Ok c.in-Ok.next) (λ rest. ap (λ (n : Next). next_then (Ok n) new.progress.body rest) c.in-End.is) next.means known)
+    ((next.ended ends).no_header ∙ known ∙ ap (λ (r : Reading). r.progress.header) opening) wrote
+    c.write_bad_header-in-End.result c.write_bad_header-in-End.ensures.so c.write_bad_header-in-End.ensures.whole c.write_bad_header-in-End.ensures.front
+    c.write_bad_header-in-End.ensures.write_fault having_read (omega (arith, next.within, same)) (next.end ends)
+    (took_to_end new.taken left left_then reading_end (end_ahead new) having_read (extent-more left left faults faults _ old new come next.rises next.extent) (next.reached ends))
+    (stops_near _ _ _ reading_end having_read (near-more left left faults faults _ old new come next.rises next.near))

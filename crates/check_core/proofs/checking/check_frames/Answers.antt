@@ -7,8 +7,8 @@ use Rattle.fv_outside.specs.Written.{Grows, GrowsByFront}
 use Rattle.fv_outside.proofs.WrittenLaws.{Grows-nil, Grows-then, GrowsByFront-none, GrowsByFront-then}
 use Rattle.record_hash.specs.Functions.{DigestFunctions}
 use Rattle.merkle_records.specs.Scheme.{scheme_of}
-use Rattle.bundle_frames.specs.declared.coming.SourceStop.{SourceStop}
-use Rattle.bundle_frames.specs.declared.coming.SourceStop.TheVariants.{ReadFault, InputLimit}
+use Rattle.fv_outside.specs.declared.failure.Failure.{Failure}
+use Rattle.fv_outside.specs.declared.failure.Failure.TheVariants.{ReadFault, InputLimit}
 use Rattle.bundle_frames.specs.Reading.{end_ahead, Reading as Reader}
 use Rattle.bundle_frames.specs.Extent.{reading_end}
 use Rattle.bundle_frames.proofs.ReadingLaws.{HasRead-then, TookAtMost-from_read, TookJust-from_read, near-then, stops_near, took_to_end}
@@ -22,8 +22,7 @@ use Rattle.bundle_report.specs.Report.{EpochText}
 use Rattle.bundle_report.specs.Answer.{check_answer, answer_by}
 use Rattle.bundle_report.proofs.DueLaws.{taken-none, lines-due}
 use Rattle.bundle_report.proofs.SoFarLaws.{taken-more}
-use Rattle.bundle_report.specs.declared.report_stop.ReportStop.{ReportStop}
-use Rattle.bundle_report.specs.declared.report_stop.ReportStop.TheVariants as writes
+use Rattle.fv_outside.specs.declared.failure.Failure.TheVariants as failures
 use Rattle.report_text.specs.Ending.{status_of}
 use Rattle.report_text.specs.Status.{last_line}
 use Rattle.verifier_run.specs.Progress.{weight}
@@ -31,11 +30,9 @@ use Rattle.certified_epochs.specs.declared.fed_run.FedRun.{FedRun}
 use Rattle.certified_epochs.specs.Telling.{text_by}
 use Rattle.check_core.specs.declared.batch.Filled.{Filled}
 use Rattle.check_core.specs.declared.batch.Filled.TheVariants.{Whole, End, Stopped}
-use Rattle.check_core.specs.declared.stops.CheckStop.{CheckStop}
-use Rattle.check_core.specs.declared.stops.CheckStop.TheVariants as checks
 use Rattle.check_core.specs.Batch.{bytes_of}
 use Rattle.check_core.specs.Intake.{behind_at}
-use Rattle.check_core.specs.Stops.{check_status, checking_stopped, stop_by_writing}
+use Rattle.check_core.specs.Outcomes.{check_status}
 use Rattle.check_core.specs.Stream.{HasCome, AreChecked, lines_counted, lines_due}
 use Rattle.report_text.proofs.AnsweringLaws.{rose_before}
 use Rattle.check_core.proofs.StreamLemmas.{counted_front, opening_weights, weights_room, weights_more, frames_bytes, means-more, extent-more, come-more}
@@ -44,7 +41,7 @@ use Rattle.check_core.proofs.MeaningLemmas.{joined_none, joined_end}
 use Rattle.check_core.proofs.checking.check_frames.Goals as goal
 
 -- the error that a call hands on
-handed_on : (r : Result BundleEnd CheckStop) (stop : CheckStop) → IsErrAnd r (λ error. error ≡ stop) → r ≡ Err stop
+handed_on : (r : Result BundleEnd Failure) (stop : Failure) → IsErrAnd r (λ error. error ≡ stop) → r ≡ Err stop
 handed_on (Ok end) stop is = absurd is
 handed_on (Err error) stop is = ap Err is
 
@@ -59,22 +56,21 @@ end_no_stop : (r : Result Filled Memory) → r ≡ Ok End → r ≡ Ok (Stopped 
 end_no_stop r is stopped = cc
 
 -- a batch that was read up to where reading stopped
-abbrev stopped_at : SourceStop → Result Filled Memory
+abbrev stopped_at : Failure → Result Filled Memory
 stopped_at stop = Ok (Stopped stop)
 
 fault_no_limit : (r : Result Filled Memory) → r ≡ stopped_at ReadFault → r ≡ stopped_at InputLimit → ⊥
 fault_no_limit r is stopped = cc
 
-stopped_not_whole : (filled : Filled) (stop : SourceStop) → filled ≡ Stopped stop → filled ≡ Whole → ⊥
+stopped_not_whole : (filled : Filled) (stop : Failure) → filled ≡ Stopped stop → filled ≡ Whole → ⊥
 stopped_not_whole filled stop is whole = cc
 
 end_not_whole : (filled : Filled) → filled ≡ End → filled ≡ Whole → ⊥
 end_not_whole filled is whole = cc
 
 -- the last line fails by the sink alone
-no_memory : (stop : ReportStop) → (stop ≡ writes.Memory → ⊥) → stop_by_writing stop ≡ checks.WriteFault
-no_memory writes.Memory other = absurd (other refl)
-no_memory writes.WriteFault other = refl
+sink_alone : (stop : Failure) → (let r : Result BundleEnd Failure = Err stop in r ≡ Err failures.WriteFault) → stop ≡ failures.WriteFault
+sink_alone stop is = cc
 
 -- a slice that a call wrote, as the vector that lent it
 lent_back : {A : Type 0} (n : ℕ) (new old : List A) → n ≡ length old → length new ≡ length old → take n (new ++ drop (length new) old) ≡ new
@@ -84,32 +80,28 @@ lent_back n new old whole same =
 
 -- want of memory before a batch is read
 memory_before : (receipts : Bool) (functions : DigestFunctions) (verifiers : ℕ) (reader : Reader) (left_now : Option (List ℕ)) (faults_now : ℕ) (wrote : Writing)
-    (result : Result BundleEnd CheckStop) → IsErrAnd result (λ error. error ≡ checks.Memory) → reader.taken ≤ reader.limit → wrote.held ≡ wrote.held_after
+    (result : Result BundleEnd Failure) → IsErrAnd result (λ error. error ≡ failures.Memory) → reader.taken ≤ reader.limit → wrote.held ≡ wrote.held_after
     → (left : Option (List ℕ)) (faults : ℕ) → HasCome left faults (empty_logs verifiers) reader left_now faults_now
     → AnswersTo (check_answer receipts functions) reading_end reader.limit (check_status reader.limit result)
     (record { left = left; left_after = left_now; faults = faults; faults_after = faults_now }) wrote
 memory_before receipts functions verifiers reader left_now faults_now wrote result is within same left faults come =
     let read : Reading = record { left = left; left_after = left_now; faults = faults; faults_after = faults_now } in
-    subst (λ (r : Result BundleEnd CheckStop). AnswersTo (check_answer receipts functions) reading_end reader.limit (check_status reader.limit r) read wrote)
-    (sym (handed_on result checks.Memory is))
+    subst (λ (r : Result BundleEnd Failure). AnswersTo (check_answer receipts functions) reading_end reader.limit (check_status reader.limit r) read wrote)
+    (sym (handed_on result failures.Memory is))
     (memory_answers receipts functions reader.limit reader.taken reader.taken left _ faults _ (empty_logs verifiers) reader wrote
     come.means (omega arith) come.having_read within (stops_near _ _ _ reading_end come.having_read come.near)
     (λ more. subst (λ (after : Option (List ℕ)). GrowsByFront wrote.held after (answer_by receipts functions (behind_at (empty_logs verifiers) reader more)).due) same
     (GrowsByFront-none wrote.held (answer_by receipts functions (behind_at (empty_logs verifiers) reader more)).due)))
 
-pub returns-in_err-runs : goal.returns-in_err-runs
-returns-in_err-runs g c = record {
-  answers =
-      memory_before c.args.receipts (g.D.Digests.functions c.args.d.now) c.args.header.now.verifiers c.args.reader.now _ _ _
-      c.from_residual.result c.from_residual.ensures.1 c.requires.within refl;
-}
+pub returns-in_err-runs-clause-answers : goal.returns-in_err-runs-clause-answers
+returns-in_err-runs-clause-answers g c =
+    memory_before c.args.receipts (g.D.Digests.functions c.args.d.now) c.args.header.now.verifiers c.args.reader.now _ _ _
+    c.from_residual.result c.from_residual.ensures.1 c.requires.within refl
 
-pub returns-in_err-summary : goal.returns-in_err-summary
-returns-in_err-summary g c = record {
-  answers =
-      memory_before c.args.receipts (g.D.Digests.functions c.args.d.now) c.args.header.now.verifiers c.args.reader.now _ _ _
-      c.from_residual-in_err-summary.result c.from_residual-in_err-summary.ensures.1 c.requires.within refl;
-}
+pub returns-in_err-summary-clause-answers : goal.returns-in_err-summary-clause-answers
+returns-in_err-summary-clause-answers g c =
+    memory_before c.args.receipts (g.D.Digests.functions c.args.d.now) c.args.header.now.verifiers c.args.reader.now _ _ _
+    c.from_residual-in_err-summary.result c.from_residual-in_err-summary.ensures.1 c.requires.within refl
 
 pub batches-init : goal.batches-init
 batches-init g c =
@@ -145,76 +137,72 @@ take_batch-requires-clause-room g c κs within =
     (omega (arith, on.bytes, fill.split, fill.within, fill.same_limit, inv.limit, c.requires.limit))
     (subst (AllByRecursion (λ fed. _ ≤ c.batches.reader.progress.offset)) (sym c.deref_mut.ensures.value) inv.weights)
 
-pub returns-in_err-filled : goal.returns-in_err-filled
-returns-in_err-filled g c = record {
-  answers = λ left faults come.
-      let functions = g.D.Digests.functions c.args.d.now in
-      let inv = c.batches.invariant in
-      let fill = c.fill.ensures in
-      let old = c.batches.reader in
-      let new = c.fill.new.reader in
-      let now = inv.come left faults come in
-      let sum : new.taken ≡ old.taken + (new.taken - old.taken) = omega (arith, fill.rises) in
-      let having_read = HasRead-then _ _ _ _ _ _ now.having_read (fill.having_read (no_stop c.fill.result c.in_err-filled.field-0.0 c.in_err-filled.was)) sum in
-      let read : Reading = record {
-        left = left;
-        left_after = g.S.Source.left c.fill.new.source;
-        faults = faults;
-        faults_after = g.S.Source.faults c.fill.new.source;
-      } in
-      let wrote : Writing = record {
-        held = g.O.Sink.held c.args.out.now;
-        held_after = g.O.Sink.held c.batches.out;
-        faults = g.O.Sink.faults c.args.out.now;
-        faults_after = g.O.Sink.faults c.batches.out;
-      } in
-      subst (λ (r : Result BundleEnd CheckStop). AnswersTo (check_answer c.args.receipts functions) reading_end c.args.reader.now.limit (check_status c.args.reader.now.limit r) read wrote)
-      (sym (handed_on c.from_residual-in_err-filled.result checks.Memory c.from_residual-in_err-filled.ensures.1))
-      (memory_answers c.args.receipts functions c.args.reader.now.limit old.taken new.taken left _ faults _ inv.logs old wrote
-      now.means fill.rises having_read (omega (arith, fill.within, fill.same_limit, inv.limit))
-      (stops_near _ _ _ reading_end having_read (near-then _ _ _ _ _ _ _ _ _ now.having_read now.extent fill.rises refl now.near fill.near))
-      (counted_front c.args.receipts functions c.args.header.now inv.logs old inv.known c.batches.certifier c.batches.runs.items _ _ inv.checked
-      (subst (λ (tell : EpochText). Grows (g.O.Sink.held c.args.out.now) (g.O.Sink.held c.batches.out) (lines_counted tell functions c.args.header.now inv.logs c.batches.certifier))
-      c.new-telling.ensures.text inv.written)));
-}
+pub returns-in_err-filled-clause-answers : goal.returns-in_err-filled-clause-answers
+returns-in_err-filled-clause-answers g c = λ left faults come.
+    let functions = g.D.Digests.functions c.args.d.now in
+    let inv = c.batches.invariant in
+    let fill = c.fill.ensures in
+    let old = c.batches.reader in
+    let new = c.fill.new.reader in
+    let now = inv.come left faults come in
+    let sum : new.taken ≡ old.taken + (new.taken - old.taken) = omega (arith, fill.rises) in
+    let having_read = HasRead-then _ _ _ _ _ _ now.having_read (fill.having_read (no_stop c.fill.result c.in_err-filled.field-0.0 c.in_err-filled.was)) sum in
+    let read : Reading = record {
+      left = left;
+      left_after = g.S.Source.left c.fill.new.source;
+      faults = faults;
+      faults_after = g.S.Source.faults c.fill.new.source;
+    } in
+    let wrote : Writing = record {
+      held = g.O.Sink.held c.args.out.now;
+      held_after = g.O.Sink.held c.batches.out;
+      faults = g.O.Sink.faults c.args.out.now;
+      faults_after = g.O.Sink.faults c.batches.out;
+    } in
+    subst (λ (r : Result BundleEnd Failure). AnswersTo (check_answer c.args.receipts functions) reading_end c.args.reader.now.limit (check_status c.args.reader.now.limit r) read wrote)
+    (sym (handed_on c.from_residual-in_err-filled.result failures.Memory c.from_residual-in_err-filled.ensures.1))
+    (memory_answers c.args.receipts functions c.args.reader.now.limit old.taken new.taken left _ faults _ inv.logs old wrote
+    now.means fill.rises having_read (omega (arith, fill.within, fill.same_limit, inv.limit))
+    (stops_near _ _ _ reading_end having_read (near-then _ _ _ _ _ _ _ _ _ now.having_read now.extent fill.rises refl now.near fill.near))
+    (counted_front c.args.receipts functions c.args.header.now inv.logs old inv.known c.batches.certifier c.batches.runs.items _ _ inv.checked
+    (subst (λ (tell : EpochText). Grows (g.O.Sink.held c.args.out.now) (g.O.Sink.held c.batches.out) (lines_counted tell functions c.args.header.now inv.logs c.batches.certifier))
+    c.new-telling.ensures.text inv.written)))
 
-pub returns-in_err-take_batch : goal.returns-in_err-take_batch
-returns-in_err-take_batch g c = record {
-  answers = λ left faults come.
-      let functions = g.D.Digests.functions c.args.d.now in
-      let header = c.args.header.now in
-      let limit = c.args.reader.now.limit in
-      let inv = c.batches.invariant in
-      let fill = c.fill.ensures in
-      let on = c.in_ok-filled.ensures.goes_on in
-      let old = c.batches.reader in
-      let new = c.fill.new.reader in
-      let frames = c.fill.new.self in
-      let now = inv.come left faults come in
-      let checked = subst (λ (runs : List FedRun). AreChecked functions header inv.logs c.batches.certifier runs) (sym c.deref_mut.ensures.value) inv.checked in
-      let read : Reading = record {
-        left = left;
-        left_after = g.S.Source.left c.fill.new.source;
-        faults = faults;
-        faults_after = g.S.Source.faults c.fill.new.source;
-      } in
-      let wrote : Writing = record {
-        held = g.O.Sink.held c.args.out.now;
-        held_after = g.O.Sink.held c.take_batch.new.out;
-        faults = g.O.Sink.faults c.args.out.now;
-        faults_after = g.O.Sink.faults c.take_batch.new.out;
-      } in
-      subst (λ (r : Result BundleEnd CheckStop). AnswersTo (check_answer c.args.receipts functions) reading_end limit (check_status limit r) read wrote)
-      (sym (handed_on c.from_residual-in_err-take_batch.result (stop_by_writing c.in_err-take_batch.field-0.0) c.from_residual-in_err-take_batch.ensures.1))
-      (stop_answers c.args.receipts functions header limit left (g.S.Source.left c.fill.new.source) faults (g.S.Source.faults c.fill.new.source) (joined_from 0 inv.logs frames) new
-      (on.header ∙ inv.known) (means-more left _ faults _ inv.logs old new now fill.rises header frames inv.known on) wrote c.in_err-take_batch.field-0.0
-      (took_batch limit left _ _ faults _ inv.logs old new now fill.rises (fill.same_limit ∙ inv.limit) fill.within fill.near
-      c.fill.result c.in_ok-filled.filled c.in_ok-filled.was fill.having_read fill.limit fill.full fill.beyond)
-      c.requires.header (taken-more (scheme_of functions header) header inv.logs c.batches.certifier _ frames inv.checked).whole
-      (subst (λ (tell : EpochText). GrowsByFront (g.O.Sink.held c.args.out.now) (g.O.Sink.held c.take_batch.new.out) (lines_due tell functions header (joined_from 0 inv.logs frames)))
-      c.new-telling.ensures.text (c.in_err-take_batch.ensures.front header inv.logs (g.O.Sink.held c.args.out.now) checked inv.written))
-      (λ is. rose_before _ _ _ inv.faults (c.take_batch.ensures.write_fault (c.in_err-take_batch.was ∙ ap Err is))));
-}
+pub returns-in_err-take_batch-clause-answers : goal.returns-in_err-take_batch-clause-answers
+returns-in_err-take_batch-clause-answers g c = λ left faults come.
+    let functions = g.D.Digests.functions c.args.d.now in
+    let header = c.args.header.now in
+    let limit = c.args.reader.now.limit in
+    let inv = c.batches.invariant in
+    let fill = c.fill.ensures in
+    let on = c.in_ok-filled.ensures.goes_on in
+    let old = c.batches.reader in
+    let new = c.fill.new.reader in
+    let frames = c.fill.new.self in
+    let now = inv.come left faults come in
+    let checked = subst (λ (runs : List FedRun). AreChecked functions header inv.logs c.batches.certifier runs) (sym c.deref_mut.ensures.value) inv.checked in
+    let read : Reading = record {
+      left = left;
+      left_after = g.S.Source.left c.fill.new.source;
+      faults = faults;
+      faults_after = g.S.Source.faults c.fill.new.source;
+    } in
+    let wrote : Writing = record {
+      held = g.O.Sink.held c.args.out.now;
+      held_after = g.O.Sink.held c.take_batch.new.out;
+      faults = g.O.Sink.faults c.args.out.now;
+      faults_after = g.O.Sink.faults c.take_batch.new.out;
+    } in
+    subst (λ (r : Result BundleEnd Failure). AnswersTo (check_answer c.args.receipts functions) reading_end limit (check_status limit r) read wrote)
+    (sym (handed_on c.from_residual-in_err-take_batch.result c.in_err-take_batch.field-0.0 c.from_residual-in_err-take_batch.ensures.1))
+    (stop_answers c.args.receipts functions header limit left (g.S.Source.left c.fill.new.source) faults (g.S.Source.faults c.fill.new.source) (joined_from 0 inv.logs frames) new
+    (on.header ∙ inv.known) (means-more left _ faults _ inv.logs old new now fill.rises header frames inv.known on) wrote c.take_batch.result c.in_err-take_batch.field-0.0 c.in_err-take_batch.was c.take_batch.ensures.failure
+    (took_batch limit left _ _ faults _ inv.logs old new now fill.rises (fill.same_limit ∙ inv.limit) fill.within fill.near
+    c.fill.result c.in_ok-filled.filled c.in_ok-filled.was fill.having_read fill.limit fill.full fill.beyond)
+    c.requires.header (taken-more (scheme_of functions header) header inv.logs c.batches.certifier _ frames inv.checked).whole
+    (subst (λ (tell : EpochText). GrowsByFront (g.O.Sink.held c.args.out.now) (g.O.Sink.held c.take_batch.new.out) (lines_due tell functions header (joined_from 0 inv.logs frames)))
+    c.new-telling.ensures.text (c.in_err-take_batch.ensures.front header inv.logs (g.O.Sink.held c.args.out.now) checked inv.written))
+    (λ is. rose_before _ _ _ inv.faults (c.take_batch.ensures.write_fault (c.in_err-take_batch.was ∙ ap Err is))))
 
 pub batches-smaller : goal.batches-smaller
 batches-smaller g c =
@@ -265,145 +253,139 @@ batches-preserved g c =
       faults = omega (arith, inv.faults, c.take_batch.ensures.never_falls);
     }
 
-pub returns-in-Stopped : goal.returns-in-Stopped
-returns-in-Stopped g c = record {
-  answers = λ left faults come.
-      let functions = g.D.Digests.functions c.args.d.now in
-      let header = c.args.header.now in
-      let limit = c.args.reader.now.limit in
-      let inv = c.batches.invariant in
-      let fill = c.fill.ensures in
-      let on = c.in_ok-filled.ensures.goes_on in
-      let old = c.batches.reader in
-      let new = c.fill.new.reader in
-      let frames = c.fill.new.self in
-      let all = joined_from 0 inv.logs frames in
-      let now = inv.come left faults come in
-      let stopped = c.in_ok-filled.was ∙ ap Ok c.in-Stopped.is in
-      let same = fill.same_limit ∙ inv.limit in
-      let checked = subst (λ (runs : List FedRun). AreChecked functions header inv.logs c.batches.certifier runs) (sym c.deref_mut.ensures.value) inv.checked in
-      let sum : new.taken ≡ old.taken + (new.taken - old.taken) = omega (arith, fill.rises) in
-      let sum' : limit + 1 ≡ old.taken + (new.limit + 1 - old.taken) = omega (arith, fill.rises, fill.within, same) in
-      let read : Reading = record {
-        left = left;
-        left_after = g.S.Source.left c.fill.new.source;
-        faults = faults;
-        faults_after = g.S.Source.faults c.fill.new.source;
-      } in
-      let wrote : Writing = record {
-        held = g.O.Sink.held c.args.out.now;
-        held_after = g.O.Sink.held c.take_batch.new.out;
-        faults = g.O.Sink.faults c.args.out.now;
-        faults_after = g.O.Sink.faults c.take_batch.new.out;
-      } in
-      subst (λ (stop : CheckStop). AnswersTo (check_answer c.args.receipts functions) reading_end limit (checking_stopped limit stop) read wrote) (sym c.from.ensures)
-      (cut_answers c.args.receipts functions limit left (g.S.Source.left c.fill.new.source) faults (g.S.Source.faults c.fill.new.source) new wrote c.in-Stopped.stop
-      (took_batch limit left _ _ faults _ inv.logs old new now fill.rises same fill.within fill.near
-      c.fill.result c.in_ok-filled.filled c.in_ok-filled.was fill.having_read fill.limit fill.full fill.beyond)
-      (due_taken c.args.receipts functions header limit left (g.S.Source.left c.fill.new.source) faults (g.S.Source.faults c.fill.new.source) all new
-      (on.header ∙ inv.known) (means-more left _ faults _ inv.logs old new now fill.rises header frames inv.known on) wrote
-      (c.in_ok-filled.ensures.spent (stopped_not_whole c.in_ok-filled.filled c.in-Stopped.stop c.in-Stopped.is)).no_frames (joined_none 0 all)
-      (subst (λ (tell : EpochText). Grows (g.O.Sink.held c.args.out.now) (g.O.Sink.held c.take_batch.new.out) (lines_due tell functions header all))
-      c.new-telling.ensures.text (c.in_ok-take_batch.ensures.due header inv.logs (g.O.Sink.held c.args.out.now) checked inv.written)))
-      (λ is. rose_before _ _ _ now.never_falls (fill.fault (stopped ∙ ap stopped_at is)))
-      (λ is. TookAtMost-from_read new.taken limit _ _ (HasRead-then _ _ _ _ _ _ now.having_read (fill.having_read (fault_no_limit c.fill.result (stopped ∙ ap stopped_at is))) sum)
-      (omega (arith, fill.within, same)))
-      (λ is. TookJust-from_read (limit + 1) _ _ (HasRead-then _ _ _ _ _ _ now.having_read (fill.limit (stopped ∙ ap stopped_at is)) sum'))
-      (λ is. ends_behind limit left (g.S.Source.left c.batches.source) (g.S.Source.left c.fill.new.source) faults _ inv.logs old new now fill.rises same fill.within fill.near (fill.beyond (stopped ∙ ap stopped_at is))));
-}
+pub returns-in-Stopped-clause-answers : goal.returns-in-Stopped-clause-answers
+returns-in-Stopped-clause-answers g c = λ left faults come.
+    let functions = g.D.Digests.functions c.args.d.now in
+    let header = c.args.header.now in
+    let limit = c.args.reader.now.limit in
+    let inv = c.batches.invariant in
+    let fill = c.fill.ensures in
+    let on = c.in_ok-filled.ensures.goes_on in
+    let old = c.batches.reader in
+    let new = c.fill.new.reader in
+    let frames = c.fill.new.self in
+    let all = joined_from 0 inv.logs frames in
+    let now = inv.come left faults come in
+    let stopped = c.in_ok-filled.was ∙ ap Ok c.in-Stopped.is in
+    let same = fill.same_limit ∙ inv.limit in
+    let checked = subst (λ (runs : List FedRun). AreChecked functions header inv.logs c.batches.certifier runs) (sym c.deref_mut.ensures.value) inv.checked in
+    let sum : new.taken ≡ old.taken + (new.taken - old.taken) = omega (arith, fill.rises) in
+    let sum' : limit + 1 ≡ old.taken + (new.limit + 1 - old.taken) = omega (arith, fill.rises, fill.within, same) in
+    let read : Reading = record {
+      left = left;
+      left_after = g.S.Source.left c.fill.new.source;
+      faults = faults;
+      faults_after = g.S.Source.faults c.fill.new.source;
+    } in
+    let wrote : Writing = record {
+      held = g.O.Sink.held c.args.out.now;
+      held_after = g.O.Sink.held c.take_batch.new.out;
+      faults = g.O.Sink.faults c.args.out.now;
+      faults_after = g.O.Sink.faults c.take_batch.new.out;
+    } in
+    cut_answers c.args.receipts functions limit left (g.S.Source.left c.fill.new.source) faults (g.S.Source.faults c.fill.new.source) new wrote c.in-Stopped.stop
+    (took_batch limit left _ _ faults _ inv.logs old new now fill.rises same fill.within fill.near
+    c.fill.result c.in_ok-filled.filled c.in_ok-filled.was fill.having_read fill.limit fill.full fill.beyond)
+    (due_taken c.args.receipts functions header limit left (g.S.Source.left c.fill.new.source) faults (g.S.Source.faults c.fill.new.source) all new
+    (on.header ∙ inv.known) (means-more left _ faults _ inv.logs old new now fill.rises header frames inv.known on) wrote
+    (c.in_ok-filled.ensures.spent (stopped_not_whole c.in_ok-filled.filled c.in-Stopped.stop c.in-Stopped.is)).no_frames (joined_none 0 all)
+    (subst (λ (tell : EpochText). Grows (g.O.Sink.held c.args.out.now) (g.O.Sink.held c.take_batch.new.out) (lines_due tell functions header all))
+    c.new-telling.ensures.text (c.in_ok-take_batch.ensures.due header inv.logs (g.O.Sink.held c.args.out.now) checked inv.written)))
+    (λ is. rose_before _ _ _ now.never_falls (fill.fault (stopped ∙ ap stopped_at is)))
+    (λ is. TookAtMost-from_read new.taken limit _ _ (HasRead-then _ _ _ _ _ _ now.having_read (fill.having_read (fault_no_limit c.fill.result (stopped ∙ ap stopped_at is))) sum)
+    (omega (arith, fill.within, same)))
+    (λ is. TookJust-from_read (limit + 1) _ _ (HasRead-then _ _ _ _ _ _ now.having_read (fill.limit (stopped ∙ ap stopped_at is)) sum'))
+    (λ is. ends_behind limit left (g.S.Source.left c.batches.source) (g.S.Source.left c.fill.new.source) faults _ inv.logs old new now fill.rises same fill.within fill.near (fill.beyond (stopped ∙ ap stopped_at is)))
+    (fill.stopped c.in-Stopped.stop stopped)
 
-pub returns-in_err-finish : goal.returns-in_err-finish
-returns-in_err-finish g c = record {
-  answers = λ left faults come.
-      let functions = g.D.Digests.functions c.args.d.now in
-      let header = c.args.header.now in
-      let scheme = scheme_of functions header in
-      let limit = c.args.reader.now.limit in
-      let inv = c.batches.invariant in
-      let fill = c.fill.ensures in
-      let on = c.in_ok-filled.ensures.goes_on in
-      let old = c.batches.reader in
-      let new = c.fill.new.reader in
-      let frames = c.fill.new.self in
-      let all = joined_from 0 inv.logs frames in
-      let now = inv.come left faults come in
-      let ended = c.in_ok-filled.was ∙ ap Ok c.in-End.is in
-      let checked = subst (λ (runs : List FedRun). AreChecked functions header inv.logs c.batches.certifier runs) (sym c.deref_mut.ensures.value) inv.checked in
-      let back = lent_back c.batches.runs.len c.take_batch.new.runs c.batches.runs.items (omega (arith, c.batches.runs.ok)) (c.take_batch.ensures.len ∙ ap length c.deref_mut.ensures.value) in
-      let taken = subst (λ (runs : List FedRun). AreChecked functions header all c.take_batch.new.certifier runs) (sym (c.deref_mut-2.ensures.value ∙ back))
-      (c.in_ok-take_batch.ensures.checked header inv.logs checked) in
-      let sum : new.taken ≡ old.taken + (new.taken - old.taken) = omega (arith, fill.rises) in
-      let having_read = HasRead-then _ _ _ _ _ _ now.having_read (fill.having_read (end_no_stop c.fill.result ended)) sum in
-      let spent = c.in_ok-filled.ensures.spent (end_not_whole c.in_ok-filled.filled c.in-End.is) in
-      let whole = (taken-more scheme header inv.logs c.batches.certifier _ frames inv.checked).whole in
-      let read : Reading = record {
-        left = left;
-        left_after = g.S.Source.left c.fill.new.source;
-        faults = faults;
-        faults_after = g.S.Source.faults c.fill.new.source;
-      } in
-      let wrote : Writing = record {
-        held = g.O.Sink.held c.args.out.now;
-        held_after = g.O.Sink.held c.finish.new.out;
-        faults = g.O.Sink.faults c.args.out.now;
-        faults_after = g.O.Sink.faults c.finish.new.out;
-      } in
-      subst (λ (r : Result BundleEnd CheckStop). AnswersTo (check_answer c.args.receipts functions) reading_end limit (check_status limit r) read wrote)
-      (sym (handed_on c.from_residual-in_err-finish.result (stop_by_writing c.in_err-finish.field-0.0) c.from_residual-in_err-finish.ensures.1
-      ∙ ap Err (no_memory c.in_err-finish.field-0.0 (λ is. c.finish.ensures.stop (c.in_err-finish.was ∙ ap Err is)))))
-      (last_answers c.args.receipts functions header limit left (g.S.Source.left c.fill.new.source) faults (g.S.Source.faults c.fill.new.source) all new
-      (on.header ∙ inv.known) (means-more left _ faults _ inv.logs old new now fill.rises header frames inv.known on) wrote c.bad.result having_read
-      (omega (arith, fill.within, fill.same_limit, inv.limit))
-      (joined_end all new _ (Some header) c.bad.result (fill.end ended) (sym (on.header ∙ inv.known)) (c.bad.ensures.ahead spent.unread) whole)
-      (stops_near _ _ _ reading_end having_read (near-then _ _ _ _ _ _ _ _ _ now.having_read now.extent fill.rises refl now.near fill.near))
-      (GrowsByFront-then _ _ _ _ _ (subst (λ (tell : EpochText). Grows (g.O.Sink.held c.args.out.now) (g.O.Sink.held c.take_batch.new.out) (lines_due tell functions header all))
-      c.new-telling.ensures.text (c.in_ok-take_batch.ensures.due header inv.logs (g.O.Sink.held c.args.out.now) checked inv.written))
-      (c.in_err-finish.ensures.front scheme header all taken (c.in_ok-take_batch.ensures.all header inv.logs checked)))
-      (let more = c.take_batch.ensures.never_falls in rose_before _ _ _ (omega (arith, inv.faults, more)) c.in_err-finish.ensures.write_fault));
-}
+pub returns-in_err-finish-clause-answers : goal.returns-in_err-finish-clause-answers
+returns-in_err-finish-clause-answers g c = λ left faults come.
+    let functions = g.D.Digests.functions c.args.d.now in
+    let header = c.args.header.now in
+    let scheme = scheme_of functions header in
+    let limit = c.args.reader.now.limit in
+    let inv = c.batches.invariant in
+    let fill = c.fill.ensures in
+    let on = c.in_ok-filled.ensures.goes_on in
+    let old = c.batches.reader in
+    let new = c.fill.new.reader in
+    let frames = c.fill.new.self in
+    let all = joined_from 0 inv.logs frames in
+    let now = inv.come left faults come in
+    let ended = c.in_ok-filled.was ∙ ap Ok c.in-End.is in
+    let checked = subst (λ (runs : List FedRun). AreChecked functions header inv.logs c.batches.certifier runs) (sym c.deref_mut.ensures.value) inv.checked in
+    let back = lent_back c.batches.runs.len c.take_batch.new.runs c.batches.runs.items (omega (arith, c.batches.runs.ok)) (c.take_batch.ensures.len ∙ ap length c.deref_mut.ensures.value) in
+    let taken = subst (λ (runs : List FedRun). AreChecked functions header all c.take_batch.new.certifier runs) (sym (c.deref_mut-2.ensures.value ∙ back))
+    (c.in_ok-take_batch.ensures.checked header inv.logs checked) in
+    let sum : new.taken ≡ old.taken + (new.taken - old.taken) = omega (arith, fill.rises) in
+    let having_read = HasRead-then _ _ _ _ _ _ now.having_read (fill.having_read (end_no_stop c.fill.result ended)) sum in
+    let spent = c.in_ok-filled.ensures.spent (end_not_whole c.in_ok-filled.filled c.in-End.is) in
+    let whole = (taken-more scheme header inv.logs c.batches.certifier _ frames inv.checked).whole in
+    let read : Reading = record {
+      left = left;
+      left_after = g.S.Source.left c.fill.new.source;
+      faults = faults;
+      faults_after = g.S.Source.faults c.fill.new.source;
+    } in
+    let wrote : Writing = record {
+      held = g.O.Sink.held c.args.out.now;
+      held_after = g.O.Sink.held c.finish.new.out;
+      faults = g.O.Sink.faults c.args.out.now;
+      faults_after = g.O.Sink.faults c.finish.new.out;
+    } in
+    subst (λ (r : Result BundleEnd Failure). AnswersTo (check_answer c.args.receipts functions) reading_end limit (check_status limit r) read wrote)
+    (sym (handed_on c.from_residual-in_err-finish.result c.in_err-finish.field-0.0 c.from_residual-in_err-finish.ensures.1
+    ∙ ap Err (sink_alone c.in_err-finish.field-0.0 c.in_err-finish.ensures.stop)))
+    (last_answers c.args.receipts functions header limit left (g.S.Source.left c.fill.new.source) faults (g.S.Source.faults c.fill.new.source) all new
+    (on.header ∙ inv.known) (means-more left _ faults _ inv.logs old new now fill.rises header frames inv.known on) wrote c.bad.result having_read
+    (omega (arith, fill.within, fill.same_limit, inv.limit))
+    (joined_end all new _ (Some header) c.bad.result (fill.end ended) (sym (on.header ∙ inv.known)) (c.bad.ensures.ahead spent.unread) whole)
+    (stops_near _ _ _ reading_end having_read (near-then _ _ _ _ _ _ _ _ _ now.having_read now.extent fill.rises refl now.near fill.near))
+    (GrowsByFront-then _ _ _ _ _ (subst (λ (tell : EpochText). Grows (g.O.Sink.held c.args.out.now) (g.O.Sink.held c.take_batch.new.out) (lines_due tell functions header all))
+    c.new-telling.ensures.text (c.in_ok-take_batch.ensures.due header inv.logs (g.O.Sink.held c.args.out.now) checked inv.written))
+    (c.in_err-finish.ensures.front scheme header all taken (c.in_ok-take_batch.ensures.all header inv.logs checked)))
+    (let more = c.take_batch.ensures.never_falls in rose_before _ _ _ (omega (arith, inv.faults, more)) c.in_err-finish.ensures.write_fault))
 
-pub returns : goal.returns
-returns g c = record {
-  answers = λ left faults come.
-      let functions = g.D.Digests.functions c.args.d.now in
-      let header = c.args.header.now in
-      let scheme = scheme_of functions header in
-      let limit = c.args.reader.now.limit in
-      let inv = c.batches.invariant in
-      let fill = c.fill.ensures in
-      let on = c.in_ok-filled.ensures.goes_on in
-      let old = c.batches.reader in
-      let new = c.fill.new.reader in
-      let frames = c.fill.new.self in
-      let all = joined_from 0 inv.logs frames in
-      let now = inv.come left faults come in
-      let ended = c.in_ok-filled.was ∙ ap Ok c.in-End.is in
-      let checked = subst (λ (runs : List FedRun). AreChecked functions header inv.logs c.batches.certifier runs) (sym c.deref_mut.ensures.value) inv.checked in
-      let back = lent_back c.batches.runs.len c.take_batch.new.runs c.batches.runs.items (omega (arith, c.batches.runs.ok)) (c.take_batch.ensures.len ∙ ap length c.deref_mut.ensures.value) in
-      let taken = subst (λ (runs : List FedRun). AreChecked functions header all c.take_batch.new.certifier runs) (sym (c.deref_mut-2.ensures.value ∙ back))
-      (c.in_ok-take_batch.ensures.checked header inv.logs checked) in
-      let sum : new.taken ≡ old.taken + (new.taken - old.taken) = omega (arith, fill.rises) in
-      let having_read = HasRead-then _ _ _ _ _ _ now.having_read (fill.having_read (end_no_stop c.fill.result ended)) sum in
-      let spent = c.in_ok-filled.ensures.spent (end_not_whole c.in_ok-filled.filled c.in-End.is) in
-      let whole = (taken-more scheme header inv.logs c.batches.certifier _ frames inv.checked).whole in
-      let end = c.in_ok-finish.field-0 in
-      let end_is = c.in_ok-finish.ensures.end scheme header all taken (c.in_ok-take_batch.ensures.all header inv.logs checked) in
-      end_answers c.args.receipts functions header limit left (g.S.Source.left c.fill.new.source) faults (g.S.Source.faults c.fill.new.source) all new
-      (on.header ∙ inv.known) (means-more left _ faults _ inv.logs old new now fill.rises header frames inv.known on)
-      (record {
-        held = g.O.Sink.held c.args.out.now;
-        held_after = g.O.Sink.held c.finish.new.out;
-        faults = g.O.Sink.faults c.args.out.now;
-        faults_after = g.O.Sink.faults c.finish.new.out;
-      })
-      c.bad.result end having_read
-      (omega (arith, fill.within, fill.same_limit, inv.limit))
-      (joined_end all new _ (Some header) c.bad.result (fill.end ended) (sym (on.header ∙ inv.known)) (c.bad.ensures.ahead spent.unread) whole)
-      (took_to_end new.taken left (g.S.Source.left c.fill.new.source) reading_end (end_ahead new) having_read
-      (extent-more left _ faults _ inv.logs old new now fill.rises on.extent) (fill.reached ended))
-      (stops_near _ _ _ reading_end having_read (near-then _ _ _ _ _ _ _ _ _ now.having_read now.extent fill.rises refl now.near fill.near))
-      (ap status_of end_is)
-      (Grows-then _ _ _ _ _ (subst (λ (tell : EpochText). Grows (g.O.Sink.held c.args.out.now) (g.O.Sink.held c.take_batch.new.out) (lines_due tell functions header all))
-      c.new-telling.ensures.text (c.in_ok-take_batch.ensures.due header inv.logs (g.O.Sink.held c.args.out.now) checked inv.written))
-      (subst (λ (e : BundleEnd). Grows (g.O.Sink.held c.take_batch.new.out) (g.O.Sink.held c.finish.new.out) (last_line (status_of e))) end_is c.in_ok-finish.ensures.line));
-}
+pub returns-clause-answers : goal.returns-clause-answers
+returns-clause-answers g c = λ left faults come.
+    let functions = g.D.Digests.functions c.args.d.now in
+    let header = c.args.header.now in
+    let scheme = scheme_of functions header in
+    let limit = c.args.reader.now.limit in
+    let inv = c.batches.invariant in
+    let fill = c.fill.ensures in
+    let on = c.in_ok-filled.ensures.goes_on in
+    let old = c.batches.reader in
+    let new = c.fill.new.reader in
+    let frames = c.fill.new.self in
+    let all = joined_from 0 inv.logs frames in
+    let now = inv.come left faults come in
+    let ended = c.in_ok-filled.was ∙ ap Ok c.in-End.is in
+    let checked = subst (λ (runs : List FedRun). AreChecked functions header inv.logs c.batches.certifier runs) (sym c.deref_mut.ensures.value) inv.checked in
+    let back = lent_back c.batches.runs.len c.take_batch.new.runs c.batches.runs.items (omega (arith, c.batches.runs.ok)) (c.take_batch.ensures.len ∙ ap length c.deref_mut.ensures.value) in
+    let taken = subst (λ (runs : List FedRun). AreChecked functions header all c.take_batch.new.certifier runs) (sym (c.deref_mut-2.ensures.value ∙ back))
+    (c.in_ok-take_batch.ensures.checked header inv.logs checked) in
+    let sum : new.taken ≡ old.taken + (new.taken - old.taken) = omega (arith, fill.rises) in
+    let having_read = HasRead-then _ _ _ _ _ _ now.having_read (fill.having_read (end_no_stop c.fill.result ended)) sum in
+    let spent = c.in_ok-filled.ensures.spent (end_not_whole c.in_ok-filled.filled c.in-End.is) in
+    let whole = (taken-more scheme header inv.logs c.batches.certifier _ frames inv.checked).whole in
+    let end = c.in_ok-finish.field-0 in
+    let end_is = c.in_ok-finish.ensures.end scheme header all taken (c.in_ok-take_batch.ensures.all header inv.logs checked) in
+    end_answers c.args.receipts functions header limit left (g.S.Source.left c.fill.new.source) faults (g.S.Source.faults c.fill.new.source) all new
+    (on.header ∙ inv.known) (means-more left _ faults _ inv.logs old new now fill.rises header frames inv.known on)
+    (record {
+      held = g.O.Sink.held c.args.out.now;
+      held_after = g.O.Sink.held c.finish.new.out;
+      faults = g.O.Sink.faults c.args.out.now;
+      faults_after = g.O.Sink.faults c.finish.new.out;
+    })
+    c.bad.result end having_read
+    (omega (arith, fill.within, fill.same_limit, inv.limit))
+    (joined_end all new _ (Some header) c.bad.result (fill.end ended) (sym (on.header ∙ inv.known)) (c.bad.ensures.ahead spent.unread) whole)
+    (took_to_end new.taken left (g.S.Source.left c.fill.new.source) reading_end (end_ahead new) having_read
+    (extent-more left _ faults _ inv.logs old new now fill.rises on.extent) (fill.reached ended))
+    (stops_near _ _ _ reading_end having_read (near-then _ _ _ _ _ _ _ _ _ now.having_read now.extent fill.rises refl now.near fill.near))
+    (ap status_of end_is)
+    (Grows-then _ _ _ _ _ (subst (λ (tell : EpochText). Grows (g.O.Sink.held c.args.out.now) (g.O.Sink.held c.take_batch.new.out) (lines_due tell functions header all))
+    c.new-telling.ensures.text (c.in_ok-take_batch.ensures.due header inv.logs (g.O.Sink.held c.args.out.now) checked inv.written))
+    (subst (λ (e : BundleEnd). Grows (g.O.Sink.held c.take_batch.new.out) (g.O.Sink.held c.finish.new.out) (last_line (status_of e))) end_is c.in_ok-finish.ensures.line))

@@ -1,29 +1,22 @@
 use Rattle.std.proofs.Common.{◌≡◌, ◌+◌, ◌-◌, ◌<◌, ◌≤◌, ℕ, List, IfSome, Result, Ok, Err, is_ok, true≢false, map, refl, sym, ap, subst, ◌∙◌, arith}
 use Rattle.bundle_frames.specs.declared.coming.Next.TheVariants.{End}
-use Rattle.bundle_frames.specs.declared.coming.SourceStop.TheVariants as sources
-use Rattle.bundle_frames.specs.declared.coming.SourceStop.{SourceStop}
+use Rattle.fv_outside.specs.declared.failure.Failure.TheVariants as failures
+use Rattle.fv_outside.specs.declared.failure.Failure.{Failure}
 use Rattle.bundle_frames.specs.Progress.{position}
 use Rattle.bundle_frames.specs.Extent.{reading_end}
 use Rattle.bundle_frames.specs.Reading.{Reading, end_ahead, header_then}
 use Rattle.bundle_frames.proofs.ReadingLaws.{HasRead-none, HasRead-then, ReadsAs-none, ReadsAs-then, ReadsAs-back, TookJust-from_read, TookAtMost-from_read, end_opening, near-then, stops_near, stops_stopped, took_to_end}
-use Rattle.check_core.specs.declared.stops.ReadStop.{ReadStop}
-use Rattle.check_core.specs.declared.stops.ReadStop.TheVariants.{InputLimit}
 use Rattle.bundle_report.specs.Logs.{log_count, logs_then}
 use Rattle.bundle_report.specs.Logged.{Logged, logged_of}
 use Rattle.check_core.specs.Intake.{logs_in, behind_at}
-use Rattle.check_core.specs.Stops.{stop_of}
 use Rattle.check_core.proofs.MeaningLemmas.{opening_joined, verifier_there, reads_next, joined_end, logs_counted}
 use Rattle.check_core.proofs.reading.read_bundle.Goals as goal
 
-stop_input : (stop : SourceStop) (answer : ReadStop) → answer ≡ stop_of stop → answer ≡ InputLimit → stop ≡ sources.InputLimit
-stop_input sources.ReadFault answer is same = cc
-stop_input sources.InputLimit answer is same = refl
-
 -- what reading stopped with
-abbrev stopped_with : {A : Type 0} → ReadStop → Result A ReadStop
+abbrev stopped_with : {A : Type 0} → Failure → Result A Failure
 stopped_with stop = Err stop
 
-stop_is : {A : Type 0} (stop other : ReadStop) → stopped_with {A = A} stop ≡ stopped_with other → stop ≡ other
+stop_is : {A : Type 0} (stop other : Failure) → stopped_with {A = A} stop ≡ stopped_with other → stop ≡ other
 stop_is stop other same = cc
 
 pub frames-init : goal.frames-init
@@ -91,8 +84,7 @@ pub returns-in-Err-clause-limit : goal.returns-in-Err-clause-limit
 returns-in-Err-clause-limit g c = λ is.
     let last = c.frames.invariant in
     let next = c.in-Err.ensures in
-    let full = stop_is c.from.result InputLimit is in
-    let same = stop_input _ _ c.from.ensures full in
+    let same = stop_is c.in-Err.stop failures.InputLimit is in
     let sum : c.args.limit + 1 ≡ c.frames.reader.taken + (c.next.new.self.limit + 1 - c.frames.reader.taken) = omega (arith, next.same_limit, last.limit, last.within) in
     TookJust-from_read _ _ _ (HasRead-then _ _ _ _ _ _ last.having_read (next.limit (ap Err same)) sum)
 
@@ -101,7 +93,7 @@ returns-in-Err-clause-within g c = λ other.
     let last = c.frames.invariant in
     let next = c.in-Err.ensures in
     let sum : c.next.new.self.taken ≡ c.frames.reader.taken + (c.next.new.self.taken - c.frames.reader.taken) = omega (arith, next.rises) in
-    let apart = λ (is : c.in-Err.stop ≡ sources.InputLimit). other (ap Err (c.from.ensures ∙ ap stop_of is)) in
+    let apart = λ (is : c.in-Err.stop ≡ failures.InputLimit). other (ap Err is) in
     TookAtMost-from_read _ _ _ _ (HasRead-then _ _ _ _ _ _ last.having_read (next.took (λ is. apart cc)) sum) (omega (arith, next.within, next.same_limit, last.limit))
 
 pub returns-in-Err-clause-stops : goal.returns-in-Err-clause-stops
@@ -121,8 +113,7 @@ pub returns-in-Err-clause-beyond : goal.returns-in-Err-clause-beyond
 returns-in-Err-clause-beyond g c = λ is.
     let last = c.frames.invariant in
     let next = c.in-Err.ensures in
-    let full = stop_is c.from.result InputLimit is in
-    let same = stop_input _ _ c.from.ensures full in
+    let same = stop_is c.in-Err.stop failures.InputLimit is in
     ReadsAs-back (λ (end : ℕ). c.args.limit < end) _ _ _ _ _ last.having_read last.extent
     (subst (λ (limit : ℕ). IfSome (g.S.Source.left c.frames.source) (λ bytes. limit < end_ahead c.frames.reader bytes)) (next.same_limit ∙ last.limit) (next.beyond (ap Err same)))
 

@@ -7,7 +7,7 @@ use Rattle.fastver_top.proofs.AcceptLemmas.{answer-answered, stop-before, answer
 use Rattle.fastver_top.proofs.accepting.accept_text.Goals as goal
 
 pub returns-in-Err-clause-outcomes : goal.returns-in-Err-clause-outcomes
-returns-in-Err-clause-outcomes g c = subst IsAcceptStatus (sym c.status.ensures.value) (inr (inl (stop-before c.args.limit c.in-Err.stop)))
+returns-in-Err-clause-outcomes g c = subst IsAcceptStatus (sym c.of_failure.ensures.value) (inr (inl (stop-before c.args.limit c.in-Err.failure (λ is. c.in-Err.ensures.failure.vault (ap Err is)) (λ is. c.in-Err.ensures.failure.sink (ap Err is)))))
 
 pub returns-in-Err-clause-answers : goal.returns-in-Err-clause-answers
 returns-in-Err-clause-answers g c =
@@ -21,8 +21,8 @@ returns-in-Err-clause-answers g c =
     let held = g.O.Sink.held c.args.out.now in
     let faults = g.O.Sink.faults c.args.out.now in
     let wrote : Writing = record { held = held; held_after = held; faults = faults; faults_after = faults } in
-    subst (λ (status : Status). AnswersWhole (accept_answer functions) c.args.limit status read wrote) (sym c.status.ensures.value)
-    (answers-unread functions c.args.limit read wrote c.in-Err.stop refl
+    subst (λ (status : Status). AnswersWhole (accept_answer functions) c.args.limit status read wrote) (sym c.of_failure.ensures.value)
+    (answers-unread functions c.args.limit read wrote c.in-Err.failure (λ is. c.in-Err.ensures.failure.vault (ap Err is)) (λ is. c.in-Err.ensures.failure.sink (ap Err is)) refl
     (λ is. c.in-Err.ensures.fault (ap Err is)) (λ is. c.in-Err.ensures.limit (ap Err is)) (λ other. c.in-Err.ensures.within (λ is. other (cc is))))
 
 pub returns-in-Ok-answer-clause-outcomes : goal.returns-in-Ok-answer-clause-outcomes

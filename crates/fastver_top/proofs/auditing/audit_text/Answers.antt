@@ -55,8 +55,8 @@ returns-in-Ok-clause-answers g c =
       faults = g.O.Sink.faults c.args.out.now;
       faults_after = g.O.Sink.faults c.audit_intake.new.out;
     } in
-    subst (λ (status : Status). AnswersTo (audit_answer functions) reading_end c.args.limit status read wrote) (sym c.status-in-Err-audit_intake.ensures.value)
+    subst (λ (status : Status). AnswersTo (audit_answer functions) reading_end c.args.limit status read wrote) (sym c.of_failure.ensures.value)
     (audit_stops functions c.args.limit read wrote (logged c.in-Ok.intake) c.in-Ok.ensures.bundle (c.in-Ok.ensures.within (λ is. true≢false (ap is_ok is)))
-    c.in-Ok.ensures.stops c.in-Err-audit_intake.stop c.in-Err-audit_intake.ensures.ends
+    c.in-Ok.ensures.stops c.in-Err-audit_intake.failure c.in-Err-audit_intake.ensures.ends
     (λ is. ap g.O.Sink.held (c.in-Err-audit_intake.ensures.unwritten (ap Err is)))
     (λ is. c.in-Err-audit_intake.ensures.write_fault (ap Err is)))

@@ -67,9 +67,9 @@ returns-clause-generates g c =
     } in
     let outputs : Outputs = record { vault = kept.held; vault_after = kept.held_after; out = wrote.held; out_after = wrote.held_after } in
     let script = c.in-Ok.ensures.generated ∙ ap (generated words.load.seed) c.shape_for-shape.ensures.value in
-    let stop = c.in-Err-serve.stop in
+    let stop = c.in-Err-serve.failure in
     let says = c.in-Err-serve.ensures in
-    subst (λ (status : Status). GensTo functions words status wrote kept) (sym c.status_of.ensures.value)
+    subst (λ (status : Status). GensTo functions words status wrote kept) (sym c.of_failure.ensures.value)
     (gens-stopped functions words wrote kept stop
     (subst (λ (asked : List (List Task)). SumsTo functions (settings_for words.numbers) asked (load_for words.load) (Err stop) outputs) script says.sums)
     (λ other. says.named (λ is. other (cc)))

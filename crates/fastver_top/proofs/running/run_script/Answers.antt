@@ -86,9 +86,9 @@ returns-clause-runs g c =
       faults = g.V.Sink.faults c.args.vault.now;
       faults_after = g.V.Sink.faults c.serve.new.vault;
     } in
-    let stop = c.in-Err-serve.stop in
+    let stop = c.in-Err-serve.failure in
     let says = c.in-Err-serve.ensures in
-    subst (λ (status : Status). RunsTo functions run c.args.limit status read wrote kept) (sym c.status_of.ensures.value)
+    subst (λ (status : Status). RunsTo functions run c.args.limit status read wrote kept) (sym c.of_failure.ensures.value)
     (runs-stopped functions run c.args.limit read wrote kept c.in-Ok.requests c.in-Ok.ensures.reads stop says.serves
     (λ other. says.named (λ is. other (cc)))
     says.named_first

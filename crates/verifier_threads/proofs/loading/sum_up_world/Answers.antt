@@ -10,12 +10,12 @@ use Rattle.host_world.specs.declared.settings.Settings.{Settings}
 use Rattle.host_world.specs.declared.world.World as code
 use Rattle.host_world.specs.Shown.{shown_world, digests_of, requests_of}
 use Rattle.host_world.specs.Behind.{host_of}
-use Rattle.host_rounds.specs.declared.stops.RoundStop.TheVariants as stops
+use Rattle.fv_outside.specs.declared.failure.Failure.TheVariants as failures
 use Rattle.verifier_threads.specs.Serving.{Outputs, IsCutOff}
 use Rattle.verifier_threads.specs.Summing.{IsCutBefore, SumsTo}
 use Rattle.verifier_threads.specs.Running.{IsAtPhase}
 use Rattle.verifier_threads.proofs.RunningLemmas.{of_one_host, host-back}
-use Rattle.verifier_threads.proofs.SummingLemmas.{stops-before, other-stop, never-rose, memory-other, sums-so}
+use Rattle.verifier_threads.proofs.SummingLemmas.{stops-before, memory-before, other-stop, never-rose, sums-so}
 use Rattle.verifier_threads.proofs.CutLemmas.{cut-before}
 use Rattle.verifier_threads.proofs.loading.sum_up_world.Goals as goal
 
@@ -58,8 +58,7 @@ returns-in_err-dropped-clause-sums g c =
     let out = g.O.Sink.held c.args.out.now in
     let p = err_from_is_err_and c.from_residual.result c.from_residual.ensures.1 in
     rw p.1
-    (stops-before (g.D.Digests.functions (digests_of c.args.world)) c.args.world.settings (requests_of c.args.world) c.args.load.now p.0 _
-    (memory-other p.0 p.2)
+    (memory-before (g.D.Digests.functions (digests_of c.args.world)) c.args.world.settings (requests_of c.args.world) c.args.load.now p.0 _ p.2
     (subst (λ (settings : Settings). IsCutBefore functions settings (requests_of c.args.world) (record { vault = vault; vault_after = vault; out = out; out_after = out }))
     c.settings-settings.ensures.value
     (c.a_header_begins_the_bundle.ensures.before functions (requests_of c.args.world) vault vault out (GrowsByFront-none vault _))))
@@ -70,7 +69,8 @@ returns-in_err-runner-clause-sums g c =
     let cut = c.in_err-runner.ensures.cut false (g.O.Sink.held c.args.out.now) in
     rw p.1
     (stops-before (g.D.Digests.functions (digests_of c.args.world)) c.args.world.settings (requests_of c.args.world) c.args.load.now p.0 _
-    (other-stop _ _ stops.WriteFault p.2 c.in_err-runner.ensures.stop)
+    (other-stop _ _ failures.ReadFault p.2 c.in_err-runner.ensures.failure.source) (other-stop _ _ failures.InputLimit p.2 c.in_err-runner.ensures.failure.limit)
+    (other-stop _ _ failures.WriteFault p.2 c.in_err-runner.ensures.failure.sink)
     (cut-before false _ _ _ _ (g.O.Sink.held c.args.out.now) cut))
 
 pub returns-in_err-serve_phases-clause-sums : goal.returns-in_err-serve_phases-clause-sums
@@ -79,7 +79,9 @@ returns-in_err-serve_phases-clause-sums g c =
     let cut = c.in_err-serve_phases.ensures.cut _ (c.in_ok-runner.ensures.runs false c.in_ok-dropped.dropped.held) refl refl in
     rw p.1
     (stops-before (g.D.Digests.functions (digests_of c.args.world)) c.args.world.settings (requests_of c.args.world) c.args.load.now p.0 _
-    (other-stop _ _ stops.WriteFault p.2 (λ is. never-rose (c.in_err-serve_phases.ensures.write_fault is)))
+    (other-stop _ _ failures.ReadFault p.2 c.in_err-serve_phases.ensures.failure.source)
+    (other-stop _ _ failures.InputLimit p.2 c.in_err-serve_phases.ensures.failure.limit)
+    (other-stop _ _ failures.WriteFault p.2 (λ is. never-rose (c.in_err-serve_phases.ensures.write_fault is)))
     (cut-before false _ _ _ _ (g.O.Sink.held c.args.out.now)
     (subst (λ (w : code.World _). IsCutOff false (g.D.Digests.functions (digests_of w)) w.settings (requests_of w)
     (record { vault = g.V.Sink.held c.args.vault.now; vault_after = g.V.Sink.held c.serve_phases.new.vault; out = c.in_ok-dropped.dropped.held; out_after = c.serve_phases.new.out.held }))

@@ -52,6 +52,7 @@ returns-in_err-runner-clause-serves g c =
     let p = err_from_is_err_and c.from_residual.result c.from_residual.ensures.1 in
     rw p.1
     (stops-so c.args.receipts (g.D.Digests.functions (digests_of c.args.world)) c.args.world.settings (requests_of c.args.world) p.0 _
+    (λ is. c.in_err-runner.ensures.failure.source (came-so p.0 _ _ p.2 is)) (λ is. c.in_err-runner.ensures.failure.limit (came-so p.0 _ _ p.2 is))
     (c.in_err-runner.ensures.cut c.args.receipts (g.O.Sink.held c.args.out.now))
     (λ is. inl (c.in_err-runner.ensures.header (g.O.Sink.held c.args.out.now))))
 
@@ -60,6 +61,7 @@ returns-in_err-serve_phases-clause-serves g c =
     let p = err_from_is_err_and c.from_residual-in_err-serve_phases.result c.from_residual-in_err-serve_phases.ensures.1 in
     rw p.1
     (stops-so c.args.receipts (g.D.Digests.functions (digests_of c.args.world)) c.args.world.settings (requests_of c.args.world) p.0 _
+    (λ is. c.in_err-serve_phases.ensures.failure.source (came-so p.0 _ _ p.2 is)) (λ is. c.in_err-serve_phases.ensures.failure.limit (came-so p.0 _ _ p.2 is))
     (subst (λ (w : code.World _). IsCutOff c.args.receipts (g.D.Digests.functions (digests_of w)) w.settings (requests_of w)
     (record { vault = g.V.Sink.held c.args.vault.now; vault_after = g.V.Sink.held c.serve_phases.new.vault; out = g.O.Sink.held c.args.out.now; out_after = g.O.Sink.held c.serve_phases.new.out }))
     c.in_ok-runner.ensures.world

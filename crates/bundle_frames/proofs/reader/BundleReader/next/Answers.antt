@@ -2,7 +2,7 @@ use Rattle.std.proofs.Common.{◌≡◌, ◌<◌, ℕ, Option, Some, Err, Ok, is
 use Rattle.std.specs.Prelude.{IsSomeAnd}
 use Rattle.lamport_clocks.specs.declared.header.Header.{Header}
 use Rattle.bundle_frames.specs.declared.coming.Next.TheVariants.{Frame, End}
-use Rattle.bundle_frames.specs.declared.coming.SourceStop.TheVariants.{InputLimit}
+use Rattle.fv_outside.specs.declared.failure.Failure.TheVariants.{InputLimit}
 use Rattle.bundle_frames.specs.Bundle.{IsFrame}
 use Rattle.bundle_frames.specs.Progress.{Progress, position}
 use Rattle.bundle_frames.specs.Extent.{IsDue}

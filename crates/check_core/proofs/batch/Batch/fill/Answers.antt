@@ -1,17 +1,17 @@
-use Rattle.std.proofs.Common.{◌≡◌, ◌<◌, ℕ, Result, Ok, Err, is_ok, true≢false, refl, ap, ◌∙◌, arith}
-use Rattle.bundle_frames.specs.declared.coming.SourceStop.{SourceStop}
-use Rattle.bundle_frames.specs.declared.coming.SourceStop.TheVariants as sources
+use Rattle.std.proofs.Common.{◌≡◌, ◌⊎◌, ◌<◌, ℕ, Result, Ok, Err, is_ok, true≢false, refl, ap, subst, ◌∙◌, arith}
+use Rattle.fv_outside.specs.declared.failure.Failure.{Failure}
+use Rattle.fv_outside.specs.declared.failure.Failure.TheVariants as failures
 use Rattle.bundle_frames.specs.Bundle.{IsFrame, Frame}
 use Rattle.bundle_frames.specs.Reading.{Reading}
 use Rattle.bundle_frames.proofs.ReadingLaws.{HasRead-then, ReadsAs-then, ReadsAs-kept, ReadsAs-back, near-then}
 use Rattle.base_words.specs.declared.memory.Memory.{Memory}
 use Rattle.check_core.specs.declared.batch.Filled.{Filled}
 use Rattle.check_core.specs.declared.batch.Filled.TheVariants.{Stopped}
-use Rattle.check_core.proofs.BatchLemmas.{bytes_kept, more_kept, all_kept, known_frame, known_bounded, no_header, frame_not_end, frame_keeps, end_keeps, end_adds_none, whole_not_end, stopped_not_end, stopped_not_whole, end_not_stopped, stop_is, handed_over, reads_frame, reads_none}
+use Rattle.check_core.proofs.BatchLemmas.{bytes_kept, more_kept, all_kept, known_frame, known_bounded, no_header, frame_not_end, frame_keeps, end_keeps, end_adds_none, whole_not_end, stopped_not_end, stopped_not_whole, end_not_stopped, stop_is, by_source, handed_over, reads_frame, reads_none}
 use Rattle.check_core.proofs.batch.Batch.fill.Goals as goal
 
 -- a batch that was read up to where reading stopped
-abbrev stopped : SourceStop → Result Filled Memory
+abbrev stopped : Failure → Result Filled Memory
 stopped stop = Ok (Stopped stop)
 
 pub returns-in-Err-clause-goes_on : goal.returns-in-Err-clause-goes_on
@@ -29,14 +29,14 @@ pub returns-in-Err-clause-having_read : goal.returns-in-Err-clause-having_read
 returns-in-Err-clause-having_read g c = λ other.
     let last = c.frames.invariant in
     let next = c.in-Err.ensures in
-    let apart = λ (is : c.in-Err.stop ≡ sources.InputLimit). other (ap stopped is) in
+    let apart = λ (is : c.in-Err.stop ≡ failures.InputLimit). other (ap stopped is) in
     HasRead-then _ _ _ _ _ _ last.having_read (next.took (λ is. apart cc)) (omega (arith, next.rises, last.rises))
 
 pub returns-in-Err-clause-limit : goal.returns-in-Err-clause-limit
 returns-in-Err-clause-limit g c = λ is.
     let last = c.frames.invariant in
     let next = c.in-Err.ensures in
-    let same = stop_is c.in-Err.stop sources.InputLimit is in
+    let same = stop_is c.in-Err.stop failures.InputLimit is in
     HasRead-then _ _ _ _ _ _ last.having_read (next.limit (ap Err same)) (omega (arith, next.rises, next.within, last.rises))
 
 pub returns-in-Err-clause-near : goal.returns-in-Err-clause-near
@@ -49,8 +49,16 @@ pub returns-in-Err-clause-beyond : goal.returns-in-Err-clause-beyond
 returns-in-Err-clause-beyond g c = λ is.
     let last = c.frames.invariant in
     let next = c.in-Err.ensures in
-    let same = stop_is c.in-Err.stop sources.InputLimit is in
+    let same = stop_is c.in-Err.stop failures.InputLimit is in
     ReadsAs-back (λ (end : ℕ). c.next.new.self.limit < end) _ _ _ _ _ last.having_read last.extent (next.beyond (ap Err same))
+
+pub returns-in-Err-clause-stopped : goal.returns-in-Err-clause-stopped
+returns-in-Err-clause-stopped g c = λ failure is.
+    let same = stop_is c.in-Err.stop failure is in
+    subst (λ (stop : Failure). (stop ≡ failures.ReadFault) ⊎ (stop ≡ failures.InputLimit)) same (by_source c.in-Err.stop c.in-Err.ensures.failure)
+
+pub returns-in-End-clause-stopped : goal.returns-in-End-clause-stopped
+returns-in-End-clause-stopped g c = λ failure is. absurd (stopped_not_end _ is)
 
 pub returns-in-Err-clause-whole : goal.returns-in-Err-clause-whole
 returns-in-Err-clause-whole g c = λ is. absurd (stopped_not_whole _ is)

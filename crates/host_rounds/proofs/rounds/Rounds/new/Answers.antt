@@ -18,7 +18,7 @@ pub returns-clause-keeps : goal.returns-clause-keeps
 returns-clause-keeps g c = λ functions.
     let header = c.args.header.now in
     let scheme = scheme_of functions header in
-    let first : header.first < 4294967296 = c.epochs_fit_32_bits.ensures.below in
+    let first : header.first < 4294967296 = c.a_number_of_32_bits_is_below.ensures.below in
     record {
       vault = record {
         bytes = header_text header;

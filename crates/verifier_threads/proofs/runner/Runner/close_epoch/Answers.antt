@@ -110,7 +110,7 @@ returns-in_err-settled-clause-cut_round g c = λ outputs behind held written fau
     held))
 
 pub returns-clause-cut_round : goal.returns-clause-cut_round
-returns-clause-cut_round g c = λ outputs behind held written fault. absurd (c.certify.ensures.stop fault)
+returns-clause-cut_round g c = λ outputs behind held written fault. absurd (c.certify.ensures.failure.vault fault)
 
 pub returns-clause-runs : goal.returns-clause-runs
 returns-clause-runs g c = λ outputs behind held written.
