@@ -179,18 +179,23 @@ module _ (stage : Stage) (least : ℕ) where
       (ap (λ (b : Bool). not b) (no_member (key_path key) (hot_paths stage.places) (λ member. is.cold (member-among _ (key_path key) member))))
       (le-leb least (stage.shard.touches (key_path key)) is.often))
 
+  -- Of so many numbers, those that pass are the keys that are promotable, where so many are the keys. The count is a variable,
+  -- since a list of all keys can't be computed.
+  passing_are_promotable : (many : ℕ) → many ≡ 2 ^ key_bits → ArePromotable stage (Some least) (filter (is_promotable stage least) (numbers_from 0 many))
+  passing_are_promotable many all = record {
+    rising = pairs-rising _ (passing_rise (is_promotable stage least) (numbers_from 0 many) (numbers_rise 0 many));
+    promotable = λ key. (
+      (λ among. let is = passing (is_promotable stage least) (numbers_from 0 many) key (among-member _ key among) in
+          test_says key (subst (λ (count : ℕ). key < count) all (omega (arith, number_below 0 many key is.0))) is.1),
+      (λ is. member-among _ key (pass_there (is_promotable stage least) (numbers_from 0 many) key
+          (number_there 0 many key (omega arith) (omega (arith, subst (λ (count : ℕ). key < count) (sym all) is.in_range))) (says_test key is))),
+    );
+  }
+
   -- the keys that are promotable to become hot
   keys_are_promotable : ArePromotable stage (Some least) (promotable_keys stage least)
   unfolding promotable_keys
-  keys_are_promotable = record {
-    rising = pairs-rising _ (passing_rise (is_promotable stage least) (numbers_from 0 (2 ^ key_bits)) (numbers_rise 0 (2 ^ key_bits)));
-    promotable = λ key. (
-      (λ among. let is = passing (is_promotable stage least) (numbers_from 0 (2 ^ key_bits)) key (among-member _ key among) in
-          test_says key (omega (arith, number_below 0 (2 ^ key_bits) key is.0)) is.1),
-      (λ is. member-among _ key (pass_there (is_promotable stage least) (numbers_from 0 (2 ^ key_bits)) key
-          (number_there 0 (2 ^ key_bits) key (omega arith) (omega (arith, is.in_range))) (says_test key is))),
-    );
-  }
+  keys_are_promotable = passing_are_promotable (2 ^ key_bits) refl
 
 -- The keys that are promotable, and no other, in their order.
 pub are_promotable : (stage : Stage) (threshold : Option ℕ) → ArePromotable stage threshold (promotable_in stage threshold)
