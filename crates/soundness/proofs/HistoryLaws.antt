@@ -8,6 +8,7 @@ use Rattle.std.proofs.lemmas.Bool.Decides.{nat_tests}
 use Rattle.lamport_clocks.specs.declared.header.Header.{Header}
 use Rattle.lamport_clocks.specs.declared.stamp.Stamp.{Stamp}
 use Rattle.lamport_clocks.specs.Reading.{Reading}
+use Rattle.lamport_clocks.specs.Clock.{opening_reading}
 use Rattle.log_codec.specs.declared.command.Command.{Command}
 use Rattle.stamp_order.specs.declared.moment.Moment.{Moment}
 use Rattle.stamp_order.specs.Moment.{is_before}
@@ -100,7 +101,7 @@ events-merged number index clock (event ∷ events) ticks = (
 pub timely-merged : (header : Header) (number : ℕ) (events : List Event) → IsTimely header number events
     → IsMerged event_moment events
 timely-merged header number events timely =
-    events-merged number 0 (opening number header).clock events timely.ticks
+    events-merged number 0 (opening_reading header.first header.end) events timely.ticks
 
 -- of the verifier, and of an epoch from the header's first on
 abbrev pub IsOfLog : ℕ → Header → Event → Type 0
@@ -110,9 +111,10 @@ IsOfLog number header event = (event.verifier ≡ number) × (header.first ≤ e
 pub timely-epochs : (header : Header) (number : ℕ) (events : List Event) → IsTimely header number events
     → AllByRecursion (IsOfLog number header) events
 timely-epochs header number events timely =
-    every-weaker (IsBehind number 0 (opening number header).clock.at) (IsOfLog number header)
-    (λ event behind. (behind.0, up_to-epoch (opening number header).clock.at event.at behind.2)) events
-    (every-behind number 0 (opening number header).clock events timely.ticks)
+    let clock = opening_reading header.first header.end in
+    every-weaker (IsBehind number 0 clock.at) (IsOfLog number header)
+    (λ event behind. (behind.0, up_to-epoch clock.at event.at behind.2)) events
+    (every-behind number 0 clock events timely.ticks)
 
 -- Each is the verifier's.
 pub timely-whose : (header : Header) (number : ℕ) (events : List Event) → IsTimely header number events

@@ -5,10 +5,9 @@ use Rattle.std.specs.List.{AllByRecursion}
 use Rattle.lamport_clocks.specs.declared.header.Header.{Header}
 use Rattle.log_codec.specs.declared.command.Command.{Command}
 use Rattle.merkle_records.specs.Scheme.{Scheme}
-use Rattle.verifier_commands.specs.State.{opening}
 use Rattle.verifier_commands.specs.Machine.{opening_machine}
 use Rattle.soundness.specs.History.{log_events, histories_from}
-use Rattle.soundness.specs.Showing.{shown_by}
+use Rattle.soundness.specs.Showing.{opening_shown}
 use Rattle.soundness.specs.Typed.{IsTyped}
 use Rattle.soundness.specs.IsHistory.{IsTimely, AreTimely, IsHistory, AreHistories}
 use Rattle.soundness.proofs.LawfulLemmas.{log_run, opening-distinct}
@@ -27,7 +26,7 @@ pub log_history : (scheme : Scheme) (header : Header) (number : ℕ) (commands :
     → IsHistory scheme.longest scheme.digest header number (log_events scheme header number commands)
 log_history scheme header number commands typed = record {
   timely = log_timely scheme header number commands;
-  chain = log_run scheme (opening_machine number header) (shown_by (opening number header)) commands (λ path. refl) typed
+  chain = log_run scheme (opening_machine number header) (opening_shown header number) commands (λ path. refl) typed
       (opening-distinct number header);
 }
 

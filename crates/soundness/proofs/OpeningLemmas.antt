@@ -12,9 +12,9 @@ use Rattle.merkle_records.specs.Merkle.{Digest}
 use Rattle.verifier_commands.specs.State.{root_entry}
 use Rattle.stamp_order.specs.Serial.{none_everywhere}
 use Rattle.soundness.specs.Clash.{none_evicted}
-use Rattle.soundness.specs.Showing.{showing}
+use Rattle.soundness.specs.Showing.{opening_shown, showing}
 use Rattle.soundness.specs.Spot.{Spot, untouched, cached, merkle, waiting, Spots, is_touched, pointer_at, home_of, Leads, Covers, IsKind, IsTree}
-use Rattle.soundness.specs.World.{opening_shown, cached_in, blob_at, IsWorld}
+use Rattle.soundness.specs.World.{cached_in, blob_at, IsWorld}
 use Rattle.soundness.proofs.LawfulLemmas.{opening_shown-root, opening_shown-other}
 use Rattle.soundness.proofs.WorldLemmas.{cached_elsewhere}
 

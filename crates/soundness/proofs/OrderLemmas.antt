@@ -8,12 +8,10 @@ use Rattle.merkle_records.specs.Merkle.{Digest}
 use Rattle.stamp_order.specs.Merged.{comes_before, IsMerged, up_to, of_verifier}
 use Rattle.stamp_order.proofs.InOrderLaws.{every-weaker, every-append, every-in_order}
 use Rattle.stamp_order.proofs.MergedLaws.{merged-sorts, merged-of_verifier}
-use Rattle.verifier_commands.specs.State.{opening}
 use Rattle.soundness.specs.History.{Event}
 use Rattle.soundness.specs.Certified.{event_moment, all_events, order_of, order_up_to}
-use Rattle.soundness.specs.Showing.{shown_by}
+use Rattle.soundness.specs.Showing.{opening_shown}
 use Rattle.soundness.specs.Timed.{IsTimed, AreTimed}
-use Rattle.soundness.specs.World.{opening_shown}
 use Rattle.soundness.specs.IsHistory.{IsChain, IsTimely, IsHistory, EachByNumber, AreTimely, AreHistories}
 use Rattle.soundness.proofs.RunLemmas.{IsRun, run_of_parts}
 use Rattle.soundness.proofs.HistoryLaws.{timely-merged, timely-whose}
@@ -196,7 +194,7 @@ module _ (header : Header) where
       let history = history_each (IsHistory longest digest header)
       (λ v. record { timely = record { ticks = tt; own = tt }; chain = tt }) 0 histories are in
       run_of_parts longest digest (opening_shown header) (order_up_to epoch histories)
-      (λ v. subst (IsChain longest digest (shown_by (opening v header))) (sym (part_up_to histories timely epoch v))
+      (λ v. subst (IsChain longest digest (opening_shown header v)) (sym (part_up_to histories timely epoch v))
       (chain_up_to longest digest header v epoch (history_of 0 histories v) (history v)))
 
   -- The elements of all events in the merged order are timed.

@@ -9,7 +9,7 @@ use Rattle.lamport_clocks.specs.declared.header.Header.{Header}
 use Rattle.lamport_clocks.specs.declared.stamp.Stamp.{Stamp}
 use Rattle.lamport_clocks.specs.Stamp.{IsLater}
 use Rattle.lamport_clocks.specs.Reading.{Reading}
-use Rattle.lamport_clocks.specs.Clock.{received, sent, advanced}
+use Rattle.lamport_clocks.specs.Clock.{opening_reading, received, sent, advanced}
 use Rattle.base_words.proofs.StepLaws.{test-ok}
 use Rattle.lamport_clocks.proofs.StampLaws.{IsLater-cmp}
 use Rattle.lamport_clocks.proofs.ClockLaws.{sent-above, sent-at}
@@ -191,7 +191,7 @@ rising_ticking number index clock (event ∷ events) ticks =
 pub timely_rising : (header : Header) (number : ℕ) (events : List Event) → IsTimely header number events
     → IsRising (evicted_among events)
 timely_rising header number events timely =
-    rising_ticking number 0 (opening number header).clock events timely.ticks
+    rising_ticking number 0 (opening_reading header.first header.end) events timely.ticks
 
 -- And so those do that a log evicts.
 pub log_rising : (scheme : Scheme) (header : Header) (number : ℕ) (commands : List Command)

@@ -24,7 +24,8 @@ use Rattle.soundness.specs.IsHistory.{AreHistories}
 use Rattle.soundness.specs.Sound.{AreBalanced, IsSerialOrCollides}
 use Rattle.soundness.specs.Permutation.{count_of}
 use Rattle.soundness.specs.Spot.{untouched, waiting}
-use Rattle.soundness.specs.World.{IsWaiting, opening_shown}
+use Rattle.soundness.specs.Showing.{opening_shown}
+use Rattle.soundness.specs.World.{IsWaiting}
 use Rattle.soundness.proofs.JoinLemmas.{not_waiting}
 use Rattle.soundness.proofs.KnownLemmas.{HasOneText}
 use Rattle.soundness.proofs.PermutationLaws.{count_permuted}

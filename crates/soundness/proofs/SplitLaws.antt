@@ -10,10 +10,9 @@ use Rattle.stamp_order.specs.Moment.{is_before}
 use Rattle.stamp_order.specs.Merged.{comes_before, IsMerged, up_to}
 use Rattle.stamp_order.proofs.InOrderLaws.{every-weaker}
 use Rattle.stamp_order.proofs.MomentLaws.{is_before-epoch}
-use Rattle.verifier_commands.specs.State.{opening}
 use Rattle.soundness.specs.History.{Event}
 use Rattle.soundness.specs.Certified.{event_moment}
-use Rattle.soundness.specs.Showing.{shown_by}
+use Rattle.soundness.specs.Showing.{opening_shown}
 use Rattle.soundness.specs.IsHistory.{IsChain, IsHistory}
 use Rattle.soundness.proofs.HistoryLaws.{timely-merged}
 use Rattle.soundness.proofs.RunLemmas.{chain_front}
@@ -64,8 +63,8 @@ module _ {X : Type 0} (at : X → Moment) where
 -- The events of a history in the epochs up to one are a chain.
 pub chain_up_to : (longest : ℕ) (digest : Digest) (header : Header) (number epoch : ℕ) (events : List Event)
     → IsHistory longest digest header number events
-    → IsChain longest digest (shown_by (opening number header)) (up_to event_moment epoch events)
+    → IsChain longest digest (opening_shown header number) (up_to event_moment epoch events)
 chain_up_to longest digest header number epoch events history =
     let split = split_up_to event_moment epoch events (timely-merged header number events history.timely) in
-    chain_front longest digest (shown_by (opening number header)) (up_to event_moment epoch events) split.0
-    (subst (IsChain longest digest (shown_by (opening number header))) split.1 history.chain)
+    chain_front longest digest (opening_shown header number) (up_to event_moment epoch events) split.0
+    (subst (IsChain longest digest (opening_shown header number)) split.1 history.chain)

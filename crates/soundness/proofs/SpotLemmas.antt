@@ -16,10 +16,10 @@ use Rattle.soundness.specs.History.{Event}
 use Rattle.soundness.specs.Certified.{order_of, order_up_to, operations_by, operations_in}
 use Rattle.soundness.specs.Clash.{LastEvicted, Strings, none_evicted, last_evicted_after, clash_of, first_clash}
 use Rattle.soundness.specs.Scheduled.{IsScheduledBy, IsScheduled, ArePermuted}
-use Rattle.soundness.specs.Showing.{Shown, HasDone, shown_after, IsFresh}
+use Rattle.soundness.specs.Showing.{Shown, opening_shown, HasDone, shown_after, IsFresh}
 use Rattle.soundness.specs.IsHistory.{AreHistories}
 use Rattle.soundness.specs.Spot.{waiting, Spots}
-use Rattle.soundness.specs.World.{AllShown, with_shown, Stored, IsWorld, IsWaiting, opening_shown, shown_behind, changes_in, last_evicted_behind, pending_after, pending_behind, stored_behind, IsBehind, HaveSpots, TakesFromSpots}
+use Rattle.soundness.specs.World.{AllShown, with_shown, Stored, IsWorld, IsWaiting, shown_behind, changes_in, last_evicted_behind, pending_after, pending_behind, stored_behind, IsBehind, HaveSpots, TakesFromSpots}
 use Rattle.soundness.proofs.KnownLemmas.{HasOneText, Clashes, Passes, join_step}
 use Rattle.soundness.proofs.LeaveLemmas.{LeftAt, leave_step, defer_step}
 use Rattle.soundness.proofs.SingleLemmas.{come_step, go_step, same_step, write_step}

@@ -4,11 +4,10 @@ use Rattle.std.specs.Ordering.{is_lt}
 use Rattle.lamport_clocks.specs.declared.header.Header.{Header}
 use Rattle.lamport_clocks.specs.declared.stamp.Stamp.{Stamp}
 use Rattle.lamport_clocks.specs.Reading.{Reading}
-use Rattle.lamport_clocks.specs.Clock.{received}
+use Rattle.lamport_clocks.specs.Clock.{received, opening_reading}
 use Rattle.lamport_clocks.proofs.StampLaws.{IsLater-cmp}
 use Rattle.lamport_clocks.proofs.ClockLaws.{open_epochs, received-ok, received-above, sent-at}
 use Rattle.record_text.specs.declared.element.Element.{Element}
-use Rattle.verifier_commands.specs.State.{opening}
 use Rattle.verifier_commands.specs.Change.{Change, did_add_m, did_evict_m, did_add_b, did_evict_b, did_evict_bm, did_get, did_put, did_next_epoch}
 use Rattle.soundness.specs.History.{Event}
 use Rattle.soundness.specs.Timed.{IsOfBefore, IsTimed, AreTimed}
@@ -75,5 +74,5 @@ timed_ticking first number index clock (event ∷ events) from ticks = (
 pub timely_timed : (header : Header) (number : ℕ) (events : List Event) → IsTimely header number events
     → AreTimed header.first events
 timely_timed header number events timely =
-    timed_ticking header.first number 0 (opening number header).clock events
+    timed_ticking header.first number 0 (opening_reading header.first header.end) events
     (record { begins = refl; reached = omega arith }) timely.ticks

@@ -5,12 +5,12 @@ use Rattle.std.specs.Prelude.{◌≡◌, ℕ, suc, List, [], ◌∷◌}
 use Rattle.std.specs.List.{AllByRecursion}
 use Rattle.lamport_clocks.specs.declared.header.Header.{Header}
 use Rattle.lamport_clocks.specs.Reading.{Reading}
+use Rattle.lamport_clocks.specs.Clock.{opening_reading}
 use Rattle.merkle_records.specs.Merkle.{Digest}
-use Rattle.verifier_commands.specs.State.{opening}
 use Rattle.verifier_commands.specs.Ticks.{Ticks}
 use Rattle.soundness.specs.History.{Event}
 use Rattle.soundness.specs.Timed.{evicted_among}
-use Rattle.soundness.specs.Showing.{Shown, HasDone, IsFresh, shown_by, shown_after}
+use Rattle.soundness.specs.Showing.{Shown, opening_shown, HasDone, shown_after, IsFresh}
 
 -- Each event is of the verifier and of the next index, and the clock moved to where it shows with what was done.
 abbrev pub IsTicking : ℕ → ℕ → Reading → List Event → Type 0
@@ -34,13 +34,13 @@ IsChain longest digest shown (event ∷ events) =
 
 -- events of the verifier of this number, whose clock rises with them from the first epoch on, and which evicts its own
 pub record IsTimely (header : Header) (number : ℕ) (events : List Event) : Type 0 where
-  pub ticks : IsTicking number 0 (opening number header).clock events
+  pub ticks : IsTicking number 0 (opening_reading header.first header.end) events
   pub own : EvictsOwn number events
 
--- Timely events, each of which does what it tells, from what the verifier shows at the start.
+-- Timely events, each of which does what it tells, from what the verifier's cache shows at the start.
 pub record IsHistory (longest : ℕ) (digest : Digest) (header : Header) (number : ℕ) (events : List Event) : Type 0 where
   pub timely : IsTimely header number events
-  pub chain : IsChain longest digest (shown_by (opening number header)) events
+  pub chain : IsChain longest digest (opening_shown header number) events
 
 -- this holds of each list with the number of its verifier, the first of which is this number
 abbrev pub EachByNumber : (ℕ → List Event → Type 0) → ℕ → List (List Event) → Type 0

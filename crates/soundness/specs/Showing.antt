@@ -1,6 +1,7 @@
 -- What soundness knows of a step of a verifier: what its cache shows before and after, by what was done.
-use Rattle.std.specs.Prelude.{ℕ, ◌≡◌, Bool, false, List, Option, Some, None, IsNone, Ok, length, if◌then◌else◌}
+use Rattle.std.specs.Prelude.{◌≡◌, ℕ, Bool, false, List, Option, Some, None, IsNone, Ok, length, if◌then◌else◌}
 use Rattle.tree_keys.specs.Path.{same_path, IsData}
+use Rattle.lamport_clocks.specs.declared.header.Header.{Header}
 use Rattle.record_text.specs.declared.value.Value.{Value}
 use Rattle.record_text.specs.declared.element.Element.{Element}
 use Rattle.record_text.specs.Value.{IsOf}
@@ -10,6 +11,7 @@ use Rattle.verifier_cache.specs.declared.entry.Hold.TheVariants.{B}
 use Rattle.verifier_cache.specs.Entry.{has_kid, new_entry, with_value}
 use Rattle.verifier_cache.specs.Cache.{entry_of}
 use Rattle.verifier_commands.specs.declared.state.State.{State}
+use Rattle.verifier_commands.specs.State.{opening}
 use Rattle.verifier_commands.specs.Changes.{add_under, evict_under, defer_under}
 use Rattle.verifier_commands.specs.Change.{Change, did_add_m, did_evict_m, did_add_b, did_evict_b, did_evict_bm, did_get, did_put, did_next_epoch}
 
@@ -20,6 +22,10 @@ Shown = List Bool → Option Entry
 -- what the cache of a state shows
 abbrev pub shown_by : State → Shown
 shown_by state = λ path. entry_of path state.cache.entries
+
+-- what the cache of each verifier shows at the start
+abbrev pub opening_shown : Header → ℕ → Shown
+opening_shown header = λ number. shown_by (opening number header)
 
 -- with this entry of a path, or none
 abbrev pub showing : Shown → List Bool → Option Entry → Shown

@@ -11,7 +11,6 @@ use Rattle.record_text.specs.Longest.{longest_of}
 use Rattle.merkle_records.specs.Merkle.{Digest}
 use Rattle.stamp_order.specs.Serial.{none_everywhere, map_after}
 use Rattle.verifier_cache.specs.declared.entry.Entry.{Entry}
-use Rattle.verifier_commands.specs.State.{opening}
 use Rattle.verifier_commands.specs.Outcome.{blob_of}
 use Rattle.verifier_commands.specs.Change.{Change, did_add_m, did_evict_m, did_add_b, did_evict_b, did_evict_bm, did_get, did_put, did_next_epoch}
 use Rattle.soundness.specs.History.{Event}
@@ -19,7 +18,7 @@ use Rattle.soundness.specs.Certified.{operations_in}
 use Rattle.soundness.specs.Clash.{LastEvicted, none_evicted, last_evicted_after}
 use Rattle.soundness.specs.Timed.{added_among, evicted_among}
 use Rattle.soundness.specs.Permutation.{count_of, without_one}
-use Rattle.soundness.specs.Showing.{Shown, shown_by, shown_after}
+use Rattle.soundness.specs.Showing.{Shown, opening_shown, shown_after}
 use Rattle.soundness.specs.Spot.{Spot, untouched, cached, merkle, waiting, Spots, value_at, IsTree}
 
 -- ---- what a spot shows
@@ -70,10 +69,6 @@ pub record IsWaiting (spots : Spots) (pending : List Element) : Type 0 where
   pub only : (path : List Bool) (x : Element) → spots path ≡ waiting x → 1 ≤ count_of x pending
 
 -- ---- what events leave
-
--- what each verifier's cache shows at the start
-abbrev pub opening_shown : Header → AllShown
-opening_shown header = λ number. shown_by (opening number header)
 
 -- what each verifier's cache shows behind events
 abbrev pub shown_behind : AllShown → List Event → AllShown

@@ -50,7 +50,7 @@ pub fn certified_is_serial_or_collides()
 {}
 
 /// The events of a log are timely, whatever its commands, and a history where the value that each brings in is of
-/// its path's kind. This is all that is owed of the commands of a log: every other law here is of histories.
+/// its path's kind. The laws on histories ask nothing more of commands.
 pub fn logs_have_histories()
     ensures own { (functions : DigestFunctions) (header : Header)
         (number : ℕ) (commands : List Command)

@@ -8,8 +8,8 @@
 //! here: the laws hold for whatever functions these are, and what an attack would have to find is the exhibit.
 //!
 //! The laws are of lists of histories, and know of no command: `IsHistory` says what is a history. That the
-//! events of a log are one is the only law on commands (`logs_have_histories`), so it is the only one that another
-//! version of the command format owes.
+//! events of a log are one is a law by itself (`logs_have_histories`), and all that another version of the
+//! command format owes.
 //!
 //! What makes it so is told by two laws more: behind each front of that order that shows no clash, each path
 //! has one spot, and each add takes what is there.
