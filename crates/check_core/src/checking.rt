@@ -81,10 +81,7 @@ fn check_bundle<R: Threads + Sync, D: Digests + Sync, S: Source, O: Sink>(
     ensures vault { result ≢ Err Failure.VaultFault }
 {
     let mut reader = BundleReader::new(alloc, limit)?;
-    let next = match reader.next(source) {
-        Ok(next) => next,
-        Err(stop) => return Err(stop),
-    };
+    let next = reader.next(source)?;
     match next {
         Next::Head(header) => check_frames(
             rt,

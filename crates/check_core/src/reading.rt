@@ -37,10 +37,7 @@ pub fn read_bundle<S: Source>(alloc: Global, limit: u64, source: &mut S) -> Resu
         bad: None,
     };
     'frames: loop {
-        let next = match reader.next(source) {
-            Ok(next) => next,
-            Err(stop) => return Err(stop),
-        };
+        let next = reader.next(source)?;
         let more = join(alloc, &mut intake, next, reader.body())?;
         if !more {
             break;

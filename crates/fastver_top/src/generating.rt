@@ -48,6 +48,7 @@ pub fn serve_generated<
     };
     match serve(rt, alloc, d, words, &requests, gate, vault, out) {
         Ok(end) => end.status(),
+        // Nothing is read, so there is no limit.
         Err(failure) => Status::of_failure(failure, 0),
     }
 }

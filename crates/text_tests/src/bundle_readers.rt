@@ -48,6 +48,7 @@ fn words_of(rt: &impl Abort, alloc: Global, limit: u64, source: &mut MemorySourc
                 words.push_str("limit").expect(rt, "memory");
                 return words;
             }
+            Err(_) => panic!(rt; "no failure of the source"),
         };
         let more = write_next(rt, alloc, &mut words, next, reader.body());
         if !more {

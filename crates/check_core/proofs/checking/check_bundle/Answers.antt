@@ -1,4 +1,5 @@
 use Rattle.std.proofs.Common.{◌≡◌, ◌+◌, ◌-◌, ℕ, Option, None, Result, Ok, Err, is_ok, true≢false, refl, sym, ◌∙◌, ap, subst, arith}
+use Rattle.std.proofs.lemmas.Result.{err_from_is_err_and}
 use Rattle.std.specs.Prelude.{IsSomeAnd}
 use Rattle.lamport_clocks.specs.declared.header.Header.{Header}
 use Rattle.bundle_frames.specs.declared.coming.Next.{Next}
@@ -7,6 +8,7 @@ use Rattle.fv_outside.specs.declared.failure.Failure.TheVariants.{ReadFault, Inp
 use Rattle.bundle_frames.specs.Extent.{reading_end}
 use Rattle.bundle_frames.specs.Reading.{Reading, end_ahead, next_then, header_then}
 use Rattle.bundle_frames.proofs.ReadingLaws.{HasRead-then, TookAtMost-from_read, TookJust-from_read, stops_near, took_to_end}
+use Rattle.report_text.specs.Ending.{failure_status}
 use Rattle.report_text.specs.Answer.{Reading as ReadBy, Writing, AnswersTo}
 use Rattle.bundle_report.specs.Logs.{empty_logs}
 use Rattle.bundle_report.specs.Answer.{check_answer}
@@ -25,8 +27,9 @@ no_frame P known none frame = subst (λ (h : Option Header). IsSomeAnd h P) none
 fault_no_limit : (r : Result Next Failure) (stop : Failure) → r ≡ Err stop → stop ≡ ReadFault → r ≡ Err InputLimit → ⊥
 fault_no_limit r stop is fault limit = cc
 
-pub returns-in-Err-clause-answers : goal.returns-in-Err-clause-answers
-returns-in-Err-clause-answers g c =
+pub returns-in_err-next-clause-answers : goal.returns-in_err-next-clause-answers
+returns-in_err-next-clause-answers g c =
+    let p = err_from_is_err_and c.from_residual-in_err-next.result c.from_residual-in_err-next.ensures.1 in
     let functions = g.D.Digests.functions c.args.d.now in
     let limit = c.args.limit in
     let left = g.S.Source.left c.args.source.now in
@@ -34,7 +37,7 @@ returns-in-Err-clause-answers g c =
     let faults = g.S.Source.faults c.args.source.now in
     let old = c.in_ok-reader.reader in
     let new = c.next.new.self in
-    let next = c.in-Err.ensures in
+    let next = c.in_err-next.ensures in
     let opening = c.in_ok-reader.ensures.opening in
     let come = come_none limit left faults old opening in
     let same = next.same_limit ∙ ap (λ (r : Reading). r.limit) opening in
@@ -47,16 +50,18 @@ returns-in-Err-clause-answers g c =
     } in
     let sum : new.taken ≡ old.taken + (new.taken - old.taken) = omega (arith, next.rises) in
     let sum' : limit + 1 ≡ old.taken + (new.limit + 1 - old.taken) = omega (arith, next.rises, next.within, same) in
-    cut_answers c.args.receipts functions limit left left_then faults (g.S.Source.faults c.next.new.source) new wrote c.in-Err.stop
-    (took_first limit left left left_then faults faults _ old new come next.rises same next.within next.near (Err c.in-Err.stop) c.in-Err.stop refl next.took next.limit next.full next.beyond)
+    rw p.1
+    (subst (λ (failure : Failure). AnswersTo (check_answer c.args.receipts functions) reading_end limit (failure_status limit failure) read wrote) (sym p.2)
+    (cut_answers c.args.receipts functions limit left left_then faults (g.S.Source.faults c.next.new.source) new wrote c.in_err-next.field-0.0
+    (took_first limit left left left_then faults faults _ old new come next.rises same next.within next.near (Err c.in_err-next.field-0.0) c.in_err-next.field-0.0 refl next.took next.limit next.full next.beyond)
     (due_none c.args.receipts functions limit left left_then faults (g.S.Source.faults c.next.new.source) new
-    (means_none limit left faults old new opening next.rises (Err c.in-Err.stop) (λ rest. refl) next.means next.header)
+    (means_none limit left faults old new opening next.rises (Err c.in_err-next.field-0.0) (λ rest. refl) next.means next.header)
     (next.stopped.no_header ∙ next.header ∙ ap (λ (r : Reading). r.progress.header) opening) wrote refl)
     (λ is. next.fault (ap Err is))
-    (λ is. TookAtMost-from_read new.taken limit _ _ (HasRead-then _ _ _ _ _ _ come.having_read (next.took (fault_no_limit (Err c.in-Err.stop) c.in-Err.stop refl is)) sum) (omega (arith, next.within, same)))
+    (λ is. TookAtMost-from_read new.taken limit _ _ (HasRead-then _ _ _ _ _ _ come.having_read (next.took (fault_no_limit (Err c.in_err-next.field-0.0) c.in_err-next.field-0.0 refl is)) sum) (omega (arith, next.within, same)))
     (λ is. TookJust-from_read (limit + 1) _ _ (HasRead-then _ _ _ _ _ _ come.having_read (next.limit (ap Err is)) sum'))
     (λ is. ends_behind limit left left left_then faults faults _ old new come next.rises same next.within next.near (next.beyond (ap Err is)))
-    (by_source c.in-Err.stop next.failure)
+    (by_source c.in_err-next.field-0.0 next.failure)))
 
 pub returns-in-Head-clause-answers : goal.returns-in-Head-clause-answers
 returns-in-Head-clause-answers g c =
@@ -66,7 +71,7 @@ returns-in-Head-clause-answers g c =
     let faults = g.S.Source.faults c.args.source.now in
     let old = c.in_ok-reader.reader in
     let new = c.next.new.self in
-    let next = c.in-Ok.ensures in
+    let next = c.in_ok-next.ensures in
     let opening = c.in_ok-reader.ensures.opening in
     let come = come_none limit left faults old opening in
     let same = next.same_limit ∙ ap (λ (r : Reading). r.limit) opening in
@@ -81,11 +86,11 @@ returns-in-Head-clause-answers g c =
     (c.check_frames.ensures.answers left faults
     (come-more left left faults faults _ old new come next.rises (empty_logs c.in-Head.header.verifiers) _ _
     (next.took (λ is. true≢false (ap is_ok is)))
-    (means_header limit left faults old new opening next.rises c.in-Ok.next c.in-Head.header c.in-Head.is next.means next.header (λ verifier is. next.frame verifier (ap Ok is)))
+    (means_header limit left faults old new opening next.rises c.in_ok-next.next c.in-Head.header c.in-Head.is next.means next.header (λ verifier is. next.frame verifier (ap Ok is)))
     next.extent next.near next.never_falls))
 
 pub returns-in-Frame : goal.returns-in-Frame
-returns-in-Frame g c = absurd (no_frame _ _ (ap (λ (r : Reading). r.progress.header) c.in_ok-reader.ensures.opening) (c.in-Ok.ensures.frame _ (ap Ok c.in-Frame.is)))
+returns-in-Frame g c = absurd (no_frame _ _ (ap (λ (r : Reading). r.progress.header) c.in_ok-reader.ensures.opening) (c.in_ok-next.ensures.frame _ (ap Ok c.in-Frame.is)))
 
 pub returns-clause-answers : goal.returns-clause-answers
 returns-clause-answers g c =
@@ -96,7 +101,7 @@ returns-clause-answers g c =
     let faults = g.S.Source.faults c.args.source.now in
     let old = c.in_ok-reader.reader in
     let new = c.next.new.self in
-    let next = c.in-Ok.ensures in
+    let next = c.in_ok-next.ensures in
     let opening = c.in_ok-reader.ensures.opening in
     let come = come_none limit left faults old opening in
     let same = next.same_limit ∙ ap (λ (r : Reading). r.limit) opening in
@@ -111,7 +116,7 @@ returns-clause-answers g c =
       faults_after = g.O.Sink.faults c.write_bad_header-in-End.new.out;
     } in
     bad_answers c.args.receipts functions limit left left_then faults (g.S.Source.faults c.next.new.source) new
-    (means_none limit left faults old new opening next.rises (Ok c.in-Ok.next) (λ rest. ap (λ (n : Next). next_then (Ok n) new.progress.body rest) c.in-End.is) next.means known)
+    (means_none limit left faults old new opening next.rises (Ok c.in_ok-next.next) (λ rest. ap (λ (n : Next). next_then (Ok n) new.progress.body rest) c.in-End.is) next.means known)
     ((next.ended ends).no_header ∙ known ∙ ap (λ (r : Reading). r.progress.header) opening) wrote
     c.write_bad_header-in-End.result c.write_bad_header-in-End.ensures.so c.write_bad_header-in-End.ensures.whole c.write_bad_header-in-End.ensures.front
     c.write_bad_header-in-End.ensures.write_fault having_read (omega (arith, next.within, same)) (next.end ends)
