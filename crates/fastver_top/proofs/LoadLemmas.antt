@@ -24,10 +24,9 @@ use Rattle.fv_outside.specs.declared.failure.Failure.{Failure}
 use Rattle.fv_outside.specs.declared.failure.Failure.TheVariants as failures
 use Rattle.verifier_threads.specs.declared.ending.RunEnd.{RunEnd}
 use Rattle.verifier_threads.specs.declared.ending.RunEnd.TheVariants as ends
-use Rattle.verifier_threads.specs.Serving.{Outputs, status_at}
-use Rattle.verifier_threads.specs.Summing.{IsCutBefore, IsCutInSummary, SumsTo}
+use Rattle.verifier_threads.specs.Serving.{Outputs, IsCutOff, IsCutAtEnd, ServesTo, status_at}
 use Rattle.fastver_top.specs.Running.{settings_for, Keeping, outputs_of, IsNamedFor, IsUntouched}
-use Rattle.fastver_top.specs.Generating.{shape_for, script_for, load_for, GensTo}
+use Rattle.fastver_top.specs.Generating.{shape_for, script_for, account_for, GensTo}
 
 -- ---- what a load asks
 
@@ -141,7 +140,7 @@ module _ (functions : DigestFunctions) (words : GenWords) (writing : Writing) (k
   own_outputs = outputs_of writing keeping
 
   -- memory was wanting
-  pub gens-memory : IsUntouched keeping.name keeping.name_after own_outputs ⊎ IsCutBefore functions (settings_for words.numbers) (script_for words) own_outputs
+  pub gens-memory : IsUntouched keeping.name keeping.name_after own_outputs ⊎ IsCutOff (account_for words.load) functions (settings_for words.numbers) (script_for words) own_outputs
       → IsNamedFor words.logs keeping.name keeping.name_after ⊎ IsUntouched keeping.name keeping.name_after own_outputs
       → GensTo functions words statuses.Memory writing keeping
   gens-memory before named = record {
@@ -163,7 +162,7 @@ module _ (functions : DigestFunctions) (words : GenWords) (writing : Writing) (k
   gens-nothing untouched = gens-memory (inl untouched) (inr untouched)
 
   -- the vault failed
-  gens-vault_fault : IsCutBefore functions (settings_for words.numbers) (script_for words) own_outputs
+  gens-vault_fault : IsCutOff (account_for words.load) functions (settings_for words.numbers) (script_for words) own_outputs
       → IsNamedFor words.logs keeping.name keeping.name_after ⊎ IsUntouched keeping.name keeping.name_after own_outputs
       → Rose keeping.faults keeping.faults_after → GensTo functions words statuses.VaultFault writing keeping
   gens-vault_fault before named rose = record {
@@ -181,7 +180,7 @@ module _ (functions : DigestFunctions) (words : GenWords) (writing : Writing) (k
       not_end (inr is) = cc
 
   -- the sink failed
-  gens-write_fault : IsCutInSummary functions (settings_for words.numbers) (script_for words) (load_for words.load) own_outputs
+  gens-write_fault : IsCutAtEnd (account_for words.load) functions (settings_for words.numbers) (script_for words) own_outputs
       → IsNamedFor words.logs keeping.name keeping.name_after → Rose writing.faults writing.faults_after
       → GensTo functions words statuses.WriteFault writing keeping
   gens-write_fault cut named rose = record {
@@ -199,7 +198,7 @@ module _ (functions : DigestFunctions) (words : GenWords) (writing : Writing) (k
       neither (inr is) = cc
 
   -- it was not served to its end
-  pub gens-stopped : (stop : Failure) → SumsTo functions (settings_for words.numbers) (script_for words) (load_for words.load) (Err stop) own_outputs
+  pub gens-stopped : (stop : Failure) → ServesTo (account_for words.load) functions (settings_for words.numbers) (script_for words) (Err stop) own_outputs
       → ((stop ≡ failures.VaultFault → ⊥) → IsNamedFor words.logs keeping.name keeping.name_after)
       → IsNamedFor words.logs keeping.name keeping.name_after ⊎ IsUntouched keeping.name keeping.name_after own_outputs
       → (stop ≡ failures.VaultFault → Rose keeping.faults keeping.faults_after) → (stop ≡ failures.WriteFault → Rose writing.faults writing.faults_after)
@@ -207,11 +206,11 @@ module _ (functions : DigestFunctions) (words : GenWords) (writing : Writing) (k
   gens-stopped failures.Memory sums named first vault out = gens-memory (inr sums) first
   gens-stopped failures.ReadFault sums named first vault out = absurd sums
   gens-stopped failures.InputLimit sums named first vault out = absurd sums
-  gens-stopped failures.VaultFault sums named first vault out = gens-vault_fault sums first (vault refl)
+  gens-stopped failures.VaultFault sums named first vault out = gens-vault_fault sums.0 first (vault refl)
   gens-stopped failures.WriteFault sums named first vault out = gens-write_fault sums (named (λ is. cc)) (out refl)
 
   -- it was
-  pub gens-served : (end : RunEnd) → SumsTo functions (settings_for words.numbers) (script_for words) (load_for words.load) (Ok end) own_outputs
+  pub gens-served : (end : RunEnd) → ServesTo (account_for words.load) functions (settings_for words.numbers) (script_for words) (Ok end) own_outputs
       → IsNamedFor words.logs keeping.name keeping.name_after → GensTo functions words (status_at end) writing keeping
   gens-served (ends.Done epochs) sums named = record {
     summed = λ _. record { end = ends.Done epochs; is = refl; summed = sums };

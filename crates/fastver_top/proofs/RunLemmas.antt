@@ -21,6 +21,7 @@ use Rattle.host_world.specs.declared.settings.Settings.{Settings}
 use Rattle.fv_outside.specs.declared.failure.Failure.{Failure}
 use Rattle.host_rounds.specs.SoFar.{lines_due, end_due}
 use Rattle.host_rounds.proofs.RoundLaws.{bundle-due, bundle-end, bundle-text}
+use Rattle.verifier_threads.specs.declared.accounts.Account.TheVariants as accounts
 use Rattle.verifier_threads.specs.declared.ending.RunEnd.{RunEnd}
 use Rattle.verifier_threads.specs.declared.ending.RunEnd.TheVariants as ends
 use Rattle.verifier_threads.specs.InRounds.{Logs}
@@ -33,7 +34,7 @@ use Rattle.fastver_top.specs.Running.{HasScript, HasBadLine, ReadsScript, script
 
 module _ (receipts : Bool) (functions : DigestFunctions) (settings : Settings) (script : List (List Task)) (outputs : Outputs) where
   -- the lines that were written
-  pub due-by-check : (end : RunEnd) → IsServed receipts functions settings script end outputs → IsDueByCheck receipts functions (status_at end) outputs
+  pub due-by-check : (end : RunEnd) → IsServed (accounts.Report receipts) functions settings script end outputs → IsDueByCheck receipts functions (status_at end) outputs
   due-by-check end served = record {
     bytes = served.vault.bytes;
     vault = served.vault.grown;
@@ -49,7 +50,7 @@ module _ (receipts : Bool) (functions : DigestFunctions) (settings : Settings) (
   -- the same text and status, where all is done
   pub answer-of-check : ((rounds : List Logs) (logs : Logs) → AreOfRun functions settings script rounds logs None
       → end_due functions settings.header (texts_of logs) ≡ bundles.Done (length script))
-      → (end : RunEnd) (epochs : ℕ) → status_at end ≡ statuses.Done epochs → IsServed receipts functions settings script end outputs
+      → (end : RunEnd) (epochs : ℕ) → status_at end ≡ statuses.Done epochs → IsServed (accounts.Report receipts) functions settings script end outputs
       → IsAnswerOfCheck receipts functions (status_at end) outputs
   answer-of-check law end epochs done served =
       let none : served.end ≡ None = none-ended served.end (length script) epochs (sym (ap status_at served.is) ∙ done) in
@@ -188,8 +189,8 @@ module _ (functions : DigestFunctions) (run : RunWords) (most : ℕ) (reading : 
 
   -- the vault failed
   pub runs-vault_fault : (script : List (List Task)) → HasScript run.numbers.verifiers reading script → TookAtMost most reading.left reading.left_after
-      → IsCutOff run.receipts functions (settings_for run.numbers) script (outputs_of writing keeping)
-      → IsCutByVault run.receipts functions (settings_for run.numbers) script (outputs_of writing keeping)
+      → IsCutOff (accounts.Report run.receipts) functions (settings_for run.numbers) script (outputs_of writing keeping)
+      → IsCutByVault (accounts.Report run.receipts) functions (settings_for run.numbers) script (outputs_of writing keeping)
       → IsNamedFor run.logs keeping.name keeping.name_after ⊎ IsUntouched keeping.name keeping.name_after (outputs_of writing keeping)
       → Rose keeping.faults keeping.faults_after
       → RunsTo functions run most statuses.VaultFault reading writing keeping
@@ -217,8 +218,8 @@ module _ (functions : DigestFunctions) (run : RunWords) (most : ℕ) (reading : 
 
   -- the sink failed
   pub runs-write_fault : (script : List (List Task)) → HasScript run.numbers.verifiers reading script → TookAtMost most reading.left reading.left_after
-      → IsCutOff run.receipts functions (settings_for run.numbers) script (outputs_of writing keeping)
-      ⊎ IsCutAtEnd run.receipts functions (settings_for run.numbers) script (outputs_of writing keeping)
+      → IsCutOff (accounts.Report run.receipts) functions (settings_for run.numbers) script (outputs_of writing keeping)
+      ⊎ IsCutAtEnd (accounts.Report run.receipts) functions (settings_for run.numbers) script (outputs_of writing keeping)
       → IsNamedFor run.logs keeping.name keeping.name_after → Rose writing.faults writing.faults_after
       → RunsTo functions run most statuses.WriteFault reading writing keeping
   runs-write_fault script read within cut named rose = record {
@@ -288,7 +289,7 @@ module _ (functions : DigestFunctions) (run : RunWords) (most : ℕ) (reading : 
 
   module _ (script : List (List Task)) (read : ReadsScript run.numbers.verifiers most (Ok script) reading) where
     -- it was not served to its end
-    pub runs-stopped : (stop : Failure) → ServesTo run.receipts functions (settings_for run.numbers) script (Err stop) (outputs_of writing keeping)
+    pub runs-stopped : (stop : Failure) → ServesTo (accounts.Report run.receipts) functions (settings_for run.numbers) script (Err stop) (outputs_of writing keeping)
         → ((stop ≡ failures.VaultFault → ⊥) → IsNamedFor run.logs keeping.name keeping.name_after)
         → IsNamedFor run.logs keeping.name keeping.name_after ⊎ IsUntouched keeping.name keeping.name_after (outputs_of writing keeping)
         → (stop ≡ failures.VaultFault → Rose keeping.faults keeping.faults_after) → (stop ≡ failures.WriteFault → Rose writing.faults writing.faults_after)
@@ -302,7 +303,7 @@ module _ (functions : DigestFunctions) (run : RunWords) (most : ℕ) (reading : 
     -- it was
     pub runs-served : ((rounds : List Logs) (logs : Logs) → AreOfRun functions (settings_for run.numbers) script rounds logs None
         → end_due functions (settings_for run.numbers).header (texts_of logs) ≡ bundles.Done (length script))
-        → (end : RunEnd) → ServesTo run.receipts functions (settings_for run.numbers) script (Ok end) (outputs_of writing keeping)
+        → (end : RunEnd) → ServesTo (accounts.Report run.receipts) functions (settings_for run.numbers) script (Ok end) (outputs_of writing keeping)
         → IsNamedFor run.logs keeping.name keeping.name_after → RunsTo functions run most (status_at end) reading writing keeping
     runs-served law end served named =
         runs-end (status_at end) (is_end end) (is_behind end) (record { script = script; read = read.script; end = end; is = refl; served = served })

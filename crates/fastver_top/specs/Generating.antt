@@ -10,10 +10,11 @@ use Rattle.report_text.specs.Answer.{IsEnd, Writing}
 use Rattle.script_text.specs.declared.shape.Shape.{Shape}
 use Rattle.script_text.specs.declared.task.Task.{Task}
 use Rattle.script_text.specs.Generator.{generated}
+use Rattle.verifier_threads.specs.declared.accounts.Account.{Account}
+use Rattle.verifier_threads.specs.declared.accounts.Account.TheVariants as accounts
 use Rattle.verifier_threads.specs.declared.ending.RunEnd.{RunEnd}
 use Rattle.verifier_threads.specs.declared.loads.Load.{Load}
-use Rattle.verifier_threads.specs.Serving.{Outputs, status_at}
-use Rattle.verifier_threads.specs.Summing.{IsSummed, IsCutBefore, IsCutInSummary}
+use Rattle.verifier_threads.specs.Serving.{Outputs, IsServed, IsCutOff, IsCutAtEnd, status_at}
 use Rattle.fastver_top.specs.Running.{settings_for, Keeping, outputs_of, IsNamedFor, IsUntouched}
 
 -- ---- which load
@@ -34,6 +35,10 @@ script_for words = generated words.load.seed (shape_for words)
 -- the load as its summary names it
 abbrev pub load_for : LoadNumbers → Load
 load_for numbers = record { seed = numbers.seed; ops = numbers.ops }
+
+-- what is written of it: its summary
+abbrev pub account_for : LoadNumbers → Account
+account_for numbers = accounts.Summary (load_for numbers)
 
 -- ---- how it ends
 
@@ -59,7 +64,7 @@ IsGenStatus (statuses.InputLimit taken) = ⊥
 pub record EndsSummed (functions : DigestFunctions) (words : GenWords) (result : Status) (outputs : Outputs) : Type 0 where
   pub end : RunEnd
   pub is : result ≡ status_at end
-  pub summed : IsSummed functions (settings_for words.numbers) (script_for words) (load_for words.load) end outputs
+  pub summed : IsServed (account_for words.load) functions (settings_for words.numbers) (script_for words) end outputs
 
 -- ---- the whole
 
@@ -71,10 +76,10 @@ pub record GensTo (functions : DigestFunctions) (words : GenWords) (result : Sta
   -- the sink nothing
   pub before : (result ≡ statuses.Memory) ⊎ (result ≡ statuses.VaultFault)
       → IsUntouched keeping.name keeping.name_after (outputs_of writing keeping)
-      ⊎ IsCutBefore functions (settings_for words.numbers) (script_for words) (outputs_of writing keeping)
+      ⊎ IsCutOff (account_for words.load) functions (settings_for words.numbers) (script_for words) (outputs_of writing keeping)
   -- where the sink failed, all is served, and it has a front of the summary
   pub cut : result ≡ statuses.WriteFault
-      → IsCutInSummary functions (settings_for words.numbers) (script_for words) (load_for words.load) (outputs_of writing keeping)
+      → IsCutAtEnd (account_for words.load) functions (settings_for words.numbers) (script_for words) (outputs_of writing keeping)
   -- the vault is named before anything is written, if the words give it a name, and else it is not named
   pub named : IsNamedFor words.logs keeping.name keeping.name_after ⊎ IsUntouched keeping.name keeping.name_after (outputs_of writing keeping)
   pub named_at_end : IsEnd result ⊎ (result ≡ statuses.WriteFault) → IsNamedFor words.logs keeping.name keeping.name_after

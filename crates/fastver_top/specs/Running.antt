@@ -22,6 +22,7 @@ use Rattle.script_text.specs.declared.task.Task.{Task}
 use Rattle.script_text.specs.Script.{script_of}
 use Rattle.host_world.specs.declared.settings.Settings.{Settings}
 use Rattle.host_world.specs.Settings.{shipped_cache}
+use Rattle.verifier_threads.specs.declared.accounts.Account.TheVariants as accounts
 use Rattle.verifier_threads.specs.declared.ending.RunEnd.{RunEnd}
 use Rattle.verifier_threads.specs.Serving.{Outputs, IsServed, IsCutOff, IsCutByVault, IsCutAtEnd, status_at}
 use Rattle.fastver_top.specs.declared.scripts.ScriptStop.{ScriptStop}
@@ -127,25 +128,25 @@ module _ (functions : DigestFunctions) (run : RunWords) (result : Status) (readi
     pub read : HasScript run.numbers.verifiers reading script
     pub end : RunEnd
     pub is : result ≡ status_at end
-    pub served : IsServed run.receipts functions (settings_for run.numbers) script end outputs
+    pub served : IsServed (accounts.Report run.receipts) functions (settings_for run.numbers) script end outputs
 
   -- It stopped before: the vault took a front of the bundle of the script's logs, and the sink one of the lines that this certifies.
   pub record EndsCutOff : Type 0 where
     pub script : List (List Task)
     pub read : HasScript run.numbers.verifiers reading script
-    pub cut : IsCutOff run.receipts functions (settings_for run.numbers) script outputs
+    pub cut : IsCutOff (accounts.Report run.receipts) functions (settings_for run.numbers) script outputs
 
   -- The vault failed in the header or in a round: the sink took all lines that the rounds up to the last close before certify.
   pub record EndsCutByVault : Type 0 where
     pub script : List (List Task)
     pub read : HasScript run.numbers.verifiers reading script
-    pub cut : IsCutByVault run.receipts functions (settings_for run.numbers) script outputs
+    pub cut : IsCutByVault (accounts.Report run.receipts) functions (settings_for run.numbers) script outputs
 
   -- The sink failed: it took a front of the lines that the vault's bytes certify, or at the last line of the report.
   pub record EndsCut : Type 0 where
     pub script : List (List Task)
     pub read : HasScript run.numbers.verifiers reading script
-    pub cut : IsCutOff run.receipts functions (settings_for run.numbers) script outputs ⊎ IsCutAtEnd run.receipts functions (settings_for run.numbers) script outputs
+    pub cut : IsCutOff (accounts.Report run.receipts) functions (settings_for run.numbers) script outputs ⊎ IsCutAtEnd (accounts.Report run.receipts) functions (settings_for run.numbers) script outputs
 
 -- A check of what the vault took is due to write the same lines.
 pub record IsDueByCheck (receipts : Bool) (functions : DigestFunctions) (result : Status) (outputs : Outputs) : Type 0 where

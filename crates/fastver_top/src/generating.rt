@@ -4,9 +4,9 @@ ghost use Rattle.fv_outside.specs.Faults.{Rose};
 ghost use Rattle.program_words.specs.HostWords.{AreHostNumbers};
 ghost use Rattle.program_words.specs.LoadWords.{AreLoadNumbers};
 ghost use Rattle.script_text.specs.Text.{AreTasks};
-ghost use Rattle.verifier_threads.specs.Summing.{SumsTo};
+ghost use Rattle.verifier_threads.specs.Serving.{ServesTo};
 ghost use Rattle.fastver_top.specs.Running.{IsNamedFor, IsUntouched, settings_for};
-ghost use Rattle.fastver_top.specs.Generating.{GensTo, IsGenStatus, load_for, shape_for};
+ghost use Rattle.fastver_top.specs.Generating.{GensTo, IsGenStatus, account_for, load_for, shape_for};
 
 use crate::running::{name_vault, settings_for};
 use fv_outside::{Failure, Gate, Sink, Vault};
@@ -17,7 +17,7 @@ use script_text::{Requests, Shape, generate};
 use std::alloc::Global;
 use std::sync::Wait;
 use std::thread::Threads;
-use verifier_threads::{Load, RunEnd, a_header_begins_the_bundle, serve_load};
+use verifier_threads::{Account, Load, RunEnd, a_header_begins_the_bundle, serve};
 
 /// Makes the load that the words ask for, names the vault if they say so, and serves it: the vault takes the bundle of the
 /// logs, and the sink the summary of the load. Nothing is read.
@@ -46,7 +46,7 @@ pub fn serve_generated<
         Ok(requests) => requests,
         Err(_) => return Status::Memory,
     };
-    match serve(rt, alloc, d, words, &requests, gate, vault, out) {
+    match serve_named(rt, alloc, d, words, &requests, gate, vault, out) {
         Ok(end) => end.status(),
         // Nothing is read, so there is no limit.
         Err(failure) => Status::of_failure(failure, 0),
@@ -54,7 +54,7 @@ pub fn serve_generated<
 }
 
 // Names the vault if the words say so, and serves a load.
-fn serve<R: Threads + Wait + Sync, D: Digests + Sync, V: Vault, O: Sink, G: Gate + Sync>(
+fn serve_named<R: Threads + Wait + Sync, D: Digests + Sync, V: Vault, O: Sink, G: Gate + Sync>(
     rt: &R,
     alloc: Global,
     d: &D,
@@ -67,7 +67,7 @@ fn serve<R: Threads + Wait + Sync, D: Digests + Sync, V: Vault, O: Sink, G: Gate
     requires numbers { AreHostNumbers words.now.numbers }
     requires tasks { AreTasks words.now.numbers.verifiers requests.now }
     requires fresh { V.fresh vault.old }
-    ensures sums { SumsTo (D.functions d.now) (settings_for words.now.numbers) requests.now (load_for words.now.load) result
+    ensures serves { ServesTo (account_for words.now.load) (D.functions d.now) (settings_for words.now.numbers) requests.now result
         (record { vault = V.held vault.old; vault_after = V.held vault.new; out = O.held out.old; out_after = O.held out.new }) }
     ensures named { result ≢ Err Failure.VaultFault → IsNamedFor words.now.logs (V.name vault.old) (V.name vault.new) }
     ensures named_first { IsNamedFor words.now.logs (V.name vault.old) (V.name vault.new) ⊎ IsUntouched (V.name vault.old) (V.name vault.new)
@@ -79,8 +79,8 @@ fn serve<R: Threads + Wait + Sync, D: Digests + Sync, V: Vault, O: Sink, G: Gate
     a_header_begins_the_bundle(&settings);
     match name_vault(&words.logs, vault) {
         Ok(()) => {
-            let load = load_for(&words.load);
-            serve_load(rt, alloc, d, &settings, requests, &load, gate, vault, out)
+            let account = Account::Summary(load_for(&words.load));
+            serve(rt, alloc, d, &settings, requests, account, gate, vault, out)
         }
         Err(_) => Err(Failure::VaultFault),
     }

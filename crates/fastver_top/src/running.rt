@@ -22,7 +22,7 @@ use script_text::Requests;
 use std::alloc::Global;
 use std::sync::Wait;
 use std::thread::Threads;
-use verifier_threads::{RunEnd, a_header_begins_the_bundle, serve_script};
+use verifier_threads::{Account, RunEnd, a_header_begins_the_bundle, serve};
 
 // How many entries a verifier of the host may cache.
 const HOST_CACHE: u32 = 128;
@@ -69,14 +69,14 @@ pub fn run_script<
         Ok(requests) => requests,
         Err(stop) => return stop.status(limit),
     };
-    match serve(rt, alloc, d, run, &requests, gate, vault, out) {
+    match serve_named(rt, alloc, d, run, &requests, gate, vault, out) {
         Ok(end) => end.status(),
         Err(failure) => Status::of_failure(failure, limit),
     }
 }
 
 // Names the vault if the words say so, and serves a script.
-fn serve<R: Threads + Wait + Sync, D: Digests + Sync, V: Vault, O: Sink, G: Gate + Sync>(
+fn serve_named<R: Threads + Wait + Sync, D: Digests + Sync, V: Vault, O: Sink, G: Gate + Sync>(
     rt: &R,
     alloc: Global,
     d: &D,
@@ -89,7 +89,7 @@ fn serve<R: Threads + Wait + Sync, D: Digests + Sync, V: Vault, O: Sink, G: Gate
     requires numbers { AreHostNumbers run.now.numbers }
     requires tasks { AreTasks run.now.numbers.verifiers requests.now }
     requires fresh { V.fresh vault.old }
-    ensures serves { ServesTo run.now.receipts (D.functions d.now) (settings_for run.now.numbers) requests.now result
+    ensures serves { ServesTo (Account.Report run.now.receipts) (D.functions d.now) (settings_for run.now.numbers) requests.now result
         (record { vault = V.held vault.old; vault_after = V.held vault.new; out = O.held out.old; out_after = O.held out.new }) }
     ensures named { result ≢ Err Failure.VaultFault → IsNamedFor run.now.logs (V.name vault.old) (V.name vault.new) }
     ensures named_first { IsNamedFor run.now.logs (V.name vault.old) (V.name vault.new) ⊎ IsUntouched (V.name vault.old) (V.name vault.new)
@@ -100,17 +100,12 @@ fn serve<R: Threads + Wait + Sync, D: Digests + Sync, V: Vault, O: Sink, G: Gate
     let settings = settings_for(&run.numbers);
     a_header_begins_the_bundle(&settings);
     match name_vault(&run.logs, vault) {
-        Ok(()) => serve_script(
-            rt,
-            alloc,
-            d,
-            &settings,
-            requests,
-            run.receipts,
-            gate,
-            vault,
-            out,
-        ),
+        Ok(()) => {
+            let account = Account::Report {
+                receipts: run.receipts,
+            };
+            serve(rt, alloc, d, &settings, requests, account, gate, vault, out)
+        }
         Err(_) => Err(Failure::VaultFault),
     }
 }

@@ -1,5 +1,5 @@
 -- Where a run stops: the vault took a front of the bundle of its logs, and the sink a front of the lines that this certifies.
-use Rattle.std.proofs.Common.{◌≡◌, ◌⊎◌, Bool, ℕ, zero, suc, ◌+◌, ◌*◌, ◌<◌, ◌≤◌, List, [], ◌∷◌, ◌++◌, length, map, take, Option, None, inl, inr, refl, sym, ◌∙◌, ap, subst, append_assoc, append-nil, arith}
+use Rattle.std.proofs.Common.{◌≡◌, ◌⊎◌, Bool, false, ℕ, zero, suc, ◌+◌, ◌*◌, ◌<◌, ◌≤◌, List, [], ◌∷◌, ◌++◌, length, map, take, Option, None, inl, inr, refl, sym, ◌∙◌, ap, subst, append_assoc, append-nil, arith}
 use Rattle.std.proofs.lemmas.Bool.{cases_lt}
 use Rattle.fv_outside.specs.Written.{GrowsByFront}
 use Rattle.fv_outside.proofs.WrittenLaws.{Grows-then, GrowsByFront-more, GrowsByFront-none}
@@ -28,10 +28,12 @@ use Rattle.host_rounds.specs.Round.{logs_with, round_text}
 use Rattle.host_rounds.specs.Bundle.{IsBundle, HasBundle}
 use Rattle.host_rounds.specs.SoFar.{RunsSoFar, lines_due}
 use Rattle.host_rounds.proofs.RoundLaws.{counted-front, logs_with-none}
-use Rattle.verifier_threads.specs.declared.runner.Runner.{Runner}
+use Rattle.verifier_threads.specs.declared.accounts.Account.{Account}
+use Rattle.verifier_threads.specs.declared.accounts.Account.TheVariants as accounts
+use Rattle.verifier_threads.specs.declared.loads.Load.{Load}
+use Rattle.verifier_threads.specs.declared.world_run.WorldRun.{WorldRun}
 use Rattle.verifier_threads.specs.InRounds.{Logs, logged_with, no_logs}
-use Rattle.verifier_threads.specs.Serving.{Outputs, AreOfRunSoFar, HasTold, IsCutOff, IsCutInRound, texts_of}
-use Rattle.verifier_threads.specs.Summing.{IsCutBefore}
+use Rattle.verifier_threads.specs.Serving.{Outputs, AreOfRunSoFar, HasFrontOfLines, HasToldLines, IsCutOff, IsCutInRound, texts_of}
 use Rattle.verifier_threads.specs.Running.{IsRunning, Runs}
 use Rattle.verifier_threads.proofs.RoundLemmas.{texts-more}
 use Rattle.verifier_threads.proofs.HandingLemmas.{logged_with-texts, logs-behind, texts-length}
@@ -53,6 +55,12 @@ HeadersAreBundles = (header : Header) → IsHeader header → header.first < 429
 abbrev pub RoundsFollow : Type 0
 RoundsFollow = (header : Header) (logs round : List (List ℕ)) (rounds : List (List (List ℕ))) (bytes : List ℕ) → IsBundle header logs rounds bytes → length round ≡ header.verifiers
     → IsBundle header (logs_with logs round) (rounds ++ (round ∷ [])) (bytes ++ round_text round)
+
+-- a sink that took nothing took no more than it was to
+pub none-of_lines : (account : Account) (functions : DigestFunctions) (bytes : List ℕ) (vault vault_after out : Option (List ℕ))
+    → HasFrontOfLines account functions bytes (record { vault = vault; vault_after = vault_after; out = out; out_after = out })
+none-of_lines (accounts.Report receipts) functions bytes vault vault_after out = GrowsByFront-none out (check_answer receipts functions bytes).due
+none-of_lines (accounts.Summary load) functions bytes vault vault_after out = refl
 
 -- ---- before the first round
 
@@ -117,9 +125,9 @@ module _ (opened : HeadersAreBundles) (follow : RoundsFollow) (functions : Diges
   ]
 
   -- the vault took a front of the header, and nothing is written
-  pub header-cut : (receipts : Bool) (vault vault_after out : Option (List ℕ)) → GrowsByFront vault vault_after head
-      → IsCutOff receipts functions settings script (record { vault = vault; vault_after = vault_after; out = out; out_after = out })
-  header-cut receipts vault vault_after out grown =
+  pub header-cut : (account : Account) (vault vault_after out : Option (List ℕ)) → GrowsByFront vault vault_after head
+      → IsCutOff account functions settings script (record { vault = vault; vault_after = vault_after; out = out; out_after = out })
+  header-cut account vault vault_after out grown =
       let start = begins in
       let front = GrowsByFront-more vault vault_after head start.2.more grown in
       record {
@@ -127,13 +135,31 @@ module _ (opened : HeadersAreBundles) (follow : RoundsFollow) (functions : Diges
         logs = start.1;
         run = start.2.run;
         vault = record { bytes = head ++ start.2.more; is_bundle = start.2.is_bundle; grown = front };
-        out = GrowsByFront-none out (check_answer receipts functions front.front).due;
+        out = none-of_lines account functions front.front vault vault_after out;
       }
 
--- a load that is cut off as a run is, of which no line is written, is cut off before its summary
-pub cut-before : (receipts : Bool) (functions : DigestFunctions) (settings : Settings) (script : List (List Task)) (outputs : Outputs) (out : Option (List ℕ))
-    → IsCutOff receipts functions settings script outputs → IsCutBefore functions settings script (record outputs { out = out; out_after = out })
-cut-before receipts functions settings script outputs out cut = record { rounds = cut.rounds; logs = cut.logs; run = cut.run; vault = cut.vault; out = refl }
+-- a run whose lines went elsewhere, and which was cut off as one with a report, was so before its summary
+pub cut-as : (load : Load) (functions : DigestFunctions) (settings : Settings) (script : List (List Task)) (outputs : Outputs) (before after : Option (List ℕ))
+    → outputs.out_after ≡ outputs.out → IsCutOff (accounts.Report false) functions settings script (record outputs { out = before; out_after = after })
+    → IsCutOff (accounts.Summary load) functions settings script outputs
+cut-as load functions settings script outputs before after unwritten cut =
+    record { rounds = cut.rounds; logs = cut.logs; run = cut.run; vault = cut.vault; out = unwritten }
+
+pub cut_round-as : (load : Load) (functions : DigestFunctions) (settings : Settings) (script : List (List Task)) (outputs : Outputs) (before after : Option (List ℕ))
+    → outputs.out_after ≡ outputs.out → IsCutInRound (accounts.Report false) functions settings script (record outputs { out = before; out_after = after })
+    → IsCutInRound (accounts.Summary load) functions settings script outputs
+cut_round-as load functions settings script outputs before after unwritten cut = record {
+  past = cut.past;
+  round = cut.round;
+  logs = cut.logs;
+  run = cut.run;
+  held = cut.held;
+  whole = cut.whole;
+  front = cut.front;
+  closes = cut.closes;
+  count = cut.count;
+  told = unwritten;
+}
 
 -- ---- on the way
 
@@ -157,8 +183,8 @@ module _ (receipts : Bool) (functions : DigestFunctions) (settings : Settings) (
 
   -- All lines are that the rounds up to the last close certify.
   pub running-cut_in_round : (vault : Option (List ℕ)) (phases closes : ℕ) → length past ≡ phases + closes → (phases ≡ closes) ⊎ (phases ≡ suc closes)
-      → HasTold receipts functions settings.header (take (2 * closes) past) outputs → GrowsByFront outputs.vault_after vault (round_text (texts_of (logs_of world)))
-      → IsCutInRound receipts functions settings script (record outputs { vault_after = vault })
+      → HasToldLines receipts functions settings.header (take (2 * closes) past) outputs → GrowsByFront outputs.vault_after vault (round_text (texts_of (logs_of world)))
+      → IsCutInRound (accounts.Report receipts) functions settings script (record outputs { vault_after = vault })
   running-cut_in_round vault phases closes count stage told grown = record {
     past = past;
     round = logs_of world;
@@ -192,7 +218,7 @@ module _ (stays : StaysDue) (follow : RoundsFollow) (receipts : Bool) (functions
 
   -- The vault has the bundle of what was handed out and a front of the next frames, and a front of the lines of it is written.
   pub running-cut_lines : (vault out : Option (List ℕ)) → GrowsByFront outputs.vault_after vault next_frames → GrowsByFront outputs.out out own_due
-      → IsCutOff receipts functions settings script (record outputs { vault_after = vault; out_after = out })
+      → IsCutOff (accounts.Report receipts) functions settings script (record outputs { vault_after = vault; out_after = out })
   running-cut_lines vault out grown written =
       let has = running.keeps.vault in
       let logs = texts_of running.logs in
@@ -220,12 +246,12 @@ module _ (stays : StaysDue) (follow : RoundsFollow) (receipts : Bool) (functions
 
   -- No more lines are.
   pub running-cut : (vault : Option (List ℕ)) → GrowsByFront outputs.vault_after vault next_frames
-      → IsCutOff receipts functions settings script (record outputs { vault_after = vault })
+      → IsCutOff (accounts.Report receipts) functions settings script (record outputs { vault_after = vault })
   running-cut vault grown = running-cut_lines vault outputs.out_after grown due-so_far
 
 -- ---- runners
 
-module _ (receipts : Bool) {D : Type 0} (functions : D → DigestFunctions) (runner : Runner D) (outputs : Outputs) (past : List Logs)
+module _ (receipts : Bool) {D : Type 0} (functions : D → DigestFunctions) (runner : WorldRun D) (outputs : Outputs) (past : List Logs)
     (runs : Runs receipts functions runner past outputs) where
   abbrev pub own_world : World Content
   own_world = shown_world runner.world
@@ -233,9 +259,9 @@ module _ (receipts : Bool) {D : Type 0} (functions : D → DigestFunctions) (run
   module _ (stays : StaysDue) (follow : RoundsFollow) where
     -- it stops with nothing written since
     pub runs-cut : (vault out : Option (List ℕ)) → outputs.vault_after ≡ vault → outputs.out_after ≡ out
-        → IsCutOff receipts (functions (digests_of runner.world)) runner.world.settings (requests_of runner.world) (record outputs { vault_after = vault; out_after = out })
+        → IsCutOff (accounts.Report receipts) (functions (digests_of runner.world)) runner.world.settings (requests_of runner.world) (record outputs { vault_after = vault; out_after = out })
     runs-cut vault out vault_is out_is =
-        subst (λ (o : Option (List ℕ)). IsCutOff receipts (functions (digests_of runner.world)) runner.world.settings (requests_of runner.world) (record outputs { vault_after = vault; out_after = o })) out_is
+        subst (λ (o : Option (List ℕ)). IsCutOff (accounts.Report receipts) (functions (digests_of runner.world)) runner.world.settings (requests_of runner.world) (record outputs { vault_after = vault; out_after = o })) out_is
         (running-cut stays follow _ _ _ _ own_world runner.rounds runner.end past outputs runs.running vault
         (subst (λ (v : Option (List ℕ)). GrowsByFront outputs.vault_after v (round_text (texts_of (logs_of own_world)))) vault_is
         (GrowsByFront-none outputs.vault_after (round_text (texts_of (logs_of own_world))))))
@@ -243,7 +269,7 @@ module _ (receipts : Bool) {D : Type 0} (functions : D → DigestFunctions) (run
     -- or while the vault takes what its workers logged
     pub runs-cut_round : (vault vault' : Option (List ℕ)) (round : List (List ℕ)) → outputs.vault_after ≡ vault → round ≡ texts_of (logs_of own_world)
         → GrowsByFront vault vault' (round_text round)
-        → IsCutOff receipts (functions (digests_of runner.world)) runner.world.settings (requests_of runner.world) (record outputs { vault_after = vault' })
+        → IsCutOff (accounts.Report receipts) (functions (digests_of runner.world)) runner.world.settings (requests_of runner.world) (record outputs { vault_after = vault' })
     runs-cut_round vault vault' round vault_is round_is grown =
         running-cut stays follow _ _ _ _ own_world runner.rounds runner.end past outputs runs.running vault'
         (subst (λ (all : List (List ℕ)). GrowsByFront outputs.vault_after vault' (round_text all)) round_is
@@ -252,16 +278,16 @@ module _ (receipts : Bool) {D : Type 0} (functions : D → DigestFunctions) (run
     -- or while the sink takes the lines of it
     pub runs-cut_lines : (out : Option (List ℕ))
         → GrowsByFront outputs.out out (lines_due (told_by receipts (functions (digests_of runner.world)) runner.world.settings.header) (functions (digests_of runner.world)) runner.world.settings.header (texts_of runs.running.logs))
-        → IsCutOff receipts (functions (digests_of runner.world)) runner.world.settings (requests_of runner.world) (record outputs { out_after = out })
+        → IsCutOff (accounts.Report receipts) (functions (digests_of runner.world)) runner.world.settings (requests_of runner.world) (record outputs { out_after = out })
     runs-cut_lines out written =
         running-cut_lines stays follow _ _ _ _ own_world runner.rounds runner.end past outputs runs.running outputs.vault_after out
         (GrowsByFront-none outputs.vault_after (round_text (texts_of (logs_of own_world)))) written
 
   module _ (phases closes : ℕ) (count : length past ≡ phases + closes) (stage : (phases ≡ closes) ⊎ (phases ≡ suc closes))
-      (told : HasTold receipts (functions (digests_of runner.world)) runner.world.settings.header (take (2 * closes) past) outputs) where
+      (told : HasToldLines receipts (functions (digests_of runner.world)) runner.world.settings.header (take (2 * closes) past) outputs) where
     -- it stops with nothing taken of the next round
     pub runs-cut_before : (vault : Option (List ℕ)) → outputs.vault_after ≡ vault
-        → IsCutInRound receipts (functions (digests_of runner.world)) runner.world.settings (requests_of runner.world) (record outputs { vault_after = vault })
+        → IsCutInRound (accounts.Report receipts) (functions (digests_of runner.world)) runner.world.settings (requests_of runner.world) (record outputs { vault_after = vault })
     runs-cut_before vault vault_is =
         running-cut_in_round _ _ _ _ own_world runner.rounds runner.end past outputs runs.running vault phases closes count stage told
         (subst (λ (v : Option (List ℕ)). GrowsByFront outputs.vault_after v (round_text (texts_of (logs_of own_world)))) vault_is
@@ -270,7 +296,7 @@ module _ (receipts : Bool) {D : Type 0} (functions : D → DigestFunctions) (run
     -- or with a front of it
     pub runs-cut_in_round : (vault vault' : Option (List ℕ)) (round : List (List ℕ)) → outputs.vault_after ≡ vault → round ≡ texts_of (logs_of own_world)
         → GrowsByFront vault vault' (round_text round)
-        → IsCutInRound receipts (functions (digests_of runner.world)) runner.world.settings (requests_of runner.world) (record outputs { vault_after = vault' })
+        → IsCutInRound (accounts.Report receipts) (functions (digests_of runner.world)) runner.world.settings (requests_of runner.world) (record outputs { vault_after = vault' })
     runs-cut_in_round vault vault' round vault_is round_is grown =
         running-cut_in_round _ _ _ _ own_world runner.rounds runner.end past outputs runs.running vault' phases closes count stage told
         (subst (λ (all : List (List ℕ)). GrowsByFront outputs.vault_after vault' (round_text all)) round_is

@@ -40,12 +40,12 @@ use Rattle.host_serving.proofs.FormLaws.{run-none}
 use Rattle.load_summary.specs.Summary.{summary_with_end}
 use Rattle.host_rounds.specs.SoFar.{RunsSoFar, Keeps, AllCounted, lines_due, summary_due, end_due}
 use Rattle.host_rounds.proofs.RoundLaws.{counted-none, summary-is}
+use Rattle.verifier_threads.specs.declared.accounts.Account.TheVariants as accounts
 use Rattle.verifier_threads.specs.declared.ending.RunEnd.{RunEnd}
-use Rattle.verifier_threads.specs.declared.runner.Runner.{Runner}
+use Rattle.verifier_threads.specs.declared.world_run.WorldRun.{WorldRun}
 use Rattle.verifier_threads.specs.InRounds.{Logs}
 use Rattle.verifier_threads.specs.Serving.{Outputs, AreOfRun, IsServed, IsCutAtEnd, end_by, status_at, texts_of}
 use Rattle.verifier_threads.specs.declared.loads.Load.{Load}
-use Rattle.verifier_threads.specs.Summing.{IsSummed, IsCutInSummary}
 use Rattle.verifier_threads.specs.Running.{IsRunning, Runs, RunsWhole, RunsToEnd, IsAtPhase, IsAtEnd}
 use Rattle.verifier_threads.proofs.RunningLemmas.{running-workers}
 use Rattle.verifier_threads.proofs.HandingLemmas.{front-logs}
@@ -199,7 +199,7 @@ module _ (receipts : Bool) (functions : DigestFunctions) (settings : Settings) (
     -- the last line is written
     pub ended-served : (out' : Option (List ℕ)) (result : RunEnd) → result ≡ end_by (length script) end
         → Grows outputs.out_after out' (last_line (status_at result))
-        → IsServed receipts functions settings script result (record outputs { out_after = out' })
+        → IsServed (accounts.Report receipts) functions settings script result (record outputs { out_after = out' })
     ended-served out' result is written = record {
       logs = running.logs;
       end = end;
@@ -212,7 +212,7 @@ module _ (receipts : Bool) (functions : DigestFunctions) (settings : Settings) (
 
     -- or a front of it
     pub ended-cut : (out' : Option (List ℕ)) → GrowsByFront outputs.out_after out' (last_line (status_at (end_by (length script) end)))
-        → IsCutAtEnd receipts functions settings script (record outputs { out_after = out' })
+        → IsCutAtEnd (accounts.Report receipts) functions settings script (record outputs { out_after = out' })
     ended-cut out' written = record {
       logs = running.logs;
       end = end;
@@ -225,7 +225,7 @@ module _ (receipts : Bool) (functions : DigestFunctions) (settings : Settings) (
     -- the summary is written
     pub ended-summed : (load : Load) (out out' : Option (List ℕ)) (result : RunEnd) → result ≡ end_by (length script) end
         → Grows out out' (summary_with_end load.seed load.ops rounds.judged.count rounds.summary.tallies (status_at result))
-        → IsSummed functions settings script load result (record outputs { out = out; out_after = out' })
+        → IsServed (accounts.Summary load) functions settings script result (record outputs { out = out; out_after = out' })
     ended-summed load out out' result is written = record {
       logs = running.logs;
       end = end;
@@ -240,7 +240,7 @@ module _ (receipts : Bool) (functions : DigestFunctions) (settings : Settings) (
     -- or a front of it
     pub ended-cut_summary : (load : Load) (out out' : Option (List ℕ)) (result : RunEnd) → result ≡ end_by (length script) end
         → GrowsByFront out out' (summary_with_end load.seed load.ops rounds.judged.count rounds.summary.tallies (status_at result))
-        → IsCutInSummary functions settings script load (record outputs { out = out; out_after = out' })
+        → IsCutAtEnd (accounts.Summary load) functions settings script (record outputs { out = out; out_after = out' })
     ended-cut_summary load out out' result is written = record {
       logs = running.logs;
       end = end;
@@ -277,12 +277,12 @@ turns-now old now phase same tasks count =
     (subst (AreTasks old.settings.header.verifiers) (sym same.requests) tasks)))
 
 -- as many workers as verifiers, where the run goes on
-pub runs-workers : (receipts : Bool) {D : Type 0} (functions : D → DigestFunctions) (runner : Runner D) (past : List Logs) (outputs : Outputs) → Runs receipts functions runner past outputs
+pub runs-workers : (receipts : Bool) {D : Type 0} (functions : D → DigestFunctions) (runner : WorldRun D) (past : List Logs) (outputs : Outputs) → Runs receipts functions runner past outputs
     → length runner.world.workers.items ≡ runner.world.settings.header.verifiers
 runs-workers receipts functions runner past outputs runs = running-workers _ _ _ _ (shown_world runner.world) runner.rounds runner.end past outputs runs.running
 
 -- behind the last close it runs to its end
-pub whole-to_end : (receipts : Bool) {D : Type 0} (functions : D → DigestFunctions) (runner : Runner D) (phase : ℕ) (outputs : Outputs)
+pub whole-to_end : (receipts : Bool) {D : Type 0} (functions : D → DigestFunctions) (runner : WorldRun D) (phase : ℕ) (outputs : Outputs)
     → RunsWhole receipts functions runner (suc phase) outputs → IsAtEnd (host_of (functions (digests_of runner.world)) runner.world) (shown_world runner.world) runner.end
     → (runner.end ≡ None → (shown_world runner.world).phase ≡ phase) → RunsToEnd receipts functions runner outputs
 whole-to_end receipts functions runner phase outputs whole at same = record {

@@ -9,5 +9,6 @@ mod PassingLemmas
 mod PhaseLemmas
 mod EndingLemmas
 mod CutLemmas
+mod CallLemmas
 mod NothingLemmas
 mod SummingLemmas

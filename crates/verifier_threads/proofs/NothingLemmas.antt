@@ -12,6 +12,7 @@ use Rattle.host_world.specs.declared.fault.ClockEnd.{ClockEnd}
 use Rattle.host_world.specs.declared.settings.Settings.{Settings}
 use Rattle.host_rounds.specs.Bundle.{HasBundle}
 use Rattle.host_rounds.specs.SoFar.{lines_due}
+use Rattle.verifier_threads.specs.declared.accounts.Account.TheVariants as accounts
 use Rattle.verifier_threads.specs.declared.ending.RunEnd.{RunEnd}
 use Rattle.verifier_threads.specs.InRounds.{Logs, no_logs}
 use Rattle.verifier_threads.specs.Serving.{IsServed, IsCutAtEnd, AreOfRun, end_by, status_at, setup_end, texts_of, report_of}
@@ -50,7 +51,7 @@ module _ (none_due : NothingIsDue) (no_texts : NoTexts) (receipts : Bool) (funct
   pub nothing-served : (end : ClockEnd) (vault vault_after out out_after : Option (List ℕ)) → end ≡ setup_end settings
       → HasBundle settings.header (empty_logs settings.header.verifiers) [] vault vault_after
       → Grows out out_after (last_line (status_at (end_by 0 (Some end))))
-      → IsServed receipts functions settings script (end_by 0 (Some end)) (record { vault = vault; vault_after = vault_after; out = out; out_after = out_after })
+      → IsServed (accounts.Report receipts) functions settings script (end_by 0 (Some end)) (record { vault = vault; vault_after = vault_after; out = out; out_after = out_after })
   nothing-served end vault vault_after out out_after is has written = record {
     rounds = [];
     logs = none_logged;
@@ -65,7 +66,7 @@ module _ (none_due : NothingIsDue) (no_texts : NoTexts) (receipts : Bool) (funct
   pub nothing-cut : (end : ClockEnd) (vault vault_after out out_after : Option (List ℕ)) → end ≡ setup_end settings
       → HasBundle settings.header (empty_logs settings.header.verifiers) [] vault vault_after
       → GrowsByFront out out_after (last_line (status_at (end_by 0 (Some end))))
-      → IsCutAtEnd receipts functions settings script (record { vault = vault; vault_after = vault_after; out = out; out_after = out_after })
+      → IsCutAtEnd (accounts.Report receipts) functions settings script (record { vault = vault; vault_after = vault_after; out = out; out_after = out_after })
   nothing-cut end vault vault_after out out_after is has written = record {
     rounds = [];
     logs = none_logged;

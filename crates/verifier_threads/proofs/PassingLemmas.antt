@@ -24,9 +24,9 @@ use Rattle.fv_outside.specs.declared.failure.Failure.{Failure}
 use Rattle.host_rounds.specs.Feeding.{AllRead}
 use Rattle.host_rounds.specs.Round.{logs_with}
 use Rattle.host_rounds.specs.SoFar.{RunsSoFar, Keeps, HaveRun, AllCounted, lines_counted, lines_due, with_runs}
-use Rattle.verifier_threads.specs.declared.runner.Runner.{Runner}
+use Rattle.verifier_threads.specs.declared.world_run.WorldRun.{WorldRun}
 use Rattle.verifier_threads.specs.InRounds.{Logs, IsBehindRounds}
-use Rattle.verifier_threads.specs.Serving.{Outputs, HasTold, texts_of}
+use Rattle.verifier_threads.specs.Serving.{Outputs, HasToldLines, texts_of}
 use Rattle.verifier_threads.specs.Running.{IsRunning, Runs, RunsBehind, RunsWhole, all_handed_out, with_runs_of}
 use Rattle.host_world.specs.ShippedHost.{shipped_host}
 use Rattle.verifier_threads.proofs.RoundLemmas.{take-all, take-more, length-one_more}
@@ -112,7 +112,7 @@ took-round {D} functions old middle lent back before after same is takes =
 
 -- ---- runners
 
-module _ (receipts : Bool) {D : Type 0} (functions : D → DigestFunctions) (old : Runner D) (past : List Logs) (outputs : Outputs)
+module _ (receipts : Bool) {D : Type 0} (functions : D → DigestFunctions) (old : WorldRun D) (past : List Logs) (outputs : Outputs)
     (runs : Runs receipts functions old past outputs) where
   abbrev pub host_now : Host Content Request
   host_now = host_of (functions (digests_of old.world)) old.world
@@ -192,7 +192,7 @@ module _ (receipts : Bool) {D : Type 0} (functions : D → DigestFunctions) (old
 
 -- ---- behind phases and closes
 
-module _ (receipts : Bool) {D : Type 0} (functions : D → DigestFunctions) (old : Runner D) (phases closes : ℕ) (outputs : Outputs)
+module _ (receipts : Bool) {D : Type 0} (functions : D → DigestFunctions) (old : WorldRun D) (phases closes : ℕ) (outputs : Outputs)
     (behind : RunsBehind receipts functions old phases closes outputs) where
   -- by other names of what is held
   pub behind-at : (vault out : Option (List ℕ)) → outputs.vault_after ≡ vault → outputs.out_after ≡ out
@@ -203,10 +203,10 @@ module _ (receipts : Bool) {D : Type 0} (functions : D → DigestFunctions) (old
 
   -- what was told of the one host's world was told of the other's
   told-of : (world : code.World D) → AreOfOneHost old.world world
-      → HasTold receipts (functions (digests_of world)) world.settings.header (take (2 * closes) behind.past) outputs
+      → HasToldLines receipts (functions (digests_of world)) world.settings.header (take (2 * closes) behind.past) outputs
   told-of world same =
       of_one_host functions old.world world same
-      (λ (f : DigestFunctions) (settings : Settings) (script : List (List Task)). HasTold receipts f settings.header (take (2 * closes) behind.past) outputs)
+      (λ (f : DigestFunctions) (settings : Settings) (script : List (List Task)). HasToldLines receipts f settings.header (take (2 * closes) behind.past) outputs)
       behind.told
 
   -- events lead its world on
@@ -233,7 +233,7 @@ module _ (receipts : Bool) {D : Type 0} (functions : D → DigestFunctions) (old
   }
 
   -- one phase more
-  pub behind-more : (new : Runner D) (round : Logs) (vault : Option (List ℕ)) → AreOfOneHost old.world new.world → closes ≤ phases
+  pub behind-more : (new : WorldRun D) (round : Logs) (vault : Option (List ℕ)) → AreOfOneHost old.world new.world → closes ≤ phases
       → Runs receipts functions new (behind.past ++ (round ∷ [])) (record outputs { vault_after = vault })
       → RunsBehind receipts functions new (suc phases) closes (record outputs { vault_after = vault })
   behind-more new round vault same few runs =
@@ -243,17 +243,17 @@ module _ (receipts : Bool) {D : Type 0} (functions : D → DigestFunctions) (old
         past = behind.past ++ (round ∷ []);
         runs = runs;
         count = omega (arith, size, count);
-        told = subst (λ (rounds : List Logs). HasTold receipts (functions (digests_of new.world)) new.world.settings.header rounds outputs)
+        told = subst (λ (rounds : List Logs). HasToldLines receipts (functions (digests_of new.world)) new.world.settings.header rounds outputs)
             (sym (take-more (2 * closes) behind.past (round ∷ []) (omega (arith, count, few)))) (told-of new.world same);
       }
 
 -- what is whole stands behind as many phases as closes
-pub whole-behind : (receipts : Bool) {D : Type 0} (functions : D → DigestFunctions) (runner : Runner D) (closes : ℕ) (outputs : Outputs)
+pub whole-behind : (receipts : Bool) {D : Type 0} (functions : D → DigestFunctions) (runner : WorldRun D) (closes : ℕ) (outputs : Outputs)
     → RunsWhole receipts functions runner closes outputs → RunsBehind receipts functions runner closes closes outputs
 whole-behind receipts functions runner closes outputs whole = record {
   past = whole.past;
   runs = whole.runs;
   count = whole.count;
-  told = subst (λ (rounds : List Logs). HasTold receipts (functions (digests_of runner.world)) runner.world.settings.header rounds outputs)
+  told = subst (λ (rounds : List Logs). HasToldLines receipts (functions (digests_of runner.world)) runner.world.settings.header rounds outputs)
       (sym (take-all (2 * closes) whole.past (omega (arith, whole.count)))) whole.told;
 }

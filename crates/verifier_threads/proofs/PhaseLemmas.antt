@@ -1,6 +1,6 @@
 -- Where a phase and a close leave a run.
 use Rattle.std.proofs.Common.{◌≡◌, ◌⊎◌, inl, inr, ◌↔◌, ℕ, zero, suc, ◌+◌, ◌<◌, ◌≤◌, Bool, true, false, List, [], ◌∷◌, length, map, get_or, replicate, Option, Some, None, IfSome, refl, sym, ◌∙◌, ap, subst, arith}
-use Rattle.std.proofs.lemmas.Bool.{false≢true}
+use Rattle.std.proofs.lemmas.Bool.{false≢true, cases_lt}
 use Rattle.host_core.specs.Host.{Host}
 use Rattle.host_core.specs.World.{Worker, World, fresh, worker_at}
 use Rattle.host_core.specs.WorldEvent.{IsLast}
@@ -8,6 +8,8 @@ use Rattle.host_world.specs.declared.fault.ClockEnd.{ClockEnd}
 use Rattle.host_serving.specs.Leading.{first_of, CanDoNoMore}
 use Rattle.host_serving.specs.Standing.{IsServedUpTo, IsServedOut, NoneStopped, SomeStopped, NoneStuckBelow, IsLowest, IsClosed, IsAllServed}
 use Rattle.worker_threads.specs.Phase.{first_stopped}
+use Rattle.verifier_threads.specs.declared.runner.NextCall.{NextCall}
+use Rattle.verifier_threads.specs.declared.runner.NextCall.TheVariants as calls
 use Rattle.verifier_threads.specs.InRounds.{IsBehindRounds}
 use Rattle.verifier_threads.specs.Running.{all_handed_out, IsAtPhase, IsAtClose, IsAtEnd}
 use Rattle.verifier_threads.proofs.HandingLemmas.{handed-none}
@@ -25,33 +27,40 @@ pub none-first : (a b : Option ClockEnd) → first_of a b ≡ None → (a ≡ No
 none-first None b is = (refl, is)
 none-first (Some end) b is = absurd (cc)
 
--- one of two facts, the first by what follows from it
-pub plus-both : {P Q R : Type 0} → P ⊎ R → (P → Q) → Q ⊎ R
-plus-both (inl p) f = inl (f p)
-plus-both (inr r) f = inr r
-
 -- whether it is over, by another name of the end
 pub over_at : (last : Bool) (e e' : Option ClockEnd) → e ≡ e' → (last ≡ true) ⊎ (e ≡ None → ⊥) → (last ≡ true) ⊎ (e' ≡ None → ⊥)
 over_at last e e' is (inl it) = inl it
 over_at last e e' is (inr ended) = inr (λ none'. ended (is ∙ none'))
 
--- the close is the last at the script's end, and where a clock ended
-pub closes-last : {C R : Type 0} (host : Host C R) (world : World C) (end : Option ClockEnd) (at_end last : Bool) → IsAtClose host world end
-    → (at_end ≡ true) ↔ (length host.script ≤ suc world.phase) → (at_end ≡ true → last ≡ true) → ((end ≡ None → ⊥) → last ≡ true)
-    → (at_end ≡ false → end ≡ None → last ≡ false) → (last ≡ true) ↔ IsLast host world
-closes-last host world end at_end last at script by_script by_end going = (forward at_end refl at.ended, backward)
+-- the close is the last of the last phase, and where a clock ended
+pub closes-last : {C R : Type 0} (host : Host C R) (world : World C) (end : Option ClockEnd) (left : ℕ) (last : Bool) → IsAtClose host world end
+    → left + world.phase ≡ length host.script → (left ≤ 1 → last ≡ true) → ((end ≡ None → ⊥) → last ≡ true)
+    → (1 < left → end ≡ None → last ≡ false) → (last ≡ true) ↔ IsLast host world
+closes-last host world end left last at size by_script by_end going = (forward, backward)
   where
-    forward : (b : Bool) → at_end ≡ b → ((end ≡ None) × NoneStopped host world) ⊎ ((end ≡ None → ⊥) × SomeStopped host world) → last ≡ true → IsLast host world
-    forward true is ended is_last = inl (script.0 is)
-    forward false is (inl running) is_last = absurd (false≢true (sym (going is running.0) ∙ is_last))
-    forward false is (inr stopped) is_last = inr stopped.1
+    forward : last ≡ true → IsLast host world
+    forward is_last = elim (cases_lt 1 left) [
+      | inl more ↦ elim at.ended [
+        | inl running ↦ absurd (false≢true (sym (going more running.0) ∙ is_last))
+        | inr stopped ↦ inr stopped.1
+      ]
+      | inr few ↦ inl (omega (arith, few, size))
+    ]
 
     backward : IsLast host world → last ≡ true
-    backward (inl over) = by_script (script.1 over)
+    backward (inl over) = by_script (omega (arith, over, size))
     backward (inr stopped) = elim at.ended [
       | inl running ↦ absurd (false≢true (sym (running.1 stopped.0 stopped.1) ∙ stopped.2))
       | inr ended ↦ by_end ended.0
     ]
+
+-- what holds before the call that comes next, by whether the close was the last
+pub next-by : (P : NextCall → Type 0) (last : Bool) (end : Option ClockEnd) (call : NextCall)
+    → ((last ≡ true) ⊎ (end ≡ None → ⊥) → call ≡ calls.Finish) → (last ≡ false → end ≡ None → call ≡ calls.Phase)
+    → ((last ≡ true) ⊎ (end ≡ None → ⊥) → P calls.Finish) → (last ≡ false → end ≡ None → P calls.Phase) → P call
+next-by P true end call over going ends goes_on = subst P (sym (over (inl refl))) (ends (inl refl))
+next-by P false None call over going ends goes_on = subst P (sym (going refl refl)) (goes_on refl refl)
+next-by P false (Some end) call over going ends goes_on = subst P (sym (over (inr (λ is. cc)))) (ends (inr (λ is. cc)))
 
 module _ {C R : Type 0} (host : Host C R) (old now : World C) where
   -- the phase was served

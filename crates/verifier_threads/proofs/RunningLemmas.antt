@@ -26,9 +26,12 @@ use Rattle.fv_outside.specs.declared.failure.Failure.{Failure}
 use Rattle.fv_outside.specs.declared.failure.Failure.TheVariants as failures
 use Rattle.host_rounds.specs.Round.{logs_with}
 use Rattle.host_rounds.specs.SoFar.{RunsSoFar, Keeps, lines_counted}
+use Rattle.verifier_threads.specs.declared.accounts.Account.{Account}
+use Rattle.verifier_threads.specs.declared.accounts.Account.TheVariants as accounts
 use Rattle.verifier_threads.specs.declared.ending.RunEnd.{RunEnd}
-use Rattle.verifier_threads.specs.Serving.{Outputs, IsServed, IsCutOff, IsCutAtEnd, IsCutByVault, ServesTo, texts_of}
+use Rattle.verifier_threads.specs.Serving.{Outputs, IsServed, IsCutOff, IsCutAtEnd, IsCutByVault, IsCutBySink, ServesTo, texts_of}
 use Rattle.verifier_threads.specs.InRounds.{Logs, logged_with, no_logs, IsBehindRounds, LeadThrough}
+use Rattle.verifier_threads.specs.Runners.{TellsLines}
 use Rattle.verifier_threads.specs.Running.{IsRunning, all_handed_out, with_no_log}
 use Rattle.verifier_threads.proofs.HandingLemmas.{logged_with-length, logged_with-texts, logs-behind, with_logs-handed}
 use Rattle.verifier_threads.proofs.RoundLemmas.{texts-more, logged-more, through-leads, through-more, behind_with}
@@ -138,23 +141,24 @@ module _ (receipts : Bool) (functions : DigestFunctions) (settings : Settings) (
 -- ---- where it stops
 
 -- a run that was cut off stops so, whatever the reason
-pub stops-so : (receipts : Bool) (functions : DigestFunctions) (settings : Settings) (script : List (List Task)) (stop : Failure) (outputs : Outputs)
+pub stops-so : (account : Account) (functions : DigestFunctions) (settings : Settings) (script : List (List Task)) (stop : Failure) (outputs : Outputs)
     → (stop ≡ failures.ReadFault → ⊥) → (stop ≡ failures.InputLimit → ⊥)
-    → IsCutOff receipts functions settings script outputs → (stop ≡ failures.VaultFault → IsCutByVault receipts functions settings script outputs)
-    → ServesTo receipts functions settings script (Err stop) outputs
-stops-so receipts functions settings script failures.Memory outputs source limit cut by_vault = cut
-stops-so receipts functions settings script failures.ReadFault outputs source limit cut by_vault = absurd (source refl)
-stops-so receipts functions settings script failures.InputLimit outputs source limit cut by_vault = absurd (limit refl)
-stops-so receipts functions settings script failures.VaultFault outputs source limit cut by_vault = (cut, by_vault refl)
-stops-so receipts functions settings script failures.WriteFault outputs source limit cut by_vault = inl cut
+    → IsCutOff account functions settings script outputs → (stop ≡ failures.VaultFault → IsCutByVault account functions settings script outputs)
+    → (stop ≡ failures.WriteFault → TellsLines account) → ServesTo account functions settings script (Err stop) outputs
+stops-so account functions settings script failures.Memory outputs source limit cut by_vault lines = cut
+stops-so account functions settings script failures.ReadFault outputs source limit cut by_vault lines = absurd (source refl)
+stops-so account functions settings script failures.InputLimit outputs source limit cut by_vault lines = absurd (limit refl)
+stops-so account functions settings script failures.VaultFault outputs source limit cut by_vault lines = (cut, by_vault refl)
+stops-so (accounts.Report receipts) functions settings script failures.WriteFault outputs source limit cut by_vault lines = inl cut
+stops-so (accounts.Summary load) functions settings script failures.WriteFault outputs source limit cut by_vault lines = absurd (lines refl)
 
 -- a run that was cut off at its end stops because the sink failed
-pub ends-so : (receipts : Bool) (functions : DigestFunctions) (settings : Settings) (script : List (List Task)) (stop : Failure) (outputs : Outputs)
-    → stop ≡ failures.WriteFault → IsCutAtEnd receipts functions settings script outputs → ServesTo receipts functions settings script (Err stop) outputs
-ends-so receipts functions settings script stop outputs is cut =
-    subst (λ (s : Failure). ServesTo receipts functions settings script (Err s) outputs) (sym is) (inr cut)
+ends-so : (account : Account) (functions : DigestFunctions) (settings : Settings) (script : List (List Task)) (outputs : Outputs)
+    → IsCutAtEnd account functions settings script outputs → IsCutBySink account functions settings script outputs
+ends-so (accounts.Report receipts) functions settings script outputs cut = inr cut
+ends-so (accounts.Summary load) functions settings script outputs cut = cut
 
-pub stop-is : {A : Type 0} (result : Result A Failure) (stop : Failure) → result ≡ Err stop → result ≡ Err failures.WriteFault → stop ≡ failures.WriteFault
+stop-is : {A : Type 0} (result : Result A Failure) (stop : Failure) → result ≡ Err stop → result ≡ Err failures.WriteFault → stop ≡ failures.WriteFault
 stop-is result stop is fault = cc
 
 -- an error that is passed on is the one that came
@@ -166,12 +170,13 @@ pub err-of : {A B : Type 0} (a b : Failure) → (let one : Result A Failure = Er
 err-of {A} {B} a b is = let same : a ≡ b = cc in ap (λ (e : Failure). Err e) same
 
 -- a run that came to its end ends so
-pub finishes-so : (receipts : Bool) (functions : DigestFunctions) (settings : Settings) (script : List (List Task)) (result : Result RunEnd Failure) (outputs : Outputs)
-    → IfOk result (λ end. IsServed receipts functions settings script end outputs) → OnErr result (IsCutAtEnd receipts functions settings script outputs)
-    → OnErr result (result ≡ Err failures.WriteFault) → ServesTo receipts functions settings script result outputs
-finishes-so receipts functions settings script (Ok end) outputs served cut stop = served
-finishes-so receipts functions settings script (Err fault) outputs served cut stop =
-    ends-so receipts functions settings script fault outputs (stop-is {A = RunEnd} (Err fault) fault refl stop) cut
+pub finishes-so : (account : Account) (functions : DigestFunctions) (settings : Settings) (script : List (List Task)) (result : Result RunEnd Failure) (outputs : Outputs)
+    → IfOk result (λ end. IsServed account functions settings script end outputs) → OnErr result (IsCutAtEnd account functions settings script outputs)
+    → OnErr result (result ≡ Err failures.WriteFault) → ServesTo account functions settings script result outputs
+finishes-so account functions settings script (Ok end) outputs served cut stop = served
+finishes-so account functions settings script (Err fault) outputs served cut stop =
+    subst (λ (s : Failure). ServesTo account functions settings script (Err s) outputs) (sym (stop-is {A = RunEnd} (Err fault) fault refl stop))
+    (ends-so account functions settings script outputs cut)
 
 -- what is said of the one host's world is said of the other's
 pub host-back : {D : Type 0} (a b : code.World D) → AreOfOneHost a b → AreOfOneHost b a

@@ -1,6 +1,5 @@
--- Where a load stops before its summary, and the summary of one whose counters don't suffice for the setup.
-use Rattle.std.proofs.Common.{◌≡◌, ℕ, ◌<◌, List, [], replicate, Option, Some, Result, Ok, Err, OnErr, IfOk, inl, inr, refl, sym, ◌∙◌, ap, subst, arith}
-use Rattle.fv_outside.specs.Faults.{Rose}
+-- The summary of a load whose counters don't suffice for the setup.
+use Rattle.std.proofs.Common.{◌≡◌, ℕ, ◌<◌, List, [], replicate, Option, Some, refl, sym, ◌∙◌, ap, subst, arith}
 use Rattle.fv_outside.specs.Written.{Grows, GrowsByFront}
 use Rattle.record_hash.specs.Functions.{DigestFunctions}
 use Rattle.record_text.specs.declared.operation.Operation.{Operation}
@@ -15,60 +14,15 @@ use Rattle.bundle_report.specs.Report.{operations_told}
 use Rattle.script_text.specs.declared.task.Task.{Task}
 use Rattle.host_world.specs.declared.fault.ClockEnd.{ClockEnd}
 use Rattle.host_world.specs.declared.settings.Settings.{Settings}
-use Rattle.fv_outside.specs.declared.failure.Failure.{Failure}
-use Rattle.fv_outside.specs.declared.failure.Failure.TheVariants as failures
 use Rattle.host_rounds.specs.Bundle.{HasBundle}
 use Rattle.host_rounds.specs.SoFar.{RunsSoFar, HaveRun, operations_due, epochs_due, summary_due}
 use Rattle.host_rounds.proofs.RoundLaws.{counted-none}
+use Rattle.verifier_threads.specs.declared.accounts.Account.TheVariants as accounts
 use Rattle.verifier_threads.specs.declared.ending.RunEnd.{RunEnd}
 use Rattle.verifier_threads.specs.declared.loads.Load.{Load}
 use Rattle.verifier_threads.specs.InRounds.{Logs, no_logs}
-use Rattle.verifier_threads.specs.Serving.{Outputs, AreOfRun, end_by, status_at, setup_end, texts_of}
-use Rattle.verifier_threads.specs.Summing.{IsSummed, IsCutInSummary, IsCutBefore, SumsTo, summary_of}
+use Rattle.verifier_threads.specs.Serving.{AreOfRun, IsServed, IsCutAtEnd, end_by, status_at, setup_end, texts_of, summary_of}
 use Rattle.verifier_threads.proofs.NothingLemmas.{NoTexts, empty-are}
-
--- ---- it stops
-
--- before anything is written
-pub stops-before : (functions : DigestFunctions) (settings : Settings) (script : List (List Task)) (load : Load) (stop : Failure) (outputs : Outputs)
-    → (stop ≡ failures.ReadFault → ⊥) → (stop ≡ failures.InputLimit → ⊥) → (stop ≡ failures.WriteFault → ⊥)
-    → IsCutBefore functions settings script outputs → SumsTo functions settings script load (Err stop) outputs
-stops-before functions settings script load failures.Memory outputs source limit sink cut = cut
-stops-before functions settings script load failures.ReadFault outputs source limit sink cut = absurd (source refl)
-stops-before functions settings script load failures.InputLimit outputs source limit sink cut = absurd (limit refl)
-stops-before functions settings script load failures.VaultFault outputs source limit sink cut = cut
-stops-before functions settings script load failures.WriteFault outputs source limit sink cut = absurd (sink refl)
-
--- for want of memory
-pub memory-before : (functions : DigestFunctions) (settings : Settings) (script : List (List Task)) (load : Load) (stop : Failure) (outputs : Outputs)
-    → stop ≡ failures.Memory → IsCutBefore functions settings script outputs → SumsTo functions settings script load (Err stop) outputs
-memory-before functions settings script load stop outputs is cut =
-    subst (λ (s : Failure). SumsTo functions settings script load (Err s) outputs) (sym is) cut
-
--- an error is not another one where no answer with it is
-pub other-stop : {A : Type 0} (a b stop : Failure) → a ≡ b → ((let one : Result A Failure = Err b in one ≡ Err stop) → ⊥) → a ≡ stop → ⊥
-other-stop {A} a b stop same other is = other (let both : b ≡ stop = sym same ∙ is in ap (λ (e : Failure). let r : Result A Failure = Err e in r) both)
-
--- a count of faults that stays at 0 never rose
-pub never-rose : Rose 0 0 → ⊥
-never-rose rose = elim rose [ inl less ↦ absurd (omega (arith, less)) | inr last ↦ absurd (omega (arith, last)) ]
-
--- in the summary, because the sink failed
-pub stops-inside : (functions : DigestFunctions) (settings : Settings) (script : List (List Task)) (load : Load) (stop : Failure) (outputs : Outputs)
-    → stop ≡ failures.WriteFault → IsCutInSummary functions settings script load outputs → SumsTo functions settings script load (Err stop) outputs
-stops-inside functions settings script load stop outputs is cut =
-    subst (λ (s : Failure). SumsTo functions settings script load (Err s) outputs) (sym is) cut
-
-pub write-fault : {A : Type 0} (stop : Failure) → (let one : Result A Failure = Err stop in one ≡ Err failures.WriteFault) → stop ≡ failures.WriteFault
-write-fault stop is = cc
-
--- a load that came to its end ends so
-pub sums-so : (functions : DigestFunctions) (settings : Settings) (script : List (List Task)) (load : Load) (result : Result RunEnd Failure) (outputs : Outputs)
-    → IfOk result (λ end. IsSummed functions settings script load end outputs) → OnErr result (IsCutInSummary functions settings script load outputs)
-    → OnErr result (result ≡ Err failures.WriteFault) → SumsTo functions settings script load result outputs
-sums-so functions settings script load (Ok end) outputs summed cut stop = summed
-sums-so functions settings script load (Err fault) outputs summed cut stop =
-    stops-inside functions settings script load fault outputs (write-fault {A = RunEnd} fault stop) cut
 
 -- ---- nothing is logged
 
@@ -118,7 +72,7 @@ module _ (no_epochs : NoEpochs) (no_operations : NoOperations) (no_texts : NoTex
       → HaveRun functions own (empty_logs own.verifiers) rounds → rounds.judged.count ≡ 0
       → HasBundle own (empty_logs own.verifiers) [] vault vault_after
       → Grows out out_after (summary_with_end load.seed load.ops rounds.judged.count rounds.summary.tallies (status_at (end_by 0 (Some end))))
-      → IsSummed functions settings script load (end_by 0 (Some end)) (record { vault = vault; vault_after = vault_after; out = out; out_after = out_after })
+      → IsServed (accounts.Summary load) functions settings script (end_by 0 (Some end)) (record { vault = vault; vault_after = vault_after; out = out; out_after = out_after })
   nothing-summed rounds end vault vault_after out out_after is have none has written = record {
     rounds = [];
     logs = none_logged;
@@ -135,7 +89,7 @@ module _ (no_epochs : NoEpochs) (no_operations : NoOperations) (no_texts : NoTex
       → HaveRun functions own (empty_logs own.verifiers) rounds → rounds.judged.count ≡ 0
       → HasBundle own (empty_logs own.verifiers) [] vault vault_after
       → GrowsByFront out out_after (summary_with_end load.seed load.ops rounds.judged.count rounds.summary.tallies (status_at (end_by 0 (Some end))))
-      → IsCutInSummary functions settings script load (record { vault = vault; vault_after = vault_after; out = out; out_after = out_after })
+      → IsCutAtEnd (accounts.Summary load) functions settings script (record { vault = vault; vault_after = vault_after; out = out; out_after = out_after })
   nothing-cut_summary rounds end vault vault_after out out_after is have none has written = record {
     rounds = [];
     logs = none_logged;

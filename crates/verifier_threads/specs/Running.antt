@@ -23,9 +23,9 @@ use Rattle.worker_threads.specs.Phase.{first_stopped}
 use Rattle.certified_epochs.specs.declared.fed_run.FedRun.{FedRun}
 use Rattle.host_rounds.specs.Feeding.{AllRead}
 use Rattle.host_rounds.specs.SoFar.{RunsSoFar, Keeps, AllCounted, lines_counted, with_runs}
-use Rattle.verifier_threads.specs.declared.runner.Runner.{Runner}
+use Rattle.verifier_threads.specs.declared.world_run.WorldRun.{WorldRun}
 use Rattle.verifier_threads.specs.InRounds.{Logs, logged_behind, no_logs, ArePassed}
-use Rattle.verifier_threads.specs.Serving.{Outputs, HasTold, texts_of}
+use Rattle.verifier_threads.specs.Serving.{Outputs, HasToldLines, texts_of}
 
 -- ---- logs that are handed out
 
@@ -56,68 +56,63 @@ pub record IsRunning (receipts : Bool) (functions : DigestFunctions) (settings :
   pub written : Grows outputs.out outputs.out_after (lines_counted (told_by receipts functions settings.header) functions settings.header (texts_of logs) rounds)
 
 -- So runs a runner of the code, which has a buffer for each worker, and a count of parcels for its verifier.
-pub record Runs (receipts : Bool) {D : Type 0} (functions : D → DigestFunctions) (runner : Runner D) (past : List Logs) (outputs : Outputs) : Type 0 where
+pub record Runs (receipts : Bool) {D : Type 0} (functions : D → DigestFunctions) (runner : WorldRun D) (past : List Logs) (outputs : Outputs) : Type 0 where
   pub running : IsRunning receipts (functions (digests_of runner.world)) runner.world.settings (requests_of runner.world) (shown_world runner.world) runner.rounds runner.end past outputs
   pub buffers : length runner.buffers.items ≡ length runner.world.workers.items
   pub counts : length runner.parcels.items ≡ length runner.world.workers.items
 
 -- The same behind so many phases and so many closes: all lines are written that the rounds up to the last close certify.
-pub record RunsBehind (receipts : Bool) {D : Type 0} (functions : D → DigestFunctions) (runner : Runner D) (phases closes : ℕ) (outputs : Outputs) : Type 0 where
+pub record RunsBehind (receipts : Bool) {D : Type 0} (functions : D → DigestFunctions) (runner : WorldRun D) (phases closes : ℕ) (outputs : Outputs) : Type 0 where
   pub past : List Logs
   pub runs : Runs receipts functions runner past outputs
   pub count : length past ≡ phases + closes
-  pub told : HasTold receipts (functions (digests_of runner.world)) runner.world.settings.header (take (2 * closes) past) outputs
+  pub told : HasToldLines receipts (functions (digests_of runner.world)) runner.world.settings.header (take (2 * closes) past) outputs
 
 -- The same behind so many closes, and each epoch that the logs certify is counted.
-pub record RunsWhole (receipts : Bool) {D : Type 0} (functions : D → DigestFunctions) (runner : Runner D) (closes : ℕ) (outputs : Outputs) : Type 0 where
+pub record RunsWhole (receipts : Bool) {D : Type 0} (functions : D → DigestFunctions) (runner : WorldRun D) (closes : ℕ) (outputs : Outputs) : Type 0 where
   pub past : List Logs
   pub runs : Runs receipts functions runner past outputs
   pub all : AllCounted (functions (digests_of runner.world)) runner.world.settings.header (texts_of runs.running.logs) runner.rounds
   pub count : length past ≡ closes + closes
-  pub told : HasTold receipts (functions (digests_of runner.world)) runner.world.settings.header past outputs
+  pub told : HasToldLines receipts (functions (digests_of runner.world)) runner.world.settings.header past outputs
 
 -- The same at the end, where each phase and its close had a round of its own if no clock ended.
-pub record RunsToEnd (receipts : Bool) {D : Type 0} (functions : D → DigestFunctions) (runner : Runner D) (outputs : Outputs) : Type 0 where
+pub record RunsToEnd (receipts : Bool) {D : Type 0} (functions : D → DigestFunctions) (runner : WorldRun D) (outputs : Outputs) : Type 0 where
   pub past : List Logs
   pub runs : Runs receipts functions runner past outputs
   pub all : AllCounted (functions (digests_of runner.world)) runner.world.settings.header (texts_of runs.running.logs) runner.rounds
   pub count : runner.end ≡ None → length past ≡ 2 * length (requests_of runner.world)
 
 -- so it runs, whatever rounds were handed out
-abbrev pub RunsSome : Bool → {D : Type 0} → (D → DigestFunctions) → Runner D → Outputs → Type 0
+abbrev pub RunsSome : Bool → {D : Type 0} → (D → DigestFunctions) → WorldRun D → Outputs → Type 0
 RunsSome receipts functions runner outputs = (past : List Logs) × Runs receipts functions runner past outputs
 
 -- So it runs, with receipts or without and whatever the vault and the sink held before, where the vault now holds this.
-abbrev pub IsUnderWay : {D : Type 0} → (D → DigestFunctions) → Runner D → Option (List ℕ) → Type 0
+abbrev pub IsUnderWay : {D : Type 0} → (D → DigestFunctions) → WorldRun D → Option (List ℕ) → Type 0
 IsUnderWay functions runner held = (receipts : Bool) × (outputs : Outputs) × RunsSome receipts functions runner outputs × (outputs.vault_after ≡ held)
 
 -- the runner with other runs of its verifiers
-abbrev pub with_runs_of : {D : Type 0} → List FedRun → Runner D → Runner D
+abbrev pub with_runs_of : {D : Type 0} → List FedRun → WorldRun D → WorldRun D
 with_runs_of runs runner = record runner { rounds = with_runs runs runner.rounds }
 
 -- its verifiers' runs took what its workers logged since that was last handed out, and were these before
-abbrev pub HaveReadRound : {D : Type 0} → (D → DigestFunctions) → List FedRun → Runner D → Type 0
+abbrev pub HaveReadRound : {D : Type 0} → (D → DigestFunctions) → List FedRun → WorldRun D → Type 0
 HaveReadRound functions before runner =
     AllRead (functions (digests_of runner.world)) (texts_of (machine.logs_of (shown_world runner.world))) before runner.rounds.runs
 
 -- so it runs, but that its verifiers' runs have taken what its workers logged and the vault doesn't have that yet
-abbrev pub IsFedUnderWay : {D : Type 0} → (D → DigestFunctions) → Runner D → Option (List ℕ) → Type 0
+abbrev pub IsFedUnderWay : {D : Type 0} → (D → DigestFunctions) → WorldRun D → Option (List ℕ) → Type 0
 IsFedUnderWay functions runner held =
     (receipts : Bool) × (outputs : Outputs) × (before : List FedRun) × RunsSome receipts functions (with_runs_of before runner) outputs
     × HaveReadRound functions before runner × (outputs.vault_after ≡ held)
 
 -- so it runs behind so many phases and so many closes
-abbrev pub IsUnderWayBehind : {D : Type 0} → (D → DigestFunctions) → Runner D → ℕ → ℕ → Option (List ℕ) → Type 0
+abbrev pub IsUnderWayBehind : {D : Type 0} → (D → DigestFunctions) → WorldRun D → ℕ → ℕ → Option (List ℕ) → Type 0
 IsUnderWayBehind functions runner phases closes held =
     (receipts : Bool) × (outputs : Outputs) × RunsBehind receipts functions runner phases closes outputs × (outputs.vault_after ≡ held)
 
--- the same with receipts, or without, where as many closes are done and the sink now holds this
-abbrev pub IsUnderWayWith : Bool → {D : Type 0} → (D → DigestFunctions) → Runner D → ℕ → Option (List ℕ) → Option (List ℕ) → Type 0
-IsUnderWayWith receipts functions runner phases held out =
-    (outputs : Outputs) × RunsBehind receipts functions runner phases phases outputs × (outputs.vault_after ≡ held) × (outputs.out_after ≡ out)
-
 -- so it runs, with all counted that its logs certify
-abbrev pub IsUnderWayWhole : {D : Type 0} → (D → DigestFunctions) → Runner D → Type 0
+abbrev pub IsUnderWayWhole : {D : Type 0} → (D → DigestFunctions) → WorldRun D → Type 0
 IsUnderWayWhole functions runner = (receipts : Bool) × (outputs : Outputs) × RunsToEnd receipts functions runner outputs
 
 -- ---- where it stands

@@ -1,4 +1,4 @@
--- A script that is served: the logs of its workers, the bundle of them in the vault, and the report in the sink.
+-- A script that is served: the logs of its workers, the bundle of them in the vault, and the report or the summary in the sink.
 use Rattle.std.specs.Prelude.{◌≡◌, ◌⊎◌, Bool, ℕ, ◌+◌, ◌*◌, ◌<◌, ◌≤◌, List, [], ◌∷◌, ◌++◌, length, map, take, Option, Some, None, Result, Ok, Err}
 use Rattle.fv_outside.specs.Written.{Grows, GrowsByFront}
 use Rattle.lamport_clocks.specs.declared.header.Header.{Header}
@@ -24,7 +24,10 @@ use Rattle.fv_outside.specs.declared.failure.Failure.TheVariants as failures
 use Rattle.bundle_frames.specs.Bundle.{header_text}
 use Rattle.host_rounds.specs.Round.{round_text, logs_in}
 use Rattle.host_rounds.specs.Bundle.{HasBundle, HasFront}
-use Rattle.host_rounds.specs.SoFar.{lines_due}
+use Rattle.host_rounds.specs.SoFar.{lines_due, summary_due}
+use Rattle.verifier_threads.specs.declared.accounts.Account.{Account}
+use Rattle.verifier_threads.specs.declared.accounts.Account.TheVariants as accounts
+use Rattle.verifier_threads.specs.declared.loads.Load.{Load}
 use Rattle.verifier_threads.specs.InRounds.{Logs, no_logs, ArePassed}
 use Rattle.verifier_threads.specs.declared.ending.RunEnd.{RunEnd}
 use Rattle.verifier_threads.specs.declared.ending.RunEnd.TheVariants as ends
@@ -89,11 +92,20 @@ module _ (functions : DigestFunctions) (settings : Settings) (script : List (Lis
     pub served : settings.shards ≤ settings.header.end → AreOnTheWay
     pub unserved : settings.header.end < settings.shards → (logs ≡ no_logs settings.header.verifiers) × (rounds ≡ [])
 
--- ---- vault and report
+-- ---- vault and account
 
 -- the report: the lines that the logs certify, with receipts or without, and how the run ends
 abbrev pub report_of : Bool → DigestFunctions → Header → List (List Command) → RunEnd → List ℕ
 report_of receipts functions header logs end = lines_due (told_by receipts functions header) functions header (texts_of logs) ++ last_line (status_at end)
+
+-- the summary of a load with these logs: how many epochs they certify, what each worker did in these, and how the run ended
+abbrev pub summary_of : DigestFunctions → Header → Load → List (List Command) → RunEnd → List ℕ
+summary_of functions header load logs end = summary_due functions header (texts_of logs) load.seed load.ops (status_at end)
+
+-- what is written of a whole run with these logs: its report, or the summary of a load
+abbrev pub account_of : Account → DigestFunctions → Header → List (List Command) → RunEnd → List ℕ
+account_of (accounts.Report receipts) functions header logs end = report_of receipts functions header logs end
+account_of (accounts.Summary load) functions header logs end = summary_of functions header load logs end
 
 -- What a vault held before and holds now, and a sink.
 pub record Outputs : Type 0 where
@@ -102,42 +114,54 @@ pub record Outputs : Type 0 where
   pub out : Option (List ℕ)
   pub out_after : Option (List ℕ)
 
--- The script is served: the vault took the bundle of the logs, and the sink their report.
-pub record IsServed (receipts : Bool) (functions : DigestFunctions) (settings : Settings) (script : List (List Task)) (result : RunEnd) (outputs : Outputs) : Type 0 where
-  pub rounds : List Logs
-  pub logs : Logs
-  pub end : Option ClockEnd
-  pub run : AreOfRun functions settings script rounds logs end
-  pub is : result ≡ end_by (length script) end
-  pub vault : HasBundle settings.header (texts_of logs) (map texts_of rounds) outputs.vault outputs.vault_after
-  pub out : Grows outputs.out outputs.out_after (report_of receipts functions settings.header logs result)
+-- what a sink took before the end, where a vault has these bytes: of a report a front of the lines that they certify, and of a summary
+-- nothing
+abbrev pub HasFrontOfLines : Account → DigestFunctions → List ℕ → Outputs → Type 0
+HasFrontOfLines (accounts.Report receipts) functions bytes outputs = GrowsByFront outputs.out outputs.out_after (check_answer receipts functions bytes).due
+HasFrontOfLines (accounts.Summary load) functions bytes outputs = outputs.out_after ≡ outputs.out
 
--- It stopped before: the vault took a front of the bundle of the logs so far, and the sink a front of the lines that the bytes
--- of that front certify.
-pub record IsCutOff (receipts : Bool) (functions : DigestFunctions) (settings : Settings) (script : List (List Task)) (outputs : Outputs) : Type 0 where
-  pub rounds : List Logs
-  pub logs : Logs
-  pub run : AreOfRunSoFar functions settings script rounds logs
-  pub vault : HasFront settings.header (texts_of logs) (map texts_of rounds) outputs.vault outputs.vault_after
-  pub out : GrowsByFront outputs.out outputs.out_after (check_answer receipts functions vault.grown.front).due
+module _ (account : Account) (functions : DigestFunctions) (settings : Settings) (script : List (List Task)) where
+  -- The script is served: the vault took the bundle of the logs, and the sink what is written of them.
+  pub record IsServed (result : RunEnd) (outputs : Outputs) : Type 0 where
+    pub rounds : List Logs
+    pub logs : Logs
+    pub end : Option ClockEnd
+    pub run : AreOfRun functions settings script rounds logs end
+    pub is : result ≡ end_by (length script) end
+    pub vault : HasBundle settings.header (texts_of logs) (map texts_of rounds) outputs.vault outputs.vault_after
+    pub out : Grows outputs.out outputs.out_after (account_of account functions settings.header logs result)
 
--- It stopped at the last line: all is served, and the sink took a front of the report.
-pub record IsCutAtEnd (receipts : Bool) (functions : DigestFunctions) (settings : Settings) (script : List (List Task)) (outputs : Outputs) : Type 0 where
-  pub rounds : List Logs
-  pub logs : Logs
-  pub end : Option ClockEnd
-  pub run : AreOfRun functions settings script rounds logs end
-  pub vault : HasBundle settings.header (texts_of logs) (map texts_of rounds) outputs.vault outputs.vault_after
-  pub out : GrowsByFront outputs.out outputs.out_after (report_of receipts functions settings.header logs (end_by (length script) end))
+  -- It stopped before the end: the vault took a front of the bundle of the logs so far, and the sink, of a report, a front of the lines
+  -- that the bytes of that front certify.
+  pub record IsCutOff (outputs : Outputs) : Type 0 where
+    pub rounds : List Logs
+    pub logs : Logs
+    pub run : AreOfRunSoFar functions settings script rounds logs
+    pub vault : HasFront settings.header (texts_of logs) (map texts_of rounds) outputs.vault outputs.vault_after
+    pub out : HasFrontOfLines account functions vault.grown.front outputs
 
--- all lines that these rounds certify are written
-abbrev pub HasTold : Bool → DigestFunctions → Header → List Logs → Outputs → Type 0
-HasTold receipts functions header rounds outputs =
+  -- It stopped at the end: all is served, and the sink took a front of what is written of it.
+  pub record IsCutAtEnd (outputs : Outputs) : Type 0 where
+    pub rounds : List Logs
+    pub logs : Logs
+    pub end : Option ClockEnd
+    pub run : AreOfRun functions settings script rounds logs end
+    pub vault : HasBundle settings.header (texts_of logs) (map texts_of rounds) outputs.vault outputs.vault_after
+    pub out : GrowsByFront outputs.out outputs.out_after (account_of account functions settings.header logs (end_by (length script) end))
+
+-- all lines that these rounds certify are written, with receipts or without
+abbrev pub HasToldLines : Bool → DigestFunctions → Header → List Logs → Outputs → Type 0
+HasToldLines receipts functions header rounds outputs =
     Grows outputs.out outputs.out_after (lines_due (told_by receipts functions header) functions header (logs_in header.verifiers (map texts_of rounds)))
 
+-- of a report they are, and of a summary nothing is
+abbrev pub HasTold : Account → DigestFunctions → Header → List Logs → Outputs → Type 0
+HasTold (accounts.Report receipts) functions header rounds outputs = HasToldLines receipts functions header rounds outputs
+HasTold (accounts.Summary load) functions header rounds outputs = outputs.out_after ≡ outputs.out
+
 -- It stopped in a round, and the vault held this before the round: the whole bundle of the rounds before. It took a front of that
--- round's frames, and the sink all lines that the rounds up to the last close certify.
-pub record IsCutInRound (receipts : Bool) (functions : DigestFunctions) (settings : Settings) (script : List (List Task)) (outputs : Outputs) : Type 0 where
+-- round's frames, and the sink, of a report, all lines that the rounds up to the last close certify.
+pub record IsCutInRound (account : Account) (functions : DigestFunctions) (settings : Settings) (script : List (List Task)) (outputs : Outputs) : Type 0 where
   pub past : List Logs
   pub round : Logs
   pub logs : Logs
@@ -147,7 +171,7 @@ pub record IsCutInRound (receipts : Bool) (functions : DigestFunctions) (setting
   pub front : GrowsByFront held outputs.vault_after (round_text (texts_of round))
   pub closes : ℕ
   pub count : (length past ≡ 2 * closes) ⊎ (length past ≡ 1 + 2 * closes)
-  pub told : HasTold receipts functions settings.header (take (2 * closes) past) outputs
+  pub told : HasTold account functions settings.header (take (2 * closes) past) outputs
 
 -- It stopped in the header: the vault took a front of it, and the sink nothing.
 pub record IsCutInHeader (settings : Settings) (outputs : Outputs) : Type 0 where
@@ -155,14 +179,20 @@ pub record IsCutInHeader (settings : Settings) (outputs : Outputs) : Type 0 wher
   pub out : outputs.out_after ≡ outputs.out
 
 -- The vault failed: in the header, or in a round.
-abbrev pub IsCutByVault : Bool → DigestFunctions → Settings → List (List Task) → Outputs → Type 0
-IsCutByVault receipts functions settings script outputs = IsCutInHeader settings outputs ⊎ IsCutInRound receipts functions settings script outputs
+abbrev pub IsCutByVault : Account → DigestFunctions → Settings → List (List Task) → Outputs → Type 0
+IsCutByVault account functions settings script outputs = IsCutInHeader settings outputs ⊎ IsCutInRound account functions settings script outputs
+
+-- The sink failed: in the lines or at the end, and where a summary is written only at the end.
+abbrev pub IsCutBySink : Account → DigestFunctions → Settings → List (List Task) → Outputs → Type 0
+IsCutBySink (accounts.Report receipts) functions settings script outputs =
+    IsCutOff (accounts.Report receipts) functions settings script outputs ⊎ IsCutAtEnd (accounts.Report receipts) functions settings script outputs
+IsCutBySink (accounts.Summary load) functions settings script outputs = IsCutAtEnd (accounts.Summary load) functions settings script outputs
 
 -- What stands where a run ends, and where it stops.
-abbrev pub ServesTo : Bool → DigestFunctions → Settings → List (List Task) → Result RunEnd Failure → Outputs → Type 0
-ServesTo receipts functions settings script (Ok result) outputs = IsServed receipts functions settings script result outputs
-ServesTo receipts functions settings script (Err failures.Memory) outputs = IsCutOff receipts functions settings script outputs
-ServesTo receipts functions settings script (Err failures.ReadFault) outputs = ⊥
-ServesTo receipts functions settings script (Err failures.InputLimit) outputs = ⊥
-ServesTo receipts functions settings script (Err failures.VaultFault) outputs = IsCutOff receipts functions settings script outputs × IsCutByVault receipts functions settings script outputs
-ServesTo receipts functions settings script (Err failures.WriteFault) outputs = IsCutOff receipts functions settings script outputs ⊎ IsCutAtEnd receipts functions settings script outputs
+abbrev pub ServesTo : Account → DigestFunctions → Settings → List (List Task) → Result RunEnd Failure → Outputs → Type 0
+ServesTo account functions settings script (Ok result) outputs = IsServed account functions settings script result outputs
+ServesTo account functions settings script (Err failures.Memory) outputs = IsCutOff account functions settings script outputs
+ServesTo account functions settings script (Err failures.ReadFault) outputs = ⊥
+ServesTo account functions settings script (Err failures.InputLimit) outputs = ⊥
+ServesTo account functions settings script (Err failures.VaultFault) outputs = IsCutOff account functions settings script outputs × IsCutByVault account functions settings script outputs
+ServesTo account functions settings script (Err failures.WriteFault) outputs = IsCutBySink account functions settings script outputs

@@ -10,8 +10,8 @@ ghost use Rattle.host_rounds.specs.Bundle.{IsBundle};
 ghost use Rattle.host_rounds.specs.SoFar.{lines_due};
 ghost use Rattle.script_text.specs.declared.task.Task.{Task};
 ghost use Rattle.host_world.specs.Settings.{IsSettings};
+ghost use Rattle.verifier_threads.specs.declared.accounts.Account.{Account};
 ghost use Rattle.verifier_threads.specs.Serving.{IsCutOff, ServesTo};
-ghost use Rattle.verifier_threads.specs.Summing.{IsCutBefore};
 
 use base_words::a_number_of_32_bits_is_below;
 use bundle_frames::{bytes_bound_the_frames, frames_are_read_back, headers_are_read_back};
@@ -32,19 +32,16 @@ pub fn what_is_due_stays_due()
     bundles_hold_the_logs();
 }
 
-/// A run or a load of which the vault took a front of the header, or nothing, and the sink nothing was cut off: the bundle of what
-/// the setup logs begins with the header.
+/// A run of which the vault took a front of the header, or nothing, and the sink nothing was cut off, whatever is to be written of it:
+/// the bundle of what the setup logs begins with the header.
 pub fn a_header_begins_the_bundle(settings: &Settings)
     requires settings { IsSettings settings.now }
-    ensures cut { (receipts : Bool) (functions : DigestFunctions) (script : List (List Task)) (vault vault_after out : Option (List ℕ))
+    ensures cut { (account : Account) (functions : DigestFunctions) (script : List (List Task)) (vault vault_after out : Option (List ℕ))
         → GrowsByFront vault vault_after (header_text settings.now.header)
-        → IsCutOff receipts functions settings.now script (record { vault = vault; vault_after = vault_after; out = out; out_after = out }) }
-    ensures fault { (receipts : Bool) (functions : DigestFunctions) (script : List (List Task)) (vault vault_after out : Option (List ℕ))
+        → IsCutOff account functions settings.now script (record { vault = vault; vault_after = vault_after; out = out; out_after = out }) }
+    ensures fault { (account : Account) (functions : DigestFunctions) (script : List (List Task)) (vault vault_after out : Option (List ℕ))
         → GrowsByFront vault vault_after (header_text settings.now.header)
-        → ServesTo receipts functions settings.now script (Err Failure.VaultFault) (record { vault = vault; vault_after = vault_after; out = out; out_after = out }) }
-    ensures before { (functions : DigestFunctions) (script : List (List Task)) (vault vault_after out : Option (List ℕ))
-        → GrowsByFront vault vault_after (header_text settings.now.header)
-        → IsCutBefore functions settings.now script (record { vault = vault; vault_after = vault_after; out = out; out_after = out }) }
+        → ServesTo account functions settings.now script (Err Failure.VaultFault) (record { vault = vault; vault_after = vault_after; out = out; out_after = out }) }
 {
     rounds_make_a_bundle();
     a_number_of_32_bits_is_below(settings.header.first);

@@ -1,237 +1,214 @@
-//! A run of a script: its world, phase by phase, and what becomes of the logs.
-ghost use Rattle.std.specs.Prelude.{◌≡◌, ◌≢◌, ◌↔◌, ◌⊎◌, ◌≤◌, ◌<◌, Bool, ℕ, suc, true, false, List, [], ◌∷◌, ◌++◌, Option, None, length, map, replicate, OnOk, OnErr, IfOk, Err};
-ghost use Rattle.std.specs.List.{AllByRecursion};
+//! A run of a script, call by call: its setup, each phase, each close, and its end.
+ghost use Rattle.std.specs.Prelude.{◌≡◌, ◌≢◌, ◌≤◌, ◌<◌, ℕ, List, Option, length, OnOk, OnErr, IfOk, Ok, Err};
 ghost use Rattle.fv_outside.specs.Failures.{FailsByOutput, FailsByVault};
 ghost use Rattle.fv_outside.specs.Faults.{Rose};
-ghost use Rattle.bundle_report.specs.Report.{told_by};
-ghost use Rattle.certified_epochs.specs.declared.fed_run.FedRun.{FedRun};
-ghost use Rattle.certified_epochs.specs.Telling.{text_by};
-ghost use Rattle.certified_epochs.specs.Turn.{AreVerdictsOn};
-ghost use Rattle.host_core.specs.World.{set_up, logs_of};
-ghost use Rattle.host_core.specs.WorldEvent.{IsLast};
+ghost use Rattle.record_hash.specs.Functions.{DigestFunctions};
+ghost use Rattle.script_text.specs.Text.{AreTasks};
+ghost use Rattle.script_text.specs.declared.task.Task.{Task};
 ghost use Rattle.host_world.specs.Settings.{IsSettings};
-ghost use Rattle.host_world.specs.Shown.{shown_world, digests_of, requests_of, settings_of};
-ghost use Rattle.host_world.specs.Behind.{AreInRange, AreOfOneHost, host_of};
-ghost use Rattle.host_serving.specs.Leading.{first_of};
-ghost use Rattle.host_serving.specs.Standing.{turns_of};
-ghost use Rattle.verifier_threads.specs.InRounds.{Logs, IsBehindRounds};
-ghost use Rattle.verifier_threads.specs.Serving.{Outputs, IsServed, IsCutOff, IsCutInHeader, IsCutInRound, IsCutAtEnd, end_by};
-ghost use Rattle.verifier_threads.specs.Summing.{IsSummed, IsCutInSummary};
-ghost use Rattle.verifier_threads.specs.Running.{Runs, RunsSome, RunsBehind, RunsWhole, RunsToEnd, IsUnderWay, IsUnderWayBehind, IsUnderWayWith, IsUnderWayWhole, IsFedUnderWay, HaveReadRound, IsAtPhase, IsAtClose, IsAtEnd, all_handed_out, with_runs_of};
+ghost use Rattle.verifier_threads.specs.Serving.{Outputs, IsServed, IsCutOff, IsCutAtEnd, IsCutInHeader, IsCutInRound};
+ghost use Rattle.verifier_threads.specs.Runners.{Stands, IsServing, IsUnserved, TellsLines, next_call_of, phases_left};
 
+use crate::accounts::Account;
 use crate::ending::RunEnd;
-use crate::handing::hand_out_all;
-use crate::laws::{a_header_begins_the_bundle, what_is_due_stays_due};
-use crate::loads::Load;
-use base_words::Memory;
-use certified_epochs::Telling;
-use epoch_gather::Verdict;
-use fv_outside::{Failure, Gate, Sink};
-use host_log::LogBuffer;
-use host_rounds::{Rounds, rounds_make_a_bundle, write_end};
-use host_serving::close_phase;
-use host_world::{ClockEnd, World};
+use crate::laws::a_header_begins_the_bundle;
+use crate::world_run::WorldRun;
+use fv_outside::{Failure, Gate, Sink, SureSink};
+use host_fits::scripts_ask_for_keys_in_range;
+use host_rounds::{Rounds, write_end};
+use host_world::{ClockEnd, Settings, World, WorldFault};
 use record_hash::Digests;
-use report_text::BundleEnd;
-use run_reports::{
-    a_check_of_the_logs_ends_as_the_host_promises, logs_of_no_bytes_certify_nothing,
-};
+use run_reports::logs_of_no_bytes_certify_nothing;
+use script_text::Requests;
 use std::alloc::Global;
 use std::sync::Wait;
 use std::thread::Threads;
-use worker_threads::serve_phase_at_once;
 
-/// A run of a script: the world, what the verifiers have come to over its logs, a buffer for the log of each worker, how many
-/// parcels each verifier took, and the first end of a clock. The vault and the sink of the report are handed in at each call.
+/// Which call of a runner comes next.
+#[derive(Clone, Copy, Debug, PartialEq, Eq)]
+pub enum NextCall {
+    /// `phase`: a phase begins.
+    Phase,
+    /// `close_epoch`: a phase is served, and its close comes.
+    Close,
+    /// `finish`: no more can be done, and the end is to be written.
+    Finish,
+}
+
+// What a runner runs.
+#[derive(Drop)]
+pub(crate) enum State<'a, D> {
+    // The world is set up.
+    Served(WorldRun<'a, D>),
+    // The counters don't suffice for the setup.
+    Unserved { rounds: Rounds, end: ClockEnd },
+}
+
+/// A run of a script. It is made with the script, and then called in the order that it says: `phase` and `close_epoch` by turns, and
+/// `finish` behind the last close. The vault takes the bundle of the logs, and the sink the report or the summary; both are handed in
+/// at each call, and are the same in all.
 ///
 /// After an error it is of no more use.
 #[derive(Drop)]
-pub(crate) struct Runner<'a, D> {
-    pub(crate) alloc: Global,
-    pub(crate) world: World<'a, D>,
-    pub(crate) rounds: Rounds,
-    pub(crate) buffers: Vec<LogBuffer>,
-    pub(crate) parcels: Vec<u64>,
-    pub(crate) end: Option<ClockEnd>,
+pub struct Runner<'a, D> {
+    account: Account,
+    next: NextCall,
+    // The lines of a run of which a summary is written go there.
+    dropped: SureSink,
+    state: State<'a, D>,
 }
 
 impl<'a, D: Digests> Runner<'a, D> {
-    /// Before the first phase: writes the header of the bundle to the vault.
-    pub(crate) fn new<V: Sink>(
+    /// Sets the world up, and writes the header of the bundle to the vault. Where the counters don't suffice for the setup there
+    /// is no phase, and the call that comes next is `finish`.
+    pub fn make<V: Sink>(
         alloc: Global,
-        world: World<'a, D>,
+        d: &'a D,
+        settings: &Settings,
+        requests: &'a Requests,
+        account: Account,
         vault: &mut V,
     ) -> Result<Self, Failure>
-        requires setup { shown_world world ≡ set_up (host_of (D.functions (digests_of world)) world) }
-        requires settings { IsSettings (settings_of world) }
-        requires counters { (settings_of world).shards ≤ (settings_of world).header.end }
-        requires keys { AreInRange (requests_of world) }
-        requires some { 0 < length (requests_of world) }
-        ensures runs { (receipts : Bool) (held : Option (List ℕ)) → IfOk result (λ runner. RunsBehind receipts D.functions runner 0 0
+        requires settings { IsSettings settings.now }
+        requires tasks { AreTasks settings.now.header.verifiers requests.now }
+        ensures stands { (held : Option (List ℕ)) → IfOk result (λ runner. Stands account D.functions (D.functions d.now) settings.now requests.now runner
             (record { vault = V.held vault.old; vault_after = V.held vault.new; out = held; out_after = held })) }
-        ensures world { IfOk result (λ runner. runner.world ≡ world.entry) }
-        ensures begins { IfOk result (λ runner. IsAtPhase (host_of (D.functions (digests_of world.entry)) world.entry)
-            (shown_world world.entry) runner.end) }
-        ensures cut { (receipts : Bool) (held : Option (List ℕ)) → OnErr result (IsCutOff receipts (D.functions (digests_of world.entry))
-            (settings_of world.entry) (requests_of world.entry) (record { vault = V.held vault.old; vault_after = V.held vault.new; out = held; out_after = held })) }
-        ensures header { (held : Option (List ℕ)) → OnErr result (IsCutInHeader (settings_of world.entry)
+        ensures begins { settings.now.shards ≤ settings.now.header.end → IfOk result (λ runner. next_call_of runner ≡ NextCall.Phase) }
+        ensures unserved { settings.now.header.end < settings.now.shards → IfOk result (λ runner. next_call_of runner ≡ NextCall.Finish) }
+        ensures left { IfOk result (λ runner. phases_left runner ≤ length requests.now) }
+
+        // Where it stops: at want of memory, or in the header.
+        ensures cut { (held : Option (List ℕ)) → OnErr result (IsCutOff account (D.functions d.now) settings.now requests.now
+            (record { vault = V.held vault.old; vault_after = V.held vault.new; out = held; out_after = held })) }
+        ensures header { (held : Option (List ℕ)) → OnErr result (IsCutInHeader settings.now
             (record { vault = V.held vault.old; vault_after = V.held vault.new; out = held; out_after = held })) }
         ensures failure { FailsByVault result }
         ensures vault_fault { result ≡ Err Failure.VaultFault → Rose (V.faults vault.old) (V.faults vault.new) }
         ensures never_falls { V.faults vault.old ≤ V.faults vault.new }
         ensures name { V.name vault.new ≡ V.name vault.old }
     {
-        logs_of_no_bytes_certify_nothing();
-        let settings = world.settings();
-        a_header_begins_the_bundle(&settings);
-        let header = settings.header;
-        let buffers = buffers_for(alloc, header.verifiers)?;
-        let parcels = counts_for(alloc, header.verifiers)?;
-        let rounds = Rounds::new(alloc, &header, vault)?;
-        Ok(Runner {
-            alloc,
-            world,
-            rounds,
-            buffers,
-            parcels,
-            end: None,
-        })
-    }
-
-    /// Behind the last close: writes the last line of the report.
-    pub(crate) fn finish<O: Sink>(&mut self, out: &mut O) -> Result<RunEnd, Failure>
-        requires runs { IsUnderWayWhole D.functions self.old }
-        requires ended { IsAtEnd (host_of (D.functions (digests_of self.old.world)) self.old.world) (shown_world self.old.world) self.old.end }
-        ensures served { (receipts : Bool) (outputs : Outputs) → RunsToEnd receipts D.functions self.old outputs → outputs.out_after ≡ O.held out.old
-            → IfOk result (λ end. IsServed receipts (D.functions (digests_of self.old.world)) (settings_of self.old.world) (requests_of self.old.world) end
-            (record outputs { out_after = O.held out.new })) }
-        ensures cut { (receipts : Bool) (outputs : Outputs) → RunsToEnd receipts D.functions self.old outputs → outputs.out_after ≡ O.held out.old
-            → OnErr result (IsCutAtEnd receipts (D.functions (digests_of self.old.world)) (settings_of self.old.world) (requests_of self.old.world)
-            (record outputs { out_after = O.held out.new })) }
-        ensures stop { OnErr result (result ≡ Err Failure.WriteFault) }
-        ensures write_fault { OnErr result (Rose (O.faults out.old) (O.faults out.new)) }
-        ensures never_falls { O.faults out.old ≤ O.faults out.new }
-    {
-        let end = self.conclude();
-        write_end(&end.status(), out)?;
-        Ok(end)
-    }
-
-    /// Behind the last close: writes the summary of a load, in place of the last line of a report.
-    pub(crate) fn sum_up<O: Sink>(&mut self, load: &Load, out: &mut O) -> Result<RunEnd, Failure>
-        requires runs { IsUnderWayWhole D.functions self.old }
-        requires ended { IsAtEnd (host_of (D.functions (digests_of self.old.world)) self.old.world) (shown_world self.old.world) self.old.end }
-        ensures summed { (receipts : Bool) (outputs : Outputs) → RunsToEnd receipts D.functions self.old outputs
-            → IfOk result (λ end. IsSummed (D.functions (digests_of self.old.world)) (settings_of self.old.world) (requests_of self.old.world) load.now end
-            (record outputs { out = O.held out.old; out_after = O.held out.new })) }
-        ensures cut { (receipts : Bool) (outputs : Outputs) → RunsToEnd receipts D.functions self.old outputs
-            → OnErr result (IsCutInSummary (D.functions (digests_of self.old.world)) (settings_of self.old.world) (requests_of self.old.world) load.now
-            (record outputs { out = O.held out.old; out_after = O.held out.new })) }
-        ensures stop { OnErr result (result ≡ Err Failure.WriteFault) }
-        ensures write_fault { OnErr result (Rose (O.faults out.old) (O.faults out.new)) }
-        ensures never_falls { O.faults out.old ≤ O.faults out.new }
-    {
-        let end = self.conclude();
-        self.rounds
-            .write_summary(load.seed, load.ops, &end.status(), out)?;
-        Ok(end)
-    }
-
-    // How it ends, behind the last close: where no clock ended, each phase is certified.
-    fn conclude(&mut self) -> RunEnd
-        requires runs { IsUnderWayWhole D.functions self.old }
-        requires ended { IsAtEnd (host_of (D.functions (digests_of self.old.world)) self.old.world) (shown_world self.old.world) self.old.end }
-        ensures end { result ≡ end_by (length (requests_of self.old.world)) self.old.end }
-        ensures judged { self.new.rounds.judged ≡ self.old.rounds.judged }
-        ensures summary { self.new.rounds.summary ≡ self.old.rounds.summary }
-    {
-        a_check_of_the_logs_ends_as_the_host_promises();
-        match self.end {
-            None => match self.rounds.end() {
-                BundleEnd::Done { epochs } => RunEnd::Done(epochs),
-                _ => unreachable!(),
-            },
-            Some(end) => RunEnd::ClockEnd(end),
+        scripts_ask_for_keys_in_range();
+        a_header_begins_the_bundle(settings);
+        a_script_has_a_phase(requests);
+        let dropped = SureSink::new(alloc, 0, usize::MAX)?;
+        match World::new(alloc, d, settings, requests) {
+            Ok(world) => {
+                let served = WorldRun::new(alloc, world, vault)?;
+                Ok(Runner {
+                    account,
+                    next: NextCall::Phase,
+                    dropped,
+                    state: State::Served(served),
+                })
+            }
+            Err(WorldFault::ClockEnd(end)) => {
+                let rounds = Rounds::new(alloc, &settings.header, vault)?;
+                Ok(Runner {
+                    account,
+                    next: NextCall::Finish,
+                    dropped,
+                    state: State::Unserved { rounds, end },
+                })
+            }
+            Err(WorldFault::Memory) => Err(Failure::Memory),
         }
     }
 
-    // How the epochs of its report are told.
-    fn telling(&self, receipts: bool) -> Telling<'a, D>
-        ensures text { text_by D.functions result ≡ told_by receipts (D.functions (digests_of self.now.world)) self.now.world.settings.header }
+    /// The call that comes next.
+    pub fn next_call(&self) -> NextCall
+        ensures value { result ≡ next_call_of self.now }
     {
-        Telling::new(
-            receipts,
-            self.world.digests(),
-            &self.world.settings().header,
-        )
+        self.next
     }
 
-    // Hands out what all workers logged, where the verifiers' runs have already taken it: it goes to the vault.
-    fn set_down<V: Sink>(&mut self, vault: &mut V) -> Result<(), Failure>
-        requires runs { IsFedUnderWay D.functions self.old (V.held vault.old) }
-        ensures runs { (receipts : Bool) (outputs : Outputs) (before : List FedRun) (past : List Logs)
-            → Runs receipts D.functions (with_runs_of before self.old) past outputs → HaveReadRound D.functions before self.old
-            → IsBehindRounds (host_of (D.functions (digests_of self.old.world)) self.old.world) (suc (length past)) (shown_world self.old.world)
-            → outputs.vault_after ≡ V.held vault.old
-            → OnOk result (Runs receipts D.functions self.new (past ++ (logs_of (shown_world self.old.world) ∷ [])) (record outputs { vault_after = V.held vault.new })) }
-        ensures handed { OnOk result (shown_world self.new.world ≡ all_handed_out (shown_world self.old.world)) }
-        ensures end { self.new.end ≡ self.old.end }
-        ensures cut { (receipts : Bool) (outputs : Outputs) (before : List FedRun) → RunsSome receipts D.functions (with_runs_of before self.old) outputs
-            → outputs.vault_after ≡ V.held vault.old
-            → OnErr result (IsCutOff receipts (D.functions (digests_of self.old.world)) (settings_of self.old.world) (requests_of self.old.world)
-            (record outputs { vault_after = V.held vault.new })) }
-        ensures cut_round { (receipts : Bool) (outputs : Outputs) (before : List FedRun) (closes : ℕ)
-            → RunsBehind receipts D.functions (with_runs_of before self.old) closes closes outputs → outputs.vault_after ≡ V.held vault.old
-            → OnErr result (IsCutInRound receipts (D.functions (digests_of self.old.world)) (settings_of self.old.world) (requests_of self.old.world)
-            (record outputs { vault_after = V.held vault.new })) }
-        ensures host { AreOfOneHost self.old.world self.new.world }
-        ensures failure { FailsByVault result }
-        ensures vault_fault { result ≡ Err Failure.VaultFault → Rose (V.faults vault.old) (V.faults vault.new) }
-        ensures never_falls { V.faults vault.old ≤ V.faults vault.new }
-        ensures name { V.name vault.new ≡ V.name vault.old }
+    /// Behind the last close: writes the last line of the report, or the summary, and answers how the run ends.
+    pub fn finish<O: Sink>(&mut self, out: &mut O) -> Result<RunEnd, Failure>
+        requires next { next_call_of self.old ≡ NextCall.Finish }
+        requires serving { (held : Option (List ℕ)) × IsServing D.functions self.old held }
+        ensures served { (account : Account) (own : DigestFunctions) (settings : Settings) (script : List (List Task)) (outputs : Outputs)
+            → Stands account D.functions own settings script self.old outputs → outputs.out_after ≡ O.held out.old
+            → IfOk result (λ end. IsServed account own settings script end (record outputs { out_after = O.held out.new })) }
+
+        // Where it stops: the sink failed.
+        ensures cut { (account : Account) (own : DigestFunctions) (settings : Settings) (script : List (List Task)) (outputs : Outputs)
+            → Stands account D.functions own settings script self.old outputs → outputs.out_after ≡ O.held out.old
+            → OnErr result (IsCutAtEnd account own settings script (record outputs { out_after = O.held out.new })) }
+        ensures stop { OnErr result (result ≡ Err Failure.WriteFault) }
+        ensures write_fault { OnErr result (Rose (O.faults out.old) (O.faults out.new)) }
+        ensures never_falls { O.faults out.old ≤ O.faults out.new }
     {
-        what_is_due_stays_due();
-        rounds_make_a_bundle();
-        hand_out_all(&mut self.world, self.buffers.as_mut_slice())?;
-        self.rounds.write(self.buffers.as_slice(), vault)
+        let account = self.account;
+        match &mut self.state {
+            State::Served(served) => served.end_with(&account, out),
+            State::Unserved { rounds, end } => end_unserved(&account, rounds, *end, out),
+        }
     }
 }
 
 impl<'a, D: Digests + Sync> Runner<'a, D> {
-    /// A close, the last one or another: the workers move on to the next epoch, what they logged goes to the vault, and the
-    /// lines of all epochs that are now certified are written, with receipts or without. A clock may end in it, and then no more can be done.
-    pub(crate) fn close_epoch<R: Threads + Sync, V: Sink, O: Sink>(
+    /// A phase: its requests are served, the gate is passed before each, and what is logged goes to the vault.
+    pub fn phase<R: Threads + Wait + Sync, V: Sink, G: Gate + Sync>(
         &mut self,
         rt: &R,
-        last: bool,
-        receipts: bool,
+        gate: &G,
+        vault: &mut V,
+    ) -> Result<(), Failure>
+        requires next { next_call_of self.old ≡ NextCall.Phase }
+        requires serving { IsServing D.functions self.old (V.held vault.old) }
+        ensures stands { (account : Account) (own : DigestFunctions) (settings : Settings) (script : List (List Task)) (outputs : Outputs)
+            → Stands account D.functions own settings script self.old outputs → outputs.vault_after ≡ V.held vault.old
+            → OnOk result (Stands account D.functions own settings script self.new (record outputs { vault_after = V.held vault.new })) }
+        ensures next { OnOk result (next_call_of self.new ≡ NextCall.Close) }
+        ensures left { OnOk result (phases_left self.new ≡ phases_left self.old) }
+
+        // Where it stops: the vault has a front of what the phase logged.
+        ensures cut { (account : Account) (own : DigestFunctions) (settings : Settings) (script : List (List Task)) (outputs : Outputs)
+            → Stands account D.functions own settings script self.old outputs → outputs.vault_after ≡ V.held vault.old
+            → OnErr result (IsCutOff account own settings script (record outputs { vault_after = V.held vault.new })) }
+        ensures cut_round { (account : Account) (own : DigestFunctions) (settings : Settings) (script : List (List Task)) (outputs : Outputs)
+            → Stands account D.functions own settings script self.old outputs → outputs.vault_after ≡ V.held vault.old
+            → OnErr result (IsCutInRound account own settings script (record outputs { vault_after = V.held vault.new })) }
+        ensures failure { FailsByVault result }
+        ensures vault_fault { result ≡ Err Failure.VaultFault → Rose (V.faults vault.old) (V.faults vault.new) }
+        ensures never_falls { V.faults vault.old ≤ V.faults vault.new }
+        ensures name { V.name vault.new ≡ V.name vault.old }
+    {
+        match &mut self.state {
+            State::Served(served) => {
+                served.phase(rt, gate, vault)?;
+                self.next = NextCall::Close;
+                Ok(())
+            }
+            State::Unserved { .. } => unreachable!(),
+        }
+    }
+
+    /// The close of a phase: the workers move on to the next epoch, what they logged goes to the vault, and the lines of the epochs
+    /// that are now certified are written. It is the last one at the script's end, and where a clock ended in the phase.
+    pub fn close_epoch<R: Threads + Sync, V: Sink, O: Sink>(
+        &mut self,
+        rt: &R,
         vault: &mut V,
         out: &mut O,
     ) -> Result<(), Failure>
-        requires runs { IsUnderWayBehind D.functions self.old (suc (shown_world self.old.world).phase) (shown_world self.old.world).phase (V.held vault.old) }
-        requires served { IsAtClose (host_of (D.functions (digests_of self.old.world)) self.old.world)
-            (shown_world self.old.world) self.old.end }
-        requires last { (last ≡ true) ↔ IsLast (host_of (D.functions (digests_of self.old.world)) self.old.world)
-            (shown_world self.old.world) }
-        ensures runs { (outputs : Outputs) → RunsBehind receipts D.functions self.old (suc (shown_world self.old.world).phase) (shown_world self.old.world).phase outputs
-            → outputs.vault_after ≡ V.held vault.old → outputs.out_after ≡ O.held out.old
-            → OnOk result (RunsWhole receipts D.functions self.new (suc (shown_world self.old.world).phase) (record outputs { vault_after = V.held vault.new; out_after = O.held out.new })) }
-        ensures ended { (last ≡ true) ⊎ (self.new.end ≢ None)
-            → OnOk result (IsAtEnd (host_of (D.functions (digests_of self.new.world)) self.new.world) (shown_world self.new.world) self.new.end
-            × (self.new.end ≡ None → (shown_world self.new.world).phase ≡ (shown_world self.old.world).phase)) }
-        ensures kept { self.new.end ≡ None → self.old.end ≡ None }
-        ensures opened { last ≡ false → self.new.end ≡ None
-            → OnOk result (IsAtPhase (host_of (D.functions (digests_of self.new.world)) self.new.world) (shown_world self.new.world) self.new.end
-            × ((shown_world self.new.world).phase ≡ suc (shown_world self.old.world).phase)) }
-        ensures cut { (outputs : Outputs) → RunsBehind receipts D.functions self.old (suc (shown_world self.old.world).phase) (shown_world self.old.world).phase outputs → outputs.vault_after ≡ V.held vault.old
-            → outputs.out_after ≡ O.held out.old
-            → OnErr result (IsCutOff receipts (D.functions (digests_of self.old.world)) (settings_of self.old.world) (requests_of self.old.world)
-            (record outputs { vault_after = V.held vault.new; out_after = O.held out.new })) }
-        ensures cut_round { (outputs : Outputs) → RunsBehind receipts D.functions self.old (suc (shown_world self.old.world).phase) (shown_world self.old.world).phase outputs
-            → outputs.vault_after ≡ V.held vault.old → outputs.out_after ≡ O.held out.old → result ≡ Err Failure.VaultFault
-            → IsCutInRound receipts (D.functions (digests_of self.old.world)) (settings_of self.old.world) (requests_of self.old.world)
-            (record outputs { vault_after = V.held vault.new; out_after = O.held out.new }) }
-        ensures host { AreOfOneHost self.old.world self.new.world }
+        requires next { next_call_of self.old ≡ NextCall.Close }
+        requires serving { IsServing D.functions self.old (V.held vault.old) }
+        ensures stands { (account : Account) (own : DigestFunctions) (settings : Settings) (script : List (List Task)) (outputs : Outputs)
+            → Stands account D.functions own settings script self.old outputs → outputs.vault_after ≡ V.held vault.old → outputs.out_after ≡ O.held out.old
+            → OnOk result (Stands account D.functions own settings script self.new (record outputs { vault_after = V.held vault.new; out_after = O.held out.new })) }
+        ensures next { OnOk result (next_call_of self.new ≢ NextCall.Close) }
+        ensures fewer { OnOk result (phases_left self.new < phases_left self.old) }
+
+        // Where it stops: the vault has a front of what the close logged, or the sink failed at the lines of a report.
+        ensures cut { (account : Account) (own : DigestFunctions) (settings : Settings) (script : List (List Task)) (outputs : Outputs)
+            → Stands account D.functions own settings script self.old outputs → outputs.vault_after ≡ V.held vault.old → outputs.out_after ≡ O.held out.old
+            → OnErr result (IsCutOff account own settings script (record outputs { vault_after = V.held vault.new; out_after = O.held out.new })) }
+        ensures cut_round { (account : Account) (own : DigestFunctions) (settings : Settings) (script : List (List Task)) (outputs : Outputs)
+            → Stands account D.functions own settings script self.old outputs → outputs.vault_after ≡ V.held vault.old → outputs.out_after ≡ O.held out.old
+            → result ≡ Err Failure.VaultFault
+            → IsCutInRound account own settings script (record outputs { vault_after = V.held vault.new; out_after = O.held out.new }) }
+        ensures lines { (account : Account) (own : DigestFunctions) (settings : Settings) (script : List (List Task)) (outputs : Outputs)
+            → Stands account D.functions own settings script self.old outputs → result ≡ Err Failure.WriteFault → TellsLines account }
         ensures failure { FailsByOutput result }
         ensures vault_fault { result ≡ Err Failure.VaultFault → Rose (V.faults vault.old) (V.faults vault.new) }
         ensures write_fault { result ≡ Err Failure.WriteFault → Rose (O.faults out.old) (O.faults out.new) }
@@ -239,185 +216,50 @@ impl<'a, D: Digests + Sync> Runner<'a, D> {
         ensures never_falls { O.faults out.old ≤ O.faults out.new }
         ensures name { V.name vault.new ≡ V.name vault.old }
     {
-        what_is_due_stays_due();
-        rounds_make_a_bundle();
-        let end = close_phase(&mut self.world, last)?;
-        self.end = earlier_end(self.end, end);
-        let settled = self.pass_to_seal(rt, last, vault)?;
-        let telling = self.telling(receipts);
-        self.rounds.certify(&settled, &telling, out)
-    }
-
-    // Hands out what all workers logged in a close: it goes to the vault, and the verifiers' runs take it, each in a thread of its
-    // own. The answer is the verdicts on what they sealed.
-    fn pass_to_seal<R: Threads + Sync, V: Sink>(
-        &mut self,
-        rt: &R,
-        last: bool,
-        vault: &mut V,
-    ) -> Result<Vec<Verdict>, Failure>
-        requires runs { IsUnderWay D.functions self.old (V.held vault.old) }
-        ensures runs { (receipts : Bool) (outputs : Outputs) (past : List Logs) → Runs receipts D.functions self.old past outputs
-            → IsBehindRounds (host_of (D.functions (digests_of self.old.world)) self.old.world) (suc (length past)) (shown_world self.old.world)
-            → outputs.vault_after ≡ V.held vault.old
-            → OnOk result (Runs receipts D.functions self.new (past ++ (logs_of (shown_world self.old.world) ∷ [])) (record outputs { vault_after = V.held vault.new })) }
-        ensures handed { OnOk result (shown_world self.new.world ≡ all_handed_out (shown_world self.old.world)) }
-        ensures settled { IfOk result (λ settled. AreVerdictsOn self.new.rounds.judged (map (λ fed. fed.run) self.new.rounds.runs) settled.items) }
-        ensures end { self.new.end ≡ self.old.end }
-        ensures cut { (receipts : Bool) (outputs : Outputs) → RunsSome receipts D.functions self.old outputs → outputs.vault_after ≡ V.held vault.old
-            → OnErr result (IsCutOff receipts (D.functions (digests_of self.old.world)) (settings_of self.old.world) (requests_of self.old.world)
-            (record outputs { vault_after = V.held vault.new })) }
-        ensures cut_round { (receipts : Bool) (outputs : Outputs) (closes : ℕ) → RunsBehind receipts D.functions self.old (suc closes) closes outputs
-            → outputs.vault_after ≡ V.held vault.old
-            → OnErr result (IsCutInRound receipts (D.functions (digests_of self.old.world)) (settings_of self.old.world) (requests_of self.old.world)
-            (record outputs { vault_after = V.held vault.new })) }
-        ensures host { AreOfOneHost self.old.world self.new.world }
-        ensures failure { FailsByVault result }
-        ensures vault_fault { result ≡ Err Failure.VaultFault → Rose (V.faults vault.old) (V.faults vault.new) }
-        ensures never_falls { V.faults vault.old ≤ V.faults vault.new }
-        ensures name { V.name vault.new ≡ V.name vault.old }
-    {
-        what_is_due_stays_due();
-        rounds_make_a_bundle();
-        hand_out_all(&mut self.world, self.buffers.as_mut_slice())?;
-        let d = self.world.digests();
-        self.rounds
-            .seal(rt, self.alloc, d, self.buffers.as_slice(), last, vault)
-    }
-
-    /// A phase: its requests are served, and the verifiers read what is logged meanwhile. Then that goes to the vault. A clock may
-    /// end in it.
-    pub(crate) fn phase<R: Threads + Wait + Sync, V: Sink, G: Gate + Sync>(
-        &mut self,
-        rt: &R,
-        gate: &G,
-        vault: &mut V,
-    ) -> Result<(), Failure>
-        requires runs { IsUnderWayBehind D.functions self.old (shown_world self.old.world).phase (shown_world self.old.world).phase (V.held vault.old) }
-        requires begins { IsAtPhase (host_of (D.functions (digests_of self.old.world)) self.old.world)
-            (shown_world self.old.world) self.old.end }
-        requires workers { AllByRecursion (λ turn. turn.0 < length (shown_world self.old.world).workers)
-            (turns_of (host_of (D.functions (digests_of self.old.world)) self.old.world) (shown_world self.old.world).phase) }
-        ensures runs { (receipts : Bool) (outputs : Outputs)
-            → RunsBehind receipts D.functions self.old (shown_world self.old.world).phase (shown_world self.old.world).phase outputs → outputs.vault_after ≡ V.held vault.old
-            → OnOk result (RunsBehind receipts D.functions self.new (suc (shown_world self.old.world).phase) (shown_world self.old.world).phase
-            (record outputs { vault_after = V.held vault.new })) }
-        ensures served { OnOk result (IsAtClose (host_of (D.functions (digests_of self.new.world)) self.new.world)
-            (shown_world self.new.world) self.new.end) }
-        ensures same_phase { OnOk result ((shown_world self.new.world).phase ≡ (shown_world self.old.world).phase) }
-        ensures cut { (receipts : Bool) (outputs : Outputs) → RunsBehind receipts D.functions self.old (shown_world self.old.world).phase (shown_world self.old.world).phase outputs → outputs.vault_after ≡ V.held vault.old
-            → OnErr result (IsCutOff receipts (D.functions (digests_of self.old.world)) (settings_of self.old.world) (requests_of self.old.world)
-            (record outputs { vault_after = V.held vault.new })) }
-        ensures cut_round { (receipts : Bool) (outputs : Outputs) → RunsBehind receipts D.functions self.old (shown_world self.old.world).phase (shown_world self.old.world).phase outputs
-            → outputs.vault_after ≡ V.held vault.old
-            → OnErr result (IsCutInRound receipts (D.functions (digests_of self.old.world)) (settings_of self.old.world) (requests_of self.old.world)
-            (record outputs { vault_after = V.held vault.new })) }
-        ensures host { AreOfOneHost self.old.world self.new.world }
-        ensures failure { FailsByVault result }
-        ensures vault_fault { result ≡ Err Failure.VaultFault → Rose (V.faults vault.old) (V.faults vault.new) }
-        ensures never_falls { V.faults vault.old ≤ V.faults vault.new }
-        ensures name { V.name vault.new ≡ V.name vault.old }
-    {
-        what_is_due_stays_due();
-        rounds_make_a_bundle();
-        let bytes = self.rounds.bytes();
-        let mut runs = self.rounds.lend_runs();
-        self.end = serve_phase_at_once(
-            rt,
-            self.alloc,
-            &mut self.world,
-            gate,
-            &mut runs,
-            bytes,
-            &mut self.parcels,
-        )?;
-        self.rounds.take_back(runs);
-        self.set_down(vault)
-    }
-
-    /// A phase and its close, which is the last one at the script's end, or where a clock ended in the phase.
-    pub(crate) fn epoch<R: Threads + Wait + Sync, V: Sink, O: Sink, G: Gate + Sync>(
-        &mut self,
-        rt: &R,
-        at_end: bool,
-        receipts: bool,
-        gate: &G,
-        vault: &mut V,
-        out: &mut O,
-    ) -> Result<(), Failure>
-        requires runs { IsUnderWayWith receipts D.functions self.old (shown_world self.old.world).phase (V.held vault.old) (O.held out.old) }
-        requires begins { IsAtPhase (host_of (D.functions (digests_of self.old.world)) self.old.world)
-            (shown_world self.old.world) self.old.end }
-        requires workers { AllByRecursion (λ turn. turn.0 < length (shown_world self.old.world).workers)
-            (turns_of (host_of (D.functions (digests_of self.old.world)) self.old.world) (shown_world self.old.world).phase) }
-        requires at_end { (at_end ≡ true) ↔ (length (requests_of self.old.world) ≤ suc (shown_world self.old.world).phase) }
-        ensures runs { (outputs : Outputs) → RunsBehind receipts D.functions self.old (shown_world self.old.world).phase (shown_world self.old.world).phase outputs
-            → outputs.vault_after ≡ V.held vault.old → outputs.out_after ≡ O.held out.old
-            → OnOk result (RunsWhole receipts D.functions self.new (suc (shown_world self.old.world).phase) (record outputs { vault_after = V.held vault.new; out_after = O.held out.new })) }
-        ensures to_end { (outputs : Outputs) → RunsBehind receipts D.functions self.old (shown_world self.old.world).phase (shown_world self.old.world).phase outputs
-            → outputs.vault_after ≡ V.held vault.old → outputs.out_after ≡ O.held out.old → (at_end ≡ true) ⊎ (self.new.end ≢ None)
-            → OnOk result (RunsToEnd receipts D.functions self.new (record outputs { vault_after = V.held vault.new; out_after = O.held out.new })) }
-        ensures ended { (at_end ≡ true) ⊎ (self.new.end ≢ None)
-            → OnOk result (IsAtEnd (host_of (D.functions (digests_of self.new.world)) self.new.world) (shown_world self.new.world) self.new.end) }
-        ensures opened { at_end ≡ false → self.new.end ≡ None
-            → OnOk result (IsAtPhase (host_of (D.functions (digests_of self.new.world)) self.new.world) (shown_world self.new.world) self.new.end
-            × ((shown_world self.new.world).phase ≡ suc (shown_world self.old.world).phase)) }
-        ensures cut { (outputs : Outputs) → RunsBehind receipts D.functions self.old (shown_world self.old.world).phase (shown_world self.old.world).phase outputs → outputs.vault_after ≡ V.held vault.old
-            → outputs.out_after ≡ O.held out.old
-            → OnErr result (IsCutOff receipts (D.functions (digests_of self.old.world)) (settings_of self.old.world) (requests_of self.old.world)
-            (record outputs { vault_after = V.held vault.new; out_after = O.held out.new })) }
-        ensures cut_round { (outputs : Outputs) → RunsBehind receipts D.functions self.old (shown_world self.old.world).phase (shown_world self.old.world).phase outputs
-            → outputs.vault_after ≡ V.held vault.old → outputs.out_after ≡ O.held out.old → result ≡ Err Failure.VaultFault
-            → IsCutInRound receipts (D.functions (digests_of self.old.world)) (settings_of self.old.world) (requests_of self.old.world)
-            (record outputs { vault_after = V.held vault.new; out_after = O.held out.new }) }
-        ensures host { AreOfOneHost self.old.world self.new.world }
-        ensures failure { FailsByOutput result }
-        ensures vault_fault { result ≡ Err Failure.VaultFault → Rose (V.faults vault.old) (V.faults vault.new) }
-        ensures write_fault { result ≡ Err Failure.WriteFault → Rose (O.faults out.old) (O.faults out.new) }
-        ensures vault_never_falls { V.faults vault.old ≤ V.faults vault.new }
-        ensures never_falls { O.faults out.old ≤ O.faults out.new }
-        ensures name { V.name vault.new ≡ V.name vault.old }
-    {
-        self.phase(rt, gate, vault)?;
-        let last = closes_last(at_end, self.end);
-        self.close_epoch(rt, last, receipts, vault, out)
+        match &mut self.state {
+            State::Served(served) => {
+                self.next = served.close(rt, &self.account, &mut self.dropped, vault, out)?;
+                Ok(())
+            }
+            State::Unserved { .. } => unreachable!(),
+        }
     }
 }
 
-// The first of two ends, if either is there.
-fn earlier_end(first: Option<ClockEnd>, later: Option<ClockEnd>) -> Option<ClockEnd>
-    ensures value { result ≡ first_of first later }
+// Where the counters don't suffice for the setup: the vault has the header alone, and nothing is certified.
+fn end_unserved<O: Sink>(
+    account: &Account,
+    rounds: &Rounds,
+    end: ClockEnd,
+    out: &mut O,
+) -> Result<RunEnd, Failure>
+    ensures served { (own : DigestFunctions) (settings : Settings) (script : List (List Task)) (outputs : Outputs)
+        → IsUnserved own settings rounds.now end outputs → outputs.out_after ≡ O.held out.old
+        → IfOk result (λ end. IsServed account.now own settings script end (record outputs { out_after = O.held out.new })) }
+    ensures cut { (own : DigestFunctions) (settings : Settings) (script : List (List Task)) (outputs : Outputs)
+        → IsUnserved own settings rounds.now end outputs → outputs.out_after ≡ O.held out.old
+        → OnErr result (IsCutAtEnd account.now own settings script (record outputs { out_after = O.held out.new })) }
+    ensures stop { OnErr result (result ≡ Err Failure.WriteFault) }
+    ensures write_fault { OnErr result (Rose (O.faults out.old) (O.faults out.new)) }
+    ensures never_falls { O.faults out.old ≤ O.faults out.new }
 {
-    match first {
-        Some(end) => Some(end),
-        None => later,
+    logs_of_no_bytes_certify_nothing();
+    let ended = RunEnd::ClockEnd(end);
+    match account {
+        Account::Report { .. } => {
+            write_end(&ended.status(), out)?;
+            Ok(ended)
+        }
+        Account::Summary(load) => {
+            rounds.write_summary(load.seed, load.ops, &ended.status(), out)?;
+            Ok(ended)
+        }
     }
 }
 
-// Whether a close is the last one: at the script's end, or where a clock ended in its phase.
-fn closes_last(at_end: bool, end: Option<ClockEnd>) -> bool
-    ensures at_end { at_end ≡ true → result ≡ true }
-    ensures ended { end ≢ None → result ≡ true }
-    ensures going { at_end ≡ false → end ≡ None → result ≡ false }
+// A script has a phase. The function does nothing, and its contract is the law.
+fn a_script_has_a_phase(requests: &Requests)
+    ensures some { 0 < length requests.now }
 {
-    at_end || end.is_some()
-}
-
-// So many buffers that hold nothing.
-fn buffers_for(alloc: Global, count: u16) -> Result<Vec<LogBuffer>, Memory>
-    ensures len { IfOk result (λ buffers. length buffers.items ≡ count) }
-{
-    let mut buffers = Vec::new(alloc);
-    for _ in 0..count {
-        buffers.push(LogBuffer::new(alloc))?;
-    }
-    Ok(buffers)
-}
-
-// A count for each of so many: nothing was counted.
-fn counts_for(alloc: Global, count: u16) -> Result<Vec<u64>, Memory>
-    ensures none { IfOk result (λ counts. counts.items ≡ replicate count 0) }
-{
-    let counts = vec![in alloc; 0; usize::from(count)]?;
-    Ok(counts)
+    let _count = requests.len();
 }

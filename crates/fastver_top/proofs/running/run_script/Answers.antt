@@ -31,8 +31,8 @@ returns-in-Err-clause-runs g c =
     (runs-unread functions c.args.run.now c.args.limit read wrote kept c.in-Err.stop c.in-Err.ensures.reads
     (record { unnamed = refl; vault = refl; out = refl }))
 
-pub returns-in-Ok-serve-clause-runs : goal.returns-in-Ok-serve-clause-runs
-returns-in-Ok-serve-clause-runs g c =
+pub returns-in-Ok-serve_named-clause-runs : goal.returns-in-Ok-serve_named-clause-runs
+returns-in-Ok-serve_named-clause-runs g c =
     let functions = g.D.Digests.functions c.args.d.now in
     let read : Reading = record {
       left = g.S.Source.left c.args.source.now;
@@ -42,25 +42,25 @@ returns-in-Ok-serve-clause-runs g c =
     } in
     let wrote : Writing = record {
       held = g.O.Sink.held c.args.out.now;
-      held_after = g.O.Sink.held c.serve.new.out;
+      held_after = g.O.Sink.held c.serve_named.new.out;
       faults = g.O.Sink.faults c.args.out.now;
-      faults_after = g.O.Sink.faults c.serve.new.out;
+      faults_after = g.O.Sink.faults c.serve_named.new.out;
     } in
     let kept : Keeping = record {
       held = g.V.Sink.held c.args.vault.now;
-      held_after = g.V.Sink.held c.serve.new.vault;
+      held_after = g.V.Sink.held c.serve_named.new.vault;
       name = g.V.Sink.name c.args.vault.now;
-      name_after = g.V.Sink.name c.serve.new.vault;
+      name_after = g.V.Sink.name c.serve_named.new.vault;
       faults = g.V.Sink.faults c.args.vault.now;
-      faults_after = g.V.Sink.faults c.serve.new.vault;
+      faults_after = g.V.Sink.faults c.serve_named.new.vault;
     } in
     let numbers = c.args.run.now.numbers in
-    subst (λ (status : Status). RunsTo functions c.args.run.now c.args.limit status read wrote kept) (sym c.status-in-Ok-serve.ensures.value)
+    subst (λ (status : Status). RunsTo functions c.args.run.now c.args.limit status read wrote kept) (sym c.status-in-Ok-serve_named.ensures.value)
     (runs-served functions c.args.run.now c.args.limit read wrote kept c.in-Ok.requests c.in-Ok.ensures.reads
     (λ rounds logs. run-end functions (settings_for numbers) c.in-Ok.requests rounds logs c.a_check_of_the_logs_ends_as_the_host_promises.ensures.whole
     (settings_in_range numbers c.requires.numbers) (c.scripts_ask_for_keys_in_range.ensures.keys numbers.verifiers c.in-Ok.requests c.in-Ok.ensures.tasks)
     (λ text. (c.digests_have_32_bytes.ensures.digests text).size) c.requires.numbers.first c.in-Ok.ensures.some)
-    c.in-Ok-serve.end c.in-Ok-serve.ensures.serves (c.in-Ok-serve.ensures.named (λ is. cc)))
+    c.in-Ok-serve_named.end c.in-Ok-serve_named.ensures.serves (c.in-Ok-serve_named.ensures.named (λ is. cc)))
 
 pub returns-clause-runs : goal.returns-clause-runs
 returns-clause-runs g c =
@@ -74,20 +74,20 @@ returns-clause-runs g c =
     } in
     let wrote : Writing = record {
       held = g.O.Sink.held c.args.out.now;
-      held_after = g.O.Sink.held c.serve.new.out;
+      held_after = g.O.Sink.held c.serve_named.new.out;
       faults = g.O.Sink.faults c.args.out.now;
-      faults_after = g.O.Sink.faults c.serve.new.out;
+      faults_after = g.O.Sink.faults c.serve_named.new.out;
     } in
     let kept : Keeping = record {
       held = g.V.Sink.held c.args.vault.now;
-      held_after = g.V.Sink.held c.serve.new.vault;
+      held_after = g.V.Sink.held c.serve_named.new.vault;
       name = g.V.Sink.name c.args.vault.now;
-      name_after = g.V.Sink.name c.serve.new.vault;
+      name_after = g.V.Sink.name c.serve_named.new.vault;
       faults = g.V.Sink.faults c.args.vault.now;
-      faults_after = g.V.Sink.faults c.serve.new.vault;
+      faults_after = g.V.Sink.faults c.serve_named.new.vault;
     } in
-    let stop = c.in-Err-serve.failure in
-    let says = c.in-Err-serve.ensures in
+    let stop = c.in-Err-serve_named.failure in
+    let says = c.in-Err-serve_named.ensures in
     subst (λ (status : Status). RunsTo functions run c.args.limit status read wrote kept) (sym c.of_failure.ensures.value)
     (runs-stopped functions run c.args.limit read wrote kept c.in-Ok.requests c.in-Ok.ensures.reads stop says.serves
     (λ other. says.named (λ is. other (cc)))

@@ -1,31 +1,66 @@
-use Rattle.std.proofs.Common.{◌≡◌, ℕ, List, Option, length, sym, ◌∙◌, ap, subst}
-use Rattle.fv_outside.specs.Written.{Grows, GrowsByFront}
-use Rattle.report_text.specs.declared.status.Status.{Status}
-use Rattle.report_text.specs.Status.{last_line}
-use Rattle.host_world.specs.Shown.{shown_world, digests_of, requests_of}
-use Rattle.verifier_threads.specs.Serving.{status_at, end_by}
-use Rattle.verifier_threads.proofs.PassingLemmas.{err_any}
-use Rattle.verifier_threads.proofs.EndingLemmas.{ended-served, ended-cut}
+use Rattle.std.proofs.Common.{◌≡◌, List, IfOk, OnErr, sym, subst}
+use Rattle.record_hash.specs.Functions.{DigestFunctions}
+use Rattle.script_text.specs.declared.task.Task.{Task}
+use Rattle.host_world.specs.declared.settings.Settings.{Settings}
+use Rattle.host_world.specs.Shown.{digests_of, requests_of}
+use Rattle.verifier_threads.specs.declared.accounts.Account.{Account}
+use Rattle.verifier_threads.specs.declared.runner.NextCall.TheVariants as calls
+use Rattle.verifier_threads.specs.declared.runner.State.TheVariants as states
+use Rattle.verifier_threads.specs.Serving.{Outputs, IsServed, IsCutAtEnd}
+use Rattle.verifier_threads.specs.Runners.{StandsFor}
+use Rattle.verifier_threads.proofs.CallLemmas.{run_of-these, stands-of, finish-needs}
 use Rattle.verifier_threads.proofs.runner.Runner.finish.Goals as goal
 
-pub returns-in_err-write_end-clause-cut : goal.returns-in_err-write_end-clause-cut
-returns-in_err-write_end-clause-cut g c = λ receipts outputs whole written.
-    let old = c.args.self.now in
-    let f = g.D.Digests.functions (digests_of old.world) in
-    let out' = g.O.Sink.held c.write_end.new.out in
-    let line = ap last_line (c.status.ensures.value ∙ ap status_at c.conclude-end.ensures.end) in
-    err_any c.from_residual.result
-    (ended-cut receipts f old.world.settings (requests_of old.world) (shown_world old.world) old.rounds old.end whole.past outputs whole.runs.running c.requires.ended whole.all whole.count out'
-    (subst (λ (o : Option (List ℕ)). GrowsByFront o out' (last_line (status_at (end_by (length (requests_of old.world)) old.end)))) (sym written)
-    (subst (GrowsByFront (g.O.Sink.held c.args.out.now) out') line c.in_err-write_end.ensures.front)))
+pub end_with-requires : goal.end_with-requires
+end_with-requires g c =
+    let held = c.requires.serving.0 in
+    let serving = c.requires.serving.1 in
+    let functions = g.D.Digests.functions in
+    let stands = stands-of functions serving.1 serving.2 serving.3 serving.0 c.args.self.now serving.4 calls.Finish (states.Served c.in-Served.served)
+    c.requires.next c.in-Served.is serving.5 in
+    let needs = finish-needs functions c.in-Served.served held c.args.self.now.dropped.held serving.0 serving.4 stands.stands in
+    record { runs = needs.0; ended = needs.1 }
 
-pub returns-clause-served : goal.returns-clause-served
-returns-clause-served g c = λ receipts outputs whole written.
-    let old = c.args.self.now in
-    let f = g.D.Digests.functions (digests_of old.world) in
-    let out' = g.O.Sink.held c.write_end.new.out in
-    let result = c.conclude-end.result in
-    ended-served receipts f old.world.settings (requests_of old.world) (shown_world old.world) old.rounds old.end whole.past outputs whole.runs.running c.requires.ended whole.all whole.count out' result
-    c.conclude-end.ensures.end
-    (subst (λ (o : Option (List ℕ)). Grows o out' (last_line (status_at result))) (sym written)
-    (subst (λ (s : Status). Grows (g.O.Sink.held c.args.out.now) out' (last_line s)) c.status.ensures.value c.in_ok-write_end.ensures.line))
+pub returns-in-Served-clause-served : goal.returns-in-Served-clause-served
+returns-in-Served-clause-served g c = λ account own settings script outputs stands written.
+    let functions = g.D.Digests.functions in
+    let served = c.in-Served.served in
+    let dropped = c.args.self.now.dropped.held in
+    let now : Outputs = record outputs { out_after = g.O.Sink.held c.end_with.new.out } in
+    let was = stands-of functions own settings script account c.args.self.now outputs calls.Finish (states.Served served) c.requires.next c.in-Served.is stands in
+    run_of-these functions own settings script served was.is_of
+    (λ (f : DigestFunctions) (s : Settings) (t : List (List Task)). IfOk c.end_with.result (λ end. IsServed account f s t end now))
+    (subst (λ (a : Account). IfOk c.end_with.result (λ end. IsServed a (functions (digests_of served.world)) served.world.settings (requests_of served.world) end now)) stands.account_is
+    (c.end_with.ensures.served dropped outputs
+    (subst (λ (a : Account). StandsFor a calls.Finish dropped functions served outputs) (sym stands.account_is) was.stands) written))
+
+pub returns-in-Served-clause-cut : goal.returns-in-Served-clause-cut
+returns-in-Served-clause-cut g c = λ account own settings script outputs stands written.
+    let functions = g.D.Digests.functions in
+    let served = c.in-Served.served in
+    let dropped = c.args.self.now.dropped.held in
+    let now : Outputs = record outputs { out_after = g.O.Sink.held c.end_with.new.out } in
+    let was = stands-of functions own settings script account c.args.self.now outputs calls.Finish (states.Served served) c.requires.next c.in-Served.is stands in
+    run_of-these functions own settings script served was.is_of
+    (λ (f : DigestFunctions) (s : Settings) (t : List (List Task)). OnErr c.end_with.result (IsCutAtEnd account f s t now))
+    (subst (λ (a : Account). OnErr c.end_with.result (IsCutAtEnd a (functions (digests_of served.world)) served.world.settings (requests_of served.world) now)) stands.account_is
+    (c.end_with.ensures.cut dropped outputs
+    (subst (λ (a : Account). StandsFor a calls.Finish dropped functions served outputs) (sym stands.account_is) was.stands) written))
+
+pub returns-in-Unserved-clause-served : goal.returns-in-Unserved-clause-served
+returns-in-Unserved-clause-served g c = λ account own settings script outputs stands written.
+    let functions = g.D.Digests.functions in
+    let now : Outputs = record outputs { out_after = g.O.Sink.held c.end_unserved.new.out } in
+    let was = stands-of functions own settings script account c.args.self.now outputs calls.Finish (states.Unserved c.in-Unserved.rounds c.in-Unserved.end)
+    c.requires.next c.in-Unserved.is stands in
+    subst (λ (a : Account). IfOk c.end_unserved.result (λ end. IsServed a own settings script end now)) stands.account_is
+    (c.end_unserved.ensures.served own settings script outputs was.1 written)
+
+pub returns-in-Unserved-clause-cut : goal.returns-in-Unserved-clause-cut
+returns-in-Unserved-clause-cut g c = λ account own settings script outputs stands written.
+    let functions = g.D.Digests.functions in
+    let now : Outputs = record outputs { out_after = g.O.Sink.held c.end_unserved.new.out } in
+    let was = stands-of functions own settings script account c.args.self.now outputs calls.Finish (states.Unserved c.in-Unserved.rounds c.in-Unserved.end)
+    c.requires.next c.in-Unserved.is stands in
+    subst (λ (a : Account). OnErr c.end_unserved.result (IsCutAtEnd a own settings script now)) stands.account_is
+    (c.end_unserved.ensures.cut own settings script outputs was.1 written)

@@ -1,160 +1,104 @@
-use Rattle.std.proofs.Common.{◌≡◌, inl, suc, ◌+◌, List, [], ◌∷◌, ◌++◌, length, Option, Ok, OnErr, refl, sym, ◌∙◌, ap, subst, arith}
+use Rattle.std.proofs.Common.{◌≡◌, ◌-◌, ℕ, suc, List, Option, length, refl, sym, ◌∙◌, ap, subst, arith}
 use Rattle.record_hash.specs.Functions.{DigestFunctions}
-use Rattle.record_text.specs.declared.request.Request.{Request}
-use Rattle.host_core.specs.Host.{Host}
-use Rattle.host_core.specs.World.{World, logs_of}
-use Rattle.host_shard.specs.Content.{Content}
 use Rattle.script_text.specs.declared.task.Task.{Task}
-use Rattle.host_world.specs.declared.fault.ClockEnd.{ClockEnd}
 use Rattle.host_world.specs.declared.settings.Settings.{Settings}
-use Rattle.host_world.specs.Shown.{shown_world, digests_of}
-use Rattle.host_world.specs.Behind.{host_of}
-use Rattle.host_serving.specs.Leading.{first_of}
-use Rattle.host_serving.proofs.FormLaws.{on_by_phase}
-use Rattle.certified_epochs.specs.declared.fed_run.FedRun.{FedRun}
-use Rattle.verifier_threads.specs.declared.runner.Runner.{Runner}
-use Rattle.verifier_threads.specs.InRounds.{IsBehindRounds}
+use Rattle.host_world.specs.Shown.{shown_world, requests_of}
+use Rattle.verifier_threads.specs.declared.runner.NextCall.{NextCall}
+use Rattle.verifier_threads.specs.declared.runner.NextCall.TheVariants as calls
+use Rattle.verifier_threads.specs.declared.runner.State.{State}
+use Rattle.verifier_threads.specs.declared.runner.State.TheVariants as states
 use Rattle.verifier_threads.specs.Serving.{IsCutOff, IsCutInRound}
-use Rattle.verifier_threads.specs.Running.{IsAtClose, all_handed_out, with_runs_of}
-use Rattle.verifier_threads.proofs.RunningLemmas.{one_host, host_same, of_one_host, host-back, running-workers}
-use Rattle.verifier_threads.proofs.StandingLemmas.{close_handed}
-use Rattle.verifier_threads.proofs.PassingLemmas.{err_any, ok_then, rounds-back, run-count, runs-behind, runs-fed, behind-fed, behind-more, took-round}
-use Rattle.verifier_threads.proofs.PhaseLemmas.{moved, at-close}
-use Rattle.verifier_threads.proofs.CutLemmas.{runs-cut, runs-cut_before}
+use Rattle.verifier_threads.specs.Running.{RunsBehind}
+use Rattle.verifier_threads.specs.Runners.{left_by}
+use Rattle.verifier_threads.proofs.PassingLemmas.{err_any}
+use Rattle.verifier_threads.proofs.CallLemmas.{run_of-same, run_of-these, run_of-tasks, stands-of, phase-needs, phase-turns, phase-leaves, phase-cut, phase-cut_round}
 use Rattle.verifier_threads.proofs.runner.Runner.phase.Goals as goal
 
-pub serve_phase_at_once-requires-clause-behind : goal.serve_phase_at_once-requires-clause-behind
-serve_phase_at_once-requires-clause-behind g c κs within =
-    runs-behind c.requires.runs.0 g.D.Digests.functions c.args.self.now c.requires.runs.2.past c.requires.runs.1 c.requires.runs.2.runs
+pub phase-requires-clause-runs : goal.phase-requires-clause-runs
+phase-requires-clause-runs g c κs within =
+    let serving = c.requires.serving in
+    let stands = stands-of g.D.Digests.functions serving.1 serving.2 serving.3 serving.0 c.args.self.now serving.4 calls.Phase (states.Served c.in-Served.served)
+    c.requires.next c.in-Served.is serving.5 in
+    (phase-needs g.D.Digests.functions c.in-Served.served (g.V.Sink.held c.args.vault.now) c.args.self.now.dropped.held serving.0 serving.4 stands.stands serving.6).0
 
-pub serve_phase_at_once-requires-clause-begins : goal.serve_phase_at_once-requires-clause-begins
-serve_phase_at_once-requires-clause-begins g c κs within = c.requires.begins.begins
+pub phase-requires-clause-begins : goal.phase-requires-clause-begins
+phase-requires-clause-begins g c κs within =
+    let serving = c.requires.serving in
+    let stands = stands-of g.D.Digests.functions serving.1 serving.2 serving.3 serving.0 c.args.self.now serving.4 calls.Phase (states.Served c.in-Served.served)
+    c.requires.next c.in-Served.is serving.5 in
+    (phase-needs g.D.Digests.functions c.in-Served.served (g.V.Sink.held c.args.vault.now) c.args.self.now.dropped.held serving.0 serving.4 stands.stands serving.6).1
 
-pub serve_phase_at_once-requires-clause-running : goal.serve_phase_at_once-requires-clause-running
-serve_phase_at_once-requires-clause-running g c κs within = c.requires.begins.running
+pub phase-requires-clause-workers : goal.phase-requires-clause-workers
+phase-requires-clause-workers g c κs within =
+    let serving = c.requires.serving in
+    let functions = g.D.Digests.functions in
+    let served = c.in-Served.served in
+    let held = g.V.Sink.held c.args.vault.now in
+    let dropped = c.args.self.now.dropped.held in
+    let stands = stands-of functions serving.1 serving.2 serving.3 serving.0 c.args.self.now serving.4 calls.Phase (states.Served served) c.requires.next c.in-Served.is serving.5 in
+    phase-turns functions served held dropped (run_of-tasks functions serving.1 serving.2 serving.3 served stands.is_of)
+    (phase-needs functions served held dropped serving.0 serving.4 stands.stands serving.6).0
 
-pub serve_phase_at_once-requires-clause-counters : goal.serve_phase_at_once-requires-clause-counters
-serve_phase_at_once-requires-clause-counters g c κs within = c.requires.runs.2.runs.running.counters
+pub unreachable-requires : goal.unreachable-requires
+unreachable-requires g c =
+    let serving = c.requires.serving in
+    let stands = stands-of g.D.Digests.functions serving.1 serving.2 serving.3 serving.0 c.args.self.now serving.4 calls.Phase
+    (states.Unserved c.in-Unserved.rounds c.in-Unserved.end) c.requires.next c.in-Unserved.is serving.5 in
+    let no = stands.0 in cc
 
-pub serve_phase_at_once-requires-clause-runs : goal.serve_phase_at_once-requires-clause-runs
-serve_phase_at_once-requires-clause-runs g c κs within =
-    let r = c.requires.runs.2.runs.running in
-    ap (λ (rs : List FedRun). length rs) c.lend_runs-runs.ensures.runs ∙ run-count _ _ _ _ r.keeps.runs ∙ sym (running-workers _ _ _ _ _ _ _ _ _ r)
-
-pub serve_phase_at_once-requires-clause-parcels : goal.serve_phase_at_once-requires-clause-parcels
-serve_phase_at_once-requires-clause-parcels g c κs within = c.requires.runs.2.runs.counts
-
-pub set_down-requires : goal.set_down-requires
-set_down-requires g c =
-    let before = c.lend_runs-runs.result.items in
+pub returns-clause-stands : goal.returns-clause-stands
+returns-clause-stands g c = λ account own settings script outputs stands held.
+    let functions = g.D.Digests.functions in
+    let served = c.in-Served.served in
+    let new = c.phase.new.self in
+    let dropped = c.args.self.now.dropped.held in
+    let before = g.V.Sink.held c.args.vault.now in
+    let vault' = g.V.Sink.held c.phase.new.vault in
+    let says = c.in_ok-phase-in-Served.ensures in
+    let was = stands-of functions own settings script account c.args.self.now outputs calls.Phase (states.Served served) c.requires.next c.in-Served.is stands in
     record {
-      runs = (
-        c.requires.runs.0,
-        c.requires.runs.1,
-        before,
-        (
-          c.requires.runs.2.past,
-          runs-fed c.requires.runs.0 g.D.Digests.functions c.args.self.now c.requires.runs.2.past c.requires.runs.1 c.requires.runs.2.runs c.serve_phase_at_once.new.world c.in_ok-self.field-0 c.in_ok-self.field-0
-              c.take_back.new.self before c.serve_phase_at_once.new.parcels c.serve_phase_at_once.ensures.host (on_by_phase _ _ _ _ _ c.requires.begins.unended c.requires.begins.begins c.requires.begins.running c.in_ok-self.ensures.form)
-              (ap (λ (e : Option ClockEnd). first_of e c.in_ok-self.field-0) (sym c.requires.begins.unended))
-              (rounds-back c.args.self.now.rounds c.lend_runs-runs.new.self c.take_back.new.self c.serve_phase_at_once.new.runs.items before c.lend_runs-runs.ensures.rest c.take_back.ensures.runs c.lend_runs-runs.ensures.runs)
-              c.in_ok-self.ensures.parcels,
-        ),
-        (took-round g.D.Digests.functions c.args.self.now.world c.serve_phase_at_once.new.world c.lend_runs-runs.new.self c.take_back.new.self before c.serve_phase_at_once.new.runs.items
-            c.serve_phase_at_once.ensures.host c.take_back.ensures.runs c.in_ok-self.ensures.taken),
-        c.requires.runs.3,
-      );
+      account_is = stands.account_is;
+      state = record {
+        is_of = run_of-same functions own settings script served new c.phase.ensures.host was.is_of;
+        stands = phase-leaves functions served new before vault' dropped
+            (λ receipts out at vault. (
+              subst (λ (p : ℕ). RunsBehind receipts functions new (suc p) p (record out { vault_after = vault' })) (sym says.same_phase) (says.runs receipts out at.0 vault),
+              says.served,
+            ))
+            account outputs was.stands held;
+      };
     }
 
-pub returns-in_err-self-clause-cut : goal.returns-in_err-self-clause-cut
-returns-in_err-self-clause-cut g c = λ receipts outputs runs held.
-    err_any c.from_residual.result
-    (runs-cut receipts g.D.Digests.functions c.args.self.now outputs runs.past runs.runs c.what_is_due_stays_due.ensures.stays c.rounds_make_a_bundle.ensures.more
-    (g.V.Sink.held c.args.vault.now) outputs.out_after held refl)
-
-pub returns-in_err-self-clause-cut_round : goal.returns-in_err-self-clause-cut_round
-returns-in_err-self-clause-cut_round g c = λ receipts outputs behind held.
-    err_any c.from_residual.result
-    (runs-cut_before receipts g.D.Digests.functions c.args.self.now outputs behind.past behind.runs _ _ behind.count (inl refl) behind.told
-    (g.V.Sink.held c.args.vault.now) held)
-
-pub returns-clause-runs : goal.returns-clause-runs
-returns-clause-runs g c = λ receipts outputs behind held.
-    let functions = g.D.Digests.functions in
-    let before = c.lend_runs-runs.result.items in
+pub returns-clause-left : goal.returns-clause-left
+returns-clause-left g c =
+    let served = c.in-Served.served in
+    let new = c.phase.new.self in
     let old = c.args.self.now in
-    let phase = (shown_world old.world).phase in
-    let middle = c.serve_phase_at_once.new.world in
-    let lent : Runner _ = record old { world = middle; end = c.in_ok-self.field-0; rounds = c.take_back.new.self; parcels = c.serve_phase_at_once.new.parcels } in
-    let fed = behind-fed receipts functions old phase phase outputs behind c.serve_phase_at_once.new.world c.in_ok-self.field-0 c.in_ok-self.field-0
-    c.take_back.new.self before c.serve_phase_at_once.new.parcels c.serve_phase_at_once.ensures.host (on_by_phase _ _ _ _ _ c.requires.begins.unended c.requires.begins.begins c.requires.begins.running c.in_ok-self.ensures.form)
-    (ap (λ (e : Option ClockEnd). first_of e c.in_ok-self.field-0) (sym c.requires.begins.unended))
-    (rounds-back c.args.self.now.rounds c.lend_runs-runs.new.self c.take_back.new.self c.serve_phase_at_once.new.runs.items before c.lend_runs-runs.ensures.rest c.take_back.ensures.runs c.lend_runs-runs.ensures.runs)
-    c.in_ok-self.ensures.parcels in
-    let same = c.in_ok-self.ensures.phase in
-    let count = fed.count in
-    let stands = subst (λ (h : Host Content Request). IsBehindRounds h (suc (length fed.past)) (shown_world middle))
-    (sym (host_same functions old.world middle c.serve_phase_at_once.ensures.host)) (inl (omega (arith, same, count), c.in_ok-self.ensures.served)) in
-    ok_then c.set_down.result
-    (c.set_down.ensures.runs receipts outputs before fed.past fed.runs (took-round g.D.Digests.functions c.args.self.now.world c.serve_phase_at_once.new.world c.lend_runs-runs.new.self c.take_back.new.self before c.serve_phase_at_once.new.runs.items
-    c.serve_phase_at_once.ensures.host c.take_back.ensures.runs c.in_ok-self.ensures.taken) stands held)
-    (λ runs. behind-more receipts functions (with_runs_of before lent) phase phase outputs fed c.set_down.new.self (logs_of (shown_world middle)) (g.V.Sink.held c.set_down.new.vault)
-    c.set_down.ensures.host (omega arith) runs)
+    let asked : length (requests_of new.world) ≡ length (requests_of served.world) = ap (λ (script : List (List Task)). length script) c.phase.ensures.host.requests in
+    let same = c.in_ok-phase-in-Served.ensures.same_phase in
+    let now : length (requests_of new.world) - (shown_world new.world).phase ≡ length (requests_of served.world) - (shown_world served.world).phase = omega (arith, asked, same) in
+    now ∙ sym (ap (λ (n : NextCall). left_by n old.state) c.requires.next ∙ ap (λ (s : State _). left_by calls.Phase s) c.in-Served.is)
 
-pub returns-clause-served : goal.returns-clause-served
-returns-clause-served g c =
+pub returns-in_err-phase-in-Served-clause-cut : goal.returns-in_err-phase-in-Served-clause-cut
+returns-in_err-phase-in-Served-clause-cut g c = λ account own settings script outputs stands held.
     let functions = g.D.Digests.functions in
-    let old = c.args.self.now.world in
-    let middle = c.serve_phase_at_once.new.world in
-    let new = c.set_down.new.self in
-    let host = host_of (functions (digests_of old)) old in
-    let end = c.in_ok-self.field-0 in
-    ok_then c.set_down.result c.set_down.ensures.handed
-    (λ handed. moved IsAtClose host _ (all_handed_out (shown_world middle)) (shown_world new.world) end new.end
-    (host_same functions old new.world (one_host old middle new.world c.serve_phase_at_once.ensures.host c.set_down.ensures.host)) handed c.set_down.ensures.end
-    (close_handed host (shown_world middle) end
-    (at-close host (shown_world old) (shown_world middle) end c.in_ok-self.ensures.served c.requires.begins.running
-    (λ is. c.in_ok-self.ensures.running (ap (λ (e : Option ClockEnd). Ok e) is)) c.in_ok-self.ensures.stopped c.in_ok-self.ensures.lowest)))
+    let served = c.in-Served.served in
+    let dropped = c.args.self.now.dropped.held in
+    let vault' = g.V.Sink.held c.phase.new.vault in
+    let was = stands-of functions own settings script account c.args.self.now outputs calls.Phase (states.Served served) c.requires.next c.in-Served.is stands in
+    err_any c.from_residual.result
+    (run_of-these functions own settings script served was.is_of
+    (λ (f : DigestFunctions) (s : Settings) (t : List (List Task)). IsCutOff account f s t (record outputs { vault_after = vault' }))
+    (phase-cut functions served (g.V.Sink.held c.args.vault.now) vault' dropped (λ receipts out at vault. c.in_err-phase-in-Served.ensures.cut receipts out at.0 vault) account outputs was.stands held))
 
-pub returns-clause-same_phase : goal.returns-clause-same_phase
-returns-clause-same_phase g c =
-    ok_then c.set_down.result c.set_down.ensures.handed
-    (λ handed. ap (λ (w : World Content). w.phase) handed ∙ c.in_ok-self.ensures.phase)
-
-pub returns-clause-cut : goal.returns-clause-cut
-returns-clause-cut g c = λ receipts outputs runs held.
+pub returns-in_err-phase-in-Served-clause-cut_round : goal.returns-in_err-phase-in-Served-clause-cut_round
+returns-in_err-phase-in-Served-clause-cut_round g c = λ account own settings script outputs stands held.
     let functions = g.D.Digests.functions in
-    let before = c.lend_runs-runs.result.items in
-    let old = c.args.self.now.world in
-    let middle = c.serve_phase_at_once.new.world in
-    of_one_host functions middle old (host-back old middle c.serve_phase_at_once.ensures.host)
-    (λ (f : DigestFunctions) (settings : Settings) (script : List (List Task)). OnErr c.set_down.result (IsCutOff receipts f settings script (record outputs { vault_after = g.V.Sink.held c.set_down.new.vault })))
-    (c.set_down.ensures.cut receipts outputs before (
-      runs.past,
-      runs-fed receipts functions c.args.self.now runs.past outputs runs.runs c.serve_phase_at_once.new.world c.in_ok-self.field-0 c.in_ok-self.field-0
-          c.take_back.new.self before c.serve_phase_at_once.new.parcels c.serve_phase_at_once.ensures.host (on_by_phase _ _ _ _ _ c.requires.begins.unended c.requires.begins.begins c.requires.begins.running c.in_ok-self.ensures.form)
-          (ap (λ (e : Option ClockEnd). first_of e c.in_ok-self.field-0) (sym c.requires.begins.unended))
-          (rounds-back c.args.self.now.rounds c.lend_runs-runs.new.self c.take_back.new.self c.serve_phase_at_once.new.runs.items before c.lend_runs-runs.ensures.rest c.take_back.ensures.runs c.lend_runs-runs.ensures.runs)
-          c.in_ok-self.ensures.parcels,
-    )
-    held)
-
-pub returns-clause-cut_round : goal.returns-clause-cut_round
-returns-clause-cut_round g c = λ receipts outputs behind held.
-    let functions = g.D.Digests.functions in
-    let before = c.lend_runs-runs.result.items in
-    let old = c.args.self.now.world in
-    let phase = (shown_world old).phase in
-    let middle = c.serve_phase_at_once.new.world in
-    of_one_host functions middle old (host-back old middle c.serve_phase_at_once.ensures.host)
-    (λ (f : DigestFunctions) (settings : Settings) (script : List (List Task)). OnErr c.set_down.result (IsCutInRound receipts f settings script (record outputs { vault_after = g.V.Sink.held c.set_down.new.vault })))
-    (c.set_down.ensures.cut_round receipts outputs before phase
-    (behind-fed receipts functions c.args.self.now phase phase outputs behind c.serve_phase_at_once.new.world c.in_ok-self.field-0 c.in_ok-self.field-0
-    c.take_back.new.self before c.serve_phase_at_once.new.parcels c.serve_phase_at_once.ensures.host (on_by_phase _ _ _ _ _ c.requires.begins.unended c.requires.begins.begins c.requires.begins.running c.in_ok-self.ensures.form)
-    (ap (λ (e : Option ClockEnd). first_of e c.in_ok-self.field-0) (sym c.requires.begins.unended))
-    (rounds-back c.args.self.now.rounds c.lend_runs-runs.new.self c.take_back.new.self c.serve_phase_at_once.new.runs.items before c.lend_runs-runs.ensures.rest c.take_back.ensures.runs c.lend_runs-runs.ensures.runs)
-    c.in_ok-self.ensures.parcels)
-    held)
-
-pub returns-clause-host : goal.returns-clause-host
-returns-clause-host g c = one_host c.args.self.now.world c.serve_phase_at_once.new.world c.set_down.new.self.world c.serve_phase_at_once.ensures.host c.set_down.ensures.host
+    let served = c.in-Served.served in
+    let dropped = c.args.self.now.dropped.held in
+    let vault' = g.V.Sink.held c.phase.new.vault in
+    let was = stands-of functions own settings script account c.args.self.now outputs calls.Phase (states.Served served) c.requires.next c.in-Served.is stands in
+    err_any c.from_residual.result
+    (run_of-these functions own settings script served was.is_of
+    (λ (f : DigestFunctions) (s : Settings) (t : List (List Task)). IsCutInRound account f s t (record outputs { vault_after = vault' }))
+    (phase-cut_round functions served (g.V.Sink.held c.args.vault.now) vault' dropped (λ receipts out at vault. c.in_err-phase-in-Served.ensures.cut_round receipts out at.0 vault) account outputs was.stands held))

@@ -1,6 +1,0 @@
-use Rattle.std.proofs.Common.{◌≡◌, length}
-use Rattle.verifier_threads.proofs.runner.buffers_for.Given as goal
-
--- so many buffers are there
-abbrev pub invariant-loop : goal.invariant-loop
-invariant-loop l = length l.buffers.items ≡ l.counter

@@ -1,0 +1,60 @@
+use Rattle.std.proofs.Common.{◌≡◌, ◌<◌, ◌-◌, ℕ, suc, List, length, map, Option, Ok, refl, sym, ◌∙◌, ap, subst, arith}
+use Rattle.std.proofs.lemmas.List.{length-map}
+use Rattle.std.proofs.lemmas.Result.{err_from_is_err_and}
+use Rattle.script_text.specs.declared.task.Task.{Task}
+use Rattle.fv_outside.specs.declared.failure.Failure.{Failure}
+use Rattle.host_world.specs.ShippedHost.{turn_of}
+use Rattle.host_world.specs.Shown.{shown_world, requests_of}
+use Rattle.verifier_threads.specs.declared.runner.NextCall.{NextCall}
+use Rattle.verifier_threads.specs.declared.runner.NextCall.TheVariants as calls
+use Rattle.verifier_threads.specs.declared.runner.State.TheVariants as states
+use Rattle.verifier_threads.specs.Serving.{Outputs}
+use Rattle.verifier_threads.specs.Running.{RunsBehind}
+use Rattle.verifier_threads.specs.Runners.{StandsBefore, left_by}
+use Rattle.verifier_threads.proofs.PassingLemmas.{err_any, whole-behind, same-fault}
+use Rattle.verifier_threads.proofs.EndingLemmas.{whole-to_end}
+use Rattle.verifier_threads.proofs.PhaseLemmas.{next-by}
+use Rattle.verifier_threads.proofs.world_run.WorldRun.close_next.Goals as goal
+
+pub returns-clause-stands : goal.returns-clause-stands
+returns-clause-stands g c = λ outputs stands held written.
+    let functions = g.D.Digests.functions in
+    let old = c.args.self.now.world in
+    let new = c.close_epoch.new.self in
+    let phase = (shown_world old).phase in
+    let says = c.in_ok-close_epoch.ensures in
+    let now : Outputs = record outputs { vault_after = g.V.Sink.held c.close_epoch.new.vault; out_after = g.O.Sink.held c.close_epoch.new.out } in
+    let whole = says.runs outputs stands.0 held written in
+    next-by (λ call. StandsBefore call c.args.receipts functions new now) c.is_last_close-last.result new.end c.call_behind.result c.call_behind.ensures.over c.call_behind.ensures.going
+    (λ over. let at = says.ended over in (whole-to_end c.args.receipts functions new phase now whole at.0 at.1, at.0))
+    (λ going none'.
+    let opened = says.opened going none' in (
+      subst (λ (p : ℕ). RunsBehind c.args.receipts functions new p p now) (sym opened.1) (whole-behind c.args.receipts functions new (suc phase) now whole),
+      opened.0,
+    ))
+
+pub returns-clause-call : goal.returns-clause-call
+returns-clause-call g c =
+    next-by (λ call. Ok call ≡ Ok calls.Close → ⊥) c.is_last_close-last.result c.close_epoch.new.self.end c.call_behind.result c.call_behind.ensures.over c.call_behind.ensures.going
+    (λ over is. cc) (λ going none' is. cc)
+
+pub returns-clause-fewer : goal.returns-clause-fewer
+returns-clause-fewer g c =
+    let old = c.args.self.now in
+    let new = c.close_epoch.new.self in
+    let size = length-map (requests_of old.world) (map turn_of) in
+    let within = c.requires.served.served.served.within in
+    let same : length (requests_of new.world) ≡ length (requests_of old.world) = ap (λ (script : List (List Task)). length script) c.close_epoch.ensures.host.requests in
+    next-by (λ call. left_by call (states.Served new) < length (requests_of old.world) - (shown_world old.world).phase)
+    c.is_last_close-last.result new.end c.call_behind.result c.call_behind.ensures.over c.call_behind.ensures.going
+    (λ over. omega (arith, size, within))
+    (λ going none'. let opened = c.in_ok-close_epoch.ensures.opened going none' in let later = opened.1 in omega (arith, size, within, same, later))
+
+pub returns-in_err-close_epoch-clause-cut : goal.returns-in_err-close_epoch-clause-cut
+returns-in_err-close_epoch-clause-cut g c = λ outputs stands held written.
+    err_any c.from_residual.result (c.in_err-close_epoch.ensures.cut outputs stands.0 held written)
+
+pub returns-in_err-close_epoch-clause-cut_round : goal.returns-in_err-close_epoch-clause-cut_round
+returns-in_err-close_epoch-clause-cut_round g c = λ outputs stands held written fault.
+    let p = err_from_is_err_and c.from_residual.result c.from_residual.ensures.1 in
+    c.in_err-close_epoch.ensures.cut_round outputs stands.0 held written (same-fault c.from_residual.result p.0 _ fault p.1 p.2)

@@ -1,0 +1,504 @@
+//! A run of a script whose world is set up, phase by phase, and what becomes of the logs.
+ghost use Rattle.std.specs.Prelude.{◌≡◌, ◌≢◌, ◌↔◌, ◌⊎◌, ◌≤◌, ◌<◌, Bool, ℕ, suc, true, false, List, [], ◌∷◌, ◌++◌, Option, None, length, map, replicate, OnOk, OnErr, IfOk, Ok, Err};
+ghost use Rattle.std.specs.List.{AllByRecursion};
+ghost use Rattle.fv_outside.specs.Failures.{FailsByOutput, FailsByVault};
+ghost use Rattle.fv_outside.specs.Faults.{Rose};
+ghost use Rattle.bundle_report.specs.Report.{told_by};
+ghost use Rattle.certified_epochs.specs.declared.fed_run.FedRun.{FedRun};
+ghost use Rattle.certified_epochs.specs.Telling.{text_by};
+ghost use Rattle.certified_epochs.specs.Turn.{AreVerdictsOn};
+ghost use Rattle.host_core.specs.World.{set_up, logs_of};
+ghost use Rattle.host_core.specs.WorldEvent.{IsLast};
+ghost use Rattle.host_world.specs.Settings.{IsSettings};
+ghost use Rattle.host_world.specs.Shown.{shown_world, digests_of, requests_of, settings_of};
+ghost use Rattle.host_world.specs.Behind.{AreInRange, AreOfOneHost, host_of};
+ghost use Rattle.host_serving.specs.Leading.{first_of};
+ghost use Rattle.host_serving.specs.Standing.{turns_of};
+ghost use Rattle.verifier_threads.specs.declared.runner.State.{State};
+ghost use Rattle.verifier_threads.specs.InRounds.{Logs, IsBehindRounds};
+ghost use Rattle.verifier_threads.specs.Serving.{Outputs, IsServed, IsCutOff, IsCutInHeader, IsCutInRound, IsCutAtEnd, end_by};
+ghost use Rattle.verifier_threads.specs.Runners.{StandsBefore, StandsFor, TellsLines, left_by};
+ghost use Rattle.verifier_threads.specs.Running.{Runs, RunsSome, RunsBehind, RunsWhole, RunsToEnd, IsUnderWay, IsUnderWayBehind, IsUnderWayWhole, IsFedUnderWay, HaveReadRound, IsAtPhase, IsAtClose, IsAtEnd, all_handed_out, with_runs_of};
+
+use crate::accounts::Account;
+use crate::ending::RunEnd;
+use crate::handing::hand_out_all;
+use crate::laws::{a_header_begins_the_bundle, what_is_due_stays_due};
+use crate::loads::Load;
+use crate::runner::NextCall;
+use base_words::Memory;
+use certified_epochs::Telling;
+use epoch_gather::Verdict;
+use fv_outside::{Failure, Gate, Sink, SureSink};
+use host_log::LogBuffer;
+use host_rounds::{Rounds, rounds_make_a_bundle, write_end};
+use host_serving::close_phase;
+use host_world::{ClockEnd, World};
+use record_hash::Digests;
+use report_text::BundleEnd;
+use run_reports::{
+    a_check_of_the_logs_ends_as_the_host_promises, logs_of_no_bytes_certify_nothing,
+};
+use std::alloc::Global;
+use std::sync::Wait;
+use std::thread::Threads;
+use worker_threads::serve_phase_at_once;
+
+/// A run of a script: the world, what the verifiers have come to over its logs, a buffer for the log of each worker, how many
+/// parcels each verifier took, and the first end of a clock. The vault and the sink of the report are handed in at each call.
+///
+/// After an error it is of no more use.
+#[derive(Drop)]
+pub(crate) struct WorldRun<'a, D> {
+    pub(crate) alloc: Global,
+    pub(crate) world: World<'a, D>,
+    pub(crate) rounds: Rounds,
+    pub(crate) buffers: Vec<LogBuffer>,
+    pub(crate) parcels: Vec<u64>,
+    pub(crate) end: Option<ClockEnd>,
+}
+
+impl<'a, D: Digests> WorldRun<'a, D> {
+    /// Before the first phase: writes the header of the bundle to the vault.
+    pub(crate) fn new<V: Sink>(
+        alloc: Global,
+        world: World<'a, D>,
+        vault: &mut V,
+    ) -> Result<Self, Failure>
+        requires setup { shown_world world ≡ set_up (host_of (D.functions (digests_of world)) world) }
+        requires settings { IsSettings (settings_of world) }
+        requires counters { (settings_of world).shards ≤ (settings_of world).header.end }
+        requires keys { AreInRange (requests_of world) }
+        requires some { 0 < length (requests_of world) }
+        ensures runs { (receipts : Bool) (held : Option (List ℕ)) → IfOk result (λ runner. RunsBehind receipts D.functions runner 0 0
+            (record { vault = V.held vault.old; vault_after = V.held vault.new; out = held; out_after = held })) }
+        ensures world { IfOk result (λ runner. runner.world ≡ world.entry) }
+        ensures begins { IfOk result (λ runner. IsAtPhase (host_of (D.functions (digests_of world.entry)) world.entry)
+            (shown_world world.entry) runner.end) }
+        ensures cut { (account : Account) (held : Option (List ℕ)) → OnErr result (IsCutOff account (D.functions (digests_of world.entry))
+            (settings_of world.entry) (requests_of world.entry) (record { vault = V.held vault.old; vault_after = V.held vault.new; out = held; out_after = held })) }
+        ensures header { (held : Option (List ℕ)) → OnErr result (IsCutInHeader (settings_of world.entry)
+            (record { vault = V.held vault.old; vault_after = V.held vault.new; out = held; out_after = held })) }
+        ensures failure { FailsByVault result }
+        ensures vault_fault { result ≡ Err Failure.VaultFault → Rose (V.faults vault.old) (V.faults vault.new) }
+        ensures never_falls { V.faults vault.old ≤ V.faults vault.new }
+        ensures name { V.name vault.new ≡ V.name vault.old }
+    {
+        logs_of_no_bytes_certify_nothing();
+        let settings = world.settings();
+        a_header_begins_the_bundle(&settings);
+        let header = settings.header;
+        let buffers = buffers_for(alloc, header.verifiers)?;
+        let parcels = counts_for(alloc, header.verifiers)?;
+        let rounds = Rounds::new(alloc, &header, vault)?;
+        Ok(WorldRun {
+            alloc,
+            world,
+            rounds,
+            buffers,
+            parcels,
+            end: None,
+        })
+    }
+
+    /// Behind the last close: writes the last line of the report.
+    pub(crate) fn finish<O: Sink>(&mut self, out: &mut O) -> Result<RunEnd, Failure>
+        requires runs { IsUnderWayWhole D.functions self.old }
+        requires ended { IsAtEnd (host_of (D.functions (digests_of self.old.world)) self.old.world) (shown_world self.old.world) self.old.end }
+        ensures served { (receipts : Bool) (outputs : Outputs) → RunsToEnd receipts D.functions self.old outputs → outputs.out_after ≡ O.held out.old
+            → IfOk result (λ end. IsServed (Account.Report receipts) (D.functions (digests_of self.old.world)) (settings_of self.old.world) (requests_of self.old.world) end
+            (record outputs { out_after = O.held out.new })) }
+        ensures cut { (receipts : Bool) (outputs : Outputs) → RunsToEnd receipts D.functions self.old outputs → outputs.out_after ≡ O.held out.old
+            → OnErr result (IsCutAtEnd (Account.Report receipts) (D.functions (digests_of self.old.world)) (settings_of self.old.world) (requests_of self.old.world)
+            (record outputs { out_after = O.held out.new })) }
+        ensures stop { OnErr result (result ≡ Err Failure.WriteFault) }
+        ensures write_fault { OnErr result (Rose (O.faults out.old) (O.faults out.new)) }
+        ensures never_falls { O.faults out.old ≤ O.faults out.new }
+    {
+        let end = self.conclude();
+        write_end(&end.status(), out)?;
+        Ok(end)
+    }
+
+    /// Behind the last close: writes the summary of a load, in place of the last line of a report.
+    pub(crate) fn sum_up<O: Sink>(&mut self, load: &Load, out: &mut O) -> Result<RunEnd, Failure>
+        requires runs { IsUnderWayWhole D.functions self.old }
+        requires ended { IsAtEnd (host_of (D.functions (digests_of self.old.world)) self.old.world) (shown_world self.old.world) self.old.end }
+        ensures summed { (receipts : Bool) (outputs : Outputs) → RunsToEnd receipts D.functions self.old outputs
+            → IfOk result (λ end. IsServed (Account.Summary load.now) (D.functions (digests_of self.old.world)) (settings_of self.old.world) (requests_of self.old.world) end
+            (record outputs { out = O.held out.old; out_after = O.held out.new })) }
+        ensures cut { (receipts : Bool) (outputs : Outputs) → RunsToEnd receipts D.functions self.old outputs
+            → OnErr result (IsCutAtEnd (Account.Summary load.now) (D.functions (digests_of self.old.world)) (settings_of self.old.world) (requests_of self.old.world)
+            (record outputs { out = O.held out.old; out_after = O.held out.new })) }
+        ensures stop { OnErr result (result ≡ Err Failure.WriteFault) }
+        ensures write_fault { OnErr result (Rose (O.faults out.old) (O.faults out.new)) }
+        ensures never_falls { O.faults out.old ≤ O.faults out.new }
+    {
+        let end = self.conclude();
+        self.rounds
+            .write_summary(load.seed, load.ops, &end.status(), out)?;
+        Ok(end)
+    }
+
+    /// The same by what is written of it.
+    pub(crate) fn end_with<O: Sink>(
+        &mut self,
+        account: &Account,
+        out: &mut O,
+    ) -> Result<RunEnd, Failure>
+        requires runs { IsUnderWayWhole D.functions self.old }
+        requires ended { IsAtEnd (host_of (D.functions (digests_of self.old.world)) self.old.world) (shown_world self.old.world) self.old.end }
+        ensures served { (dropped : Option (List ℕ)) (outputs : Outputs) → StandsFor account.now NextCall.Finish dropped D.functions self.old outputs
+            → outputs.out_after ≡ O.held out.old
+            → IfOk result (λ end. IsServed account.now (D.functions (digests_of self.old.world)) (settings_of self.old.world) (requests_of self.old.world) end
+            (record outputs { out_after = O.held out.new })) }
+        ensures cut { (dropped : Option (List ℕ)) (outputs : Outputs) → StandsFor account.now NextCall.Finish dropped D.functions self.old outputs
+            → outputs.out_after ≡ O.held out.old
+            → OnErr result (IsCutAtEnd account.now (D.functions (digests_of self.old.world)) (settings_of self.old.world) (requests_of self.old.world)
+            (record outputs { out_after = O.held out.new })) }
+        ensures stop { OnErr result (result ≡ Err Failure.WriteFault) }
+        ensures write_fault { OnErr result (Rose (O.faults out.old) (O.faults out.new)) }
+        ensures never_falls { O.faults out.old ≤ O.faults out.new }
+    {
+        match account {
+            Account::Report { .. } => self.finish(out),
+            Account::Summary(load) => self.sum_up(load, out),
+        }
+    }
+
+    // How it ends, behind the last close: where no clock ended, each phase is certified.
+    fn conclude(&mut self) -> RunEnd
+        requires runs { IsUnderWayWhole D.functions self.old }
+        requires ended { IsAtEnd (host_of (D.functions (digests_of self.old.world)) self.old.world) (shown_world self.old.world) self.old.end }
+        ensures end { result ≡ end_by (length (requests_of self.old.world)) self.old.end }
+        ensures judged { self.new.rounds.judged ≡ self.old.rounds.judged }
+        ensures summary { self.new.rounds.summary ≡ self.old.rounds.summary }
+    {
+        a_check_of_the_logs_ends_as_the_host_promises();
+        match self.end {
+            None => match self.rounds.end() {
+                BundleEnd::Done { epochs } => RunEnd::Done(epochs),
+                _ => unreachable!(),
+            },
+            Some(end) => RunEnd::ClockEnd(end),
+        }
+    }
+
+    // How the epochs of its report are told.
+    fn telling(&self, receipts: bool) -> Telling<'a, D>
+        ensures text { text_by D.functions result ≡ told_by receipts (D.functions (digests_of self.now.world)) self.now.world.settings.header }
+    {
+        Telling::new(
+            receipts,
+            self.world.digests(),
+            &self.world.settings().header,
+        )
+    }
+
+    // Hands out what all workers logged, where the verifiers' runs have already taken it: it goes to the vault.
+    fn set_down<V: Sink>(&mut self, vault: &mut V) -> Result<(), Failure>
+        requires runs { IsFedUnderWay D.functions self.old (V.held vault.old) }
+        ensures runs { (receipts : Bool) (outputs : Outputs) (before : List FedRun) (past : List Logs)
+            → Runs receipts D.functions (with_runs_of before self.old) past outputs → HaveReadRound D.functions before self.old
+            → IsBehindRounds (host_of (D.functions (digests_of self.old.world)) self.old.world) (suc (length past)) (shown_world self.old.world)
+            → outputs.vault_after ≡ V.held vault.old
+            → OnOk result (Runs receipts D.functions self.new (past ++ (logs_of (shown_world self.old.world) ∷ [])) (record outputs { vault_after = V.held vault.new })) }
+        ensures handed { OnOk result (shown_world self.new.world ≡ all_handed_out (shown_world self.old.world)) }
+        ensures end { self.new.end ≡ self.old.end }
+        ensures cut { (receipts : Bool) (outputs : Outputs) (before : List FedRun) → RunsSome receipts D.functions (with_runs_of before self.old) outputs
+            → outputs.vault_after ≡ V.held vault.old
+            → OnErr result (IsCutOff (Account.Report receipts) (D.functions (digests_of self.old.world)) (settings_of self.old.world) (requests_of self.old.world)
+            (record outputs { vault_after = V.held vault.new })) }
+        ensures cut_round { (receipts : Bool) (outputs : Outputs) (before : List FedRun) (closes : ℕ)
+            → RunsBehind receipts D.functions (with_runs_of before self.old) closes closes outputs → outputs.vault_after ≡ V.held vault.old
+            → OnErr result (IsCutInRound (Account.Report receipts) (D.functions (digests_of self.old.world)) (settings_of self.old.world) (requests_of self.old.world)
+            (record outputs { vault_after = V.held vault.new })) }
+        ensures host { AreOfOneHost self.old.world self.new.world }
+        ensures failure { FailsByVault result }
+        ensures vault_fault { result ≡ Err Failure.VaultFault → Rose (V.faults vault.old) (V.faults vault.new) }
+        ensures never_falls { V.faults vault.old ≤ V.faults vault.new }
+        ensures name { V.name vault.new ≡ V.name vault.old }
+    {
+        what_is_due_stays_due();
+        rounds_make_a_bundle();
+        hand_out_all(&mut self.world, self.buffers.as_mut_slice())?;
+        self.rounds.write(self.buffers.as_slice(), vault)
+    }
+}
+
+impl<'a, D: Digests + Sync> WorldRun<'a, D> {
+    /// A close, the last one or another: the workers move on to the next epoch, what they logged goes to the vault, and the
+    /// lines of all epochs that are now certified are written, with receipts or without. A clock may end in it, and then no more can be done.
+    pub(crate) fn close_epoch<R: Threads + Sync, V: Sink, O: Sink>(
+        &mut self,
+        rt: &R,
+        last: bool,
+        receipts: bool,
+        vault: &mut V,
+        out: &mut O,
+    ) -> Result<(), Failure>
+        requires runs { IsUnderWayBehind D.functions self.old (suc (shown_world self.old.world).phase) (shown_world self.old.world).phase (V.held vault.old) }
+        requires served { IsAtClose (host_of (D.functions (digests_of self.old.world)) self.old.world)
+            (shown_world self.old.world) self.old.end }
+        requires last { (last ≡ true) ↔ IsLast (host_of (D.functions (digests_of self.old.world)) self.old.world)
+            (shown_world self.old.world) }
+        ensures runs { (outputs : Outputs) → RunsBehind receipts D.functions self.old (suc (shown_world self.old.world).phase) (shown_world self.old.world).phase outputs
+            → outputs.vault_after ≡ V.held vault.old → outputs.out_after ≡ O.held out.old
+            → OnOk result (RunsWhole receipts D.functions self.new (suc (shown_world self.old.world).phase) (record outputs { vault_after = V.held vault.new; out_after = O.held out.new })) }
+        ensures ended { (last ≡ true) ⊎ (self.new.end ≢ None)
+            → OnOk result (IsAtEnd (host_of (D.functions (digests_of self.new.world)) self.new.world) (shown_world self.new.world) self.new.end
+            × (self.new.end ≡ None → (shown_world self.new.world).phase ≡ (shown_world self.old.world).phase)) }
+        ensures kept { self.new.end ≡ None → self.old.end ≡ None }
+        ensures opened { last ≡ false → self.new.end ≡ None
+            → OnOk result (IsAtPhase (host_of (D.functions (digests_of self.new.world)) self.new.world) (shown_world self.new.world) self.new.end
+            × ((shown_world self.new.world).phase ≡ suc (shown_world self.old.world).phase)) }
+        ensures cut { (outputs : Outputs) → RunsBehind receipts D.functions self.old (suc (shown_world self.old.world).phase) (shown_world self.old.world).phase outputs → outputs.vault_after ≡ V.held vault.old
+            → outputs.out_after ≡ O.held out.old
+            → OnErr result (IsCutOff (Account.Report receipts) (D.functions (digests_of self.old.world)) (settings_of self.old.world) (requests_of self.old.world)
+            (record outputs { vault_after = V.held vault.new; out_after = O.held out.new })) }
+        ensures cut_round { (outputs : Outputs) → RunsBehind receipts D.functions self.old (suc (shown_world self.old.world).phase) (shown_world self.old.world).phase outputs
+            → outputs.vault_after ≡ V.held vault.old → outputs.out_after ≡ O.held out.old → result ≡ Err Failure.VaultFault
+            → IsCutInRound (Account.Report receipts) (D.functions (digests_of self.old.world)) (settings_of self.old.world) (requests_of self.old.world)
+            (record outputs { vault_after = V.held vault.new; out_after = O.held out.new }) }
+        ensures host { AreOfOneHost self.old.world self.new.world }
+        ensures failure { FailsByOutput result }
+        ensures vault_fault { result ≡ Err Failure.VaultFault → Rose (V.faults vault.old) (V.faults vault.new) }
+        ensures write_fault { result ≡ Err Failure.WriteFault → Rose (O.faults out.old) (O.faults out.new) }
+        ensures vault_never_falls { V.faults vault.old ≤ V.faults vault.new }
+        ensures never_falls { O.faults out.old ≤ O.faults out.new }
+        ensures name { V.name vault.new ≡ V.name vault.old }
+    {
+        what_is_due_stays_due();
+        rounds_make_a_bundle();
+        let end = close_phase(&mut self.world, last)?;
+        self.end = earlier_end(self.end, end);
+        let settled = self.pass_to_seal(rt, last, vault)?;
+        let telling = self.telling(receipts);
+        self.rounds.certify(&settled, &telling, out)
+    }
+
+    // Hands out what all workers logged in a close: it goes to the vault, and the verifiers' runs take it, each in a thread of its
+    // own. The answer is the verdicts on what they sealed.
+    fn pass_to_seal<R: Threads + Sync, V: Sink>(
+        &mut self,
+        rt: &R,
+        last: bool,
+        vault: &mut V,
+    ) -> Result<Vec<Verdict>, Failure>
+        requires runs { IsUnderWay D.functions self.old (V.held vault.old) }
+        ensures runs { (receipts : Bool) (outputs : Outputs) (past : List Logs) → Runs receipts D.functions self.old past outputs
+            → IsBehindRounds (host_of (D.functions (digests_of self.old.world)) self.old.world) (suc (length past)) (shown_world self.old.world)
+            → outputs.vault_after ≡ V.held vault.old
+            → OnOk result (Runs receipts D.functions self.new (past ++ (logs_of (shown_world self.old.world) ∷ [])) (record outputs { vault_after = V.held vault.new })) }
+        ensures handed { OnOk result (shown_world self.new.world ≡ all_handed_out (shown_world self.old.world)) }
+        ensures settled { IfOk result (λ settled. AreVerdictsOn self.new.rounds.judged (map (λ fed. fed.run) self.new.rounds.runs) settled.items) }
+        ensures end { self.new.end ≡ self.old.end }
+        ensures cut { (receipts : Bool) (outputs : Outputs) → RunsSome receipts D.functions self.old outputs → outputs.vault_after ≡ V.held vault.old
+            → OnErr result (IsCutOff (Account.Report receipts) (D.functions (digests_of self.old.world)) (settings_of self.old.world) (requests_of self.old.world)
+            (record outputs { vault_after = V.held vault.new })) }
+        ensures cut_round { (receipts : Bool) (outputs : Outputs) (closes : ℕ) → RunsBehind receipts D.functions self.old (suc closes) closes outputs
+            → outputs.vault_after ≡ V.held vault.old
+            → OnErr result (IsCutInRound (Account.Report receipts) (D.functions (digests_of self.old.world)) (settings_of self.old.world) (requests_of self.old.world)
+            (record outputs { vault_after = V.held vault.new })) }
+        ensures host { AreOfOneHost self.old.world self.new.world }
+        ensures failure { FailsByVault result }
+        ensures vault_fault { result ≡ Err Failure.VaultFault → Rose (V.faults vault.old) (V.faults vault.new) }
+        ensures never_falls { V.faults vault.old ≤ V.faults vault.new }
+        ensures name { V.name vault.new ≡ V.name vault.old }
+    {
+        what_is_due_stays_due();
+        rounds_make_a_bundle();
+        hand_out_all(&mut self.world, self.buffers.as_mut_slice())?;
+        let d = self.world.digests();
+        self.rounds
+            .seal(rt, self.alloc, d, self.buffers.as_slice(), last, vault)
+    }
+
+    /// A phase: its requests are served, and the verifiers read what is logged meanwhile. Then that goes to the vault. A clock may
+    /// end in it.
+    pub(crate) fn phase<R: Threads + Wait + Sync, V: Sink, G: Gate + Sync>(
+        &mut self,
+        rt: &R,
+        gate: &G,
+        vault: &mut V,
+    ) -> Result<(), Failure>
+        requires runs { IsUnderWayBehind D.functions self.old (shown_world self.old.world).phase (shown_world self.old.world).phase (V.held vault.old) }
+        requires begins { IsAtPhase (host_of (D.functions (digests_of self.old.world)) self.old.world)
+            (shown_world self.old.world) self.old.end }
+        requires workers { AllByRecursion (λ turn. turn.0 < length (shown_world self.old.world).workers)
+            (turns_of (host_of (D.functions (digests_of self.old.world)) self.old.world) (shown_world self.old.world).phase) }
+        ensures runs { (receipts : Bool) (outputs : Outputs)
+            → RunsBehind receipts D.functions self.old (shown_world self.old.world).phase (shown_world self.old.world).phase outputs → outputs.vault_after ≡ V.held vault.old
+            → OnOk result (RunsBehind receipts D.functions self.new (suc (shown_world self.old.world).phase) (shown_world self.old.world).phase
+            (record outputs { vault_after = V.held vault.new })) }
+        ensures served { OnOk result (IsAtClose (host_of (D.functions (digests_of self.new.world)) self.new.world)
+            (shown_world self.new.world) self.new.end) }
+        ensures same_phase { OnOk result ((shown_world self.new.world).phase ≡ (shown_world self.old.world).phase) }
+        ensures cut { (receipts : Bool) (outputs : Outputs) → RunsBehind receipts D.functions self.old (shown_world self.old.world).phase (shown_world self.old.world).phase outputs → outputs.vault_after ≡ V.held vault.old
+            → OnErr result (IsCutOff (Account.Report receipts) (D.functions (digests_of self.old.world)) (settings_of self.old.world) (requests_of self.old.world)
+            (record outputs { vault_after = V.held vault.new })) }
+        ensures cut_round { (receipts : Bool) (outputs : Outputs) → RunsBehind receipts D.functions self.old (shown_world self.old.world).phase (shown_world self.old.world).phase outputs
+            → outputs.vault_after ≡ V.held vault.old
+            → OnErr result (IsCutInRound (Account.Report receipts) (D.functions (digests_of self.old.world)) (settings_of self.old.world) (requests_of self.old.world)
+            (record outputs { vault_after = V.held vault.new })) }
+        ensures host { AreOfOneHost self.old.world self.new.world }
+        ensures failure { FailsByVault result }
+        ensures vault_fault { result ≡ Err Failure.VaultFault → Rose (V.faults vault.old) (V.faults vault.new) }
+        ensures never_falls { V.faults vault.old ≤ V.faults vault.new }
+        ensures name { V.name vault.new ≡ V.name vault.old }
+    {
+        what_is_due_stays_due();
+        rounds_make_a_bundle();
+        let bytes = self.rounds.bytes();
+        let mut runs = self.rounds.lend_runs();
+        self.end = serve_phase_at_once(
+            rt,
+            self.alloc,
+            &mut self.world,
+            gate,
+            &mut runs,
+            bytes,
+            &mut self.parcels,
+        )?;
+        self.rounds.take_back(runs);
+        self.set_down(vault)
+    }
+
+    /// A close, which is the last one at the script's end, or where a clock ended in its phase. The answer says which call comes next.
+    fn close_next<R: Threads + Sync, V: Sink, O: Sink>(
+        &mut self,
+        rt: &R,
+        receipts: bool,
+        vault: &mut V,
+        out: &mut O,
+    ) -> Result<NextCall, Failure>
+        requires runs { IsUnderWayBehind D.functions self.old (suc (shown_world self.old.world).phase) (shown_world self.old.world).phase (V.held vault.old) }
+        requires served { IsAtClose (host_of (D.functions (digests_of self.old.world)) self.old.world)
+            (shown_world self.old.world) self.old.end }
+        ensures stands { (outputs : Outputs) → StandsBefore NextCall.Close receipts D.functions self.old outputs
+            → outputs.vault_after ≡ V.held vault.old → outputs.out_after ≡ O.held out.old
+            → IfOk result (λ call. StandsBefore call receipts D.functions self.new (record outputs { vault_after = V.held vault.new; out_after = O.held out.new })) }
+        ensures call { result ≢ Ok NextCall.Close }
+        ensures fewer { IfOk result (λ call. left_by call (State.Served self.new) < left_by NextCall.Close (State.Served self.old)) }
+        ensures cut { (outputs : Outputs) → StandsBefore NextCall.Close receipts D.functions self.old outputs
+            → outputs.vault_after ≡ V.held vault.old → outputs.out_after ≡ O.held out.old
+            → OnErr result (IsCutOff (Account.Report receipts) (D.functions (digests_of self.old.world)) (settings_of self.old.world) (requests_of self.old.world)
+            (record outputs { vault_after = V.held vault.new; out_after = O.held out.new })) }
+        ensures cut_round { (outputs : Outputs) → StandsBefore NextCall.Close receipts D.functions self.old outputs
+            → outputs.vault_after ≡ V.held vault.old → outputs.out_after ≡ O.held out.old → result ≡ Err Failure.VaultFault
+            → IsCutInRound (Account.Report receipts) (D.functions (digests_of self.old.world)) (settings_of self.old.world) (requests_of self.old.world)
+            (record outputs { vault_after = V.held vault.new; out_after = O.held out.new }) }
+        ensures host { AreOfOneHost self.old.world self.new.world }
+        ensures failure { FailsByOutput result }
+        ensures vault_fault { result ≡ Err Failure.VaultFault → Rose (V.faults vault.old) (V.faults vault.new) }
+        ensures write_fault { result ≡ Err Failure.WriteFault → Rose (O.faults out.old) (O.faults out.new) }
+        ensures vault_never_falls { V.faults vault.old ≤ V.faults vault.new }
+        ensures never_falls { O.faults out.old ≤ O.faults out.new }
+        ensures name { V.name vault.new ≡ V.name vault.old }
+    {
+        let last = self.is_last_close();
+        self.close_epoch(rt, last, receipts, vault, out)?;
+        Ok(call_behind(last, self.end))
+    }
+
+    /// The same of a run of which this is written: of a summary the lines go to a sink that drops them.
+    pub(crate) fn close<R: Threads + Sync, V: Sink, O: Sink>(
+        &mut self,
+        rt: &R,
+        account: &Account,
+        dropped: &mut SureSink,
+        vault: &mut V,
+        out: &mut O,
+    ) -> Result<NextCall, Failure>
+        requires runs { IsUnderWayBehind D.functions self.old (suc (shown_world self.old.world).phase) (shown_world self.old.world).phase (V.held vault.old) }
+        requires served { IsAtClose (host_of (D.functions (digests_of self.old.world)) self.old.world)
+            (shown_world self.old.world) self.old.end }
+        ensures stands { (outputs : Outputs) → StandsFor account.now NextCall.Close dropped.old.held D.functions self.old outputs
+            → outputs.vault_after ≡ V.held vault.old → outputs.out_after ≡ O.held out.old
+            → IfOk result (λ call. StandsFor account.now call dropped.new.held D.functions self.new (record outputs { vault_after = V.held vault.new; out_after = O.held out.new })) }
+        ensures call { result ≢ Ok NextCall.Close }
+        ensures fewer { IfOk result (λ call. left_by call (State.Served self.new) < left_by NextCall.Close (State.Served self.old)) }
+        ensures cut { (outputs : Outputs) → StandsFor account.now NextCall.Close dropped.old.held D.functions self.old outputs
+            → outputs.vault_after ≡ V.held vault.old → outputs.out_after ≡ O.held out.old
+            → OnErr result (IsCutOff account.now (D.functions (digests_of self.old.world)) (settings_of self.old.world) (requests_of self.old.world)
+            (record outputs { vault_after = V.held vault.new; out_after = O.held out.new })) }
+        ensures cut_round { (outputs : Outputs) → StandsFor account.now NextCall.Close dropped.old.held D.functions self.old outputs
+            → outputs.vault_after ≡ V.held vault.old → outputs.out_after ≡ O.held out.old → result ≡ Err Failure.VaultFault
+            → IsCutInRound account.now (D.functions (digests_of self.old.world)) (settings_of self.old.world) (requests_of self.old.world)
+            (record outputs { vault_after = V.held vault.new; out_after = O.held out.new }) }
+        ensures lines { result ≡ Err Failure.WriteFault → TellsLines account.now }
+        ensures host { AreOfOneHost self.old.world self.new.world }
+        ensures failure { FailsByOutput result }
+        ensures vault_fault { result ≡ Err Failure.VaultFault → Rose (V.faults vault.old) (V.faults vault.new) }
+        ensures write_fault { result ≡ Err Failure.WriteFault → Rose (O.faults out.old) (O.faults out.new) }
+        ensures vault_never_falls { V.faults vault.old ≤ V.faults vault.new }
+        ensures never_falls { O.faults out.old ≤ O.faults out.new }
+        ensures name { V.name vault.new ≡ V.name vault.old }
+    {
+        match account {
+            Account::Report { receipts } => self.close_next(rt, *receipts, vault, out),
+            Account::Summary(_) => self.close_next(rt, false, vault, dropped),
+        }
+    }
+
+    // Whether the close that comes is the last one: at the script's end, or where a clock ended in the phase.
+    fn is_last_close(&self) -> bool
+        requires served { IsAtClose (host_of (D.functions (digests_of self.now.world)) self.now.world)
+            (shown_world self.now.world) self.now.end }
+        ensures last { (result ≡ true) ↔ IsLast (host_of (D.functions (digests_of self.now.world)) self.now.world)
+            (shown_world self.now.world) }
+    {
+        let left = self.world.requests().len() - self.world.phase();
+        closes_last(left, self.end)
+    }
+}
+
+// The first of two ends, if either is there.
+fn earlier_end(first: Option<ClockEnd>, later: Option<ClockEnd>) -> Option<ClockEnd>
+    ensures value { result ≡ first_of first later }
+{
+    match first {
+        Some(end) => Some(end),
+        None => later,
+    }
+}
+
+// Whether a close is the last one: of the script's last phase, or where a clock ended in its phase.
+fn closes_last(left: usize, end: Option<ClockEnd>) -> bool
+    ensures at_end { left ≤ 1 → result ≡ true }
+    ensures ended { end ≢ None → result ≡ true }
+    ensures going { 1 < left → end ≡ None → result ≡ false }
+{
+    left <= 1 || end.is_some()
+}
+
+// The call behind a close: the next phase, or where the close was the last or a clock has ended, the end.
+fn call_behind(last: bool, end: Option<ClockEnd>) -> NextCall
+    ensures over { (last ≡ true) ⊎ (end ≢ None) → result ≡ NextCall.Finish }
+    ensures going { last ≡ false → end ≡ None → result ≡ NextCall.Phase }
+{
+    if last || end.is_some() {
+        NextCall::Finish
+    } else {
+        NextCall::Phase
+    }
+}
+
+// So many buffers that hold nothing.
+fn buffers_for(alloc: Global, count: u16) -> Result<Vec<LogBuffer>, Memory>
+    ensures len { IfOk result (λ buffers. length buffers.items ≡ count) }
+{
+    let mut buffers = Vec::new(alloc);
+    for _ in 0..count {
+        buffers.push(LogBuffer::new(alloc))?;
+    }
+    Ok(buffers)
+}
+
+// A count for each of so many: nothing was counted.
+fn counts_for(alloc: Global, count: u16) -> Result<Vec<u64>, Memory>
+    ensures none { IfOk result (λ counts. counts.items ≡ replicate count 0) }
+{
+    let counts = vec![in alloc; 0; usize::from(count)]?;
+    Ok(counts)
+}
