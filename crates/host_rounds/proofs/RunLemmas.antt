@@ -13,14 +13,13 @@ use Rattle.bundle_frames.specs.Bundle.{Frame}
 use Rattle.record_text.specs.declared.operation.Operation.{Operation}
 use Rattle.verifier_run.specs.Course.{Course}
 use Rattle.verifier_run.specs.Kept.{keeps_operations}
-use Rattle.verifier_run.specs.Progress.{Progress, opening_progress, fed, weight}
-use Rattle.verifier_run.proofs.RunLaws.{fed_goes_on}
+use Rattle.verifier_run.specs.Progress.{Progress, fed, weight}
 use Rattle.bundle_report.specs.declared.judged.Judged.{Judged}
 use Rattle.bundle_report.specs.Logs.{joined_from}
 use Rattle.bundle_report.specs.Report.{EpochText, EpochTold, operations_told}
 use Rattle.bundle_report.specs.RunReport.{courses_of}
 use Rattle.bundle_report.specs.Judged.{judged}
-use Rattle.bundle_report.specs.SoFar.{lines_from, left_from, opening_runs, runs_from, having_read, runs_behind, HaveRead}
+use Rattle.bundle_report.specs.SoFar.{lines_from, opening_runs, runs_from, having_read, runs_behind, HaveRead}
 use Rattle.bundle_report.proofs.LinesLaws.{lines-behind}
 use Rattle.bundle_report.proofs.SoFarLaws.{taken-more, lines-taken, counted-within}
 use Rattle.bundle_report.proofs.DueLaws.{lines-certified, lines-due}
