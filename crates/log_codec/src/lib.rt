@@ -8,14 +8,16 @@
 #![tactic(auto)]
 
 mod command;
+mod decoded;
 mod laws;
 mod reading;
 mod writing;
 
 pub use command::Command;
+pub use decoded::Decoded;
 pub use laws::{
     commands_are_read_as_spelled, commands_have_at_most_104_bytes, commands_keep_on,
     logs_are_read_as_spelled, logs_go_by_commands, logs_keep_on, no_command_begins_another,
 };
-pub use reading::{Decoded, read};
+pub use reading::read;
 pub use writing::{LONGEST_COMMAND_TEXT, write};
