@@ -4,5 +4,6 @@ pub mod GrammarLaws
 pub mod CommandLaws
 pub mod CommandKeepsOnLaws
 pub mod LengthLaws
+pub mod SlotCommandLaws
 mod ReadLemmas
 pub mod LogLaws
