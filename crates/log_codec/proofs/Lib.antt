@@ -4,6 +4,6 @@ pub mod GrammarLaws
 pub mod CommandLaws
 pub mod CommandKeepsOnLaws
 pub mod LengthLaws
-pub mod SlotCommandLaws
+mod SlotCommandLaws
 mod ReadLemmas
 pub mod LogLaws
