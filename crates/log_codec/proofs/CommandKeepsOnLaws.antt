@@ -1,15 +1,15 @@
 -- More bytes behind change neither what command was read, nor that the bytes are malformed.
-use Rattle.std.proofs.Common.{◌-◌, ◌<◌, ◌≤◌, length, length-drop, arith, ◌≡◌, ℕ, ◌==◌, List, [], ◌∷◌, ◌++◌, Some, Ok, Err, ap, ◌∙◌, append-nil, sym}
-use Rattle.record_text.specs.declared.reader.TextFault.TheVariants.{Malformed, Truncated}
-use Rattle.record_text.specs.Fields.{field, KeepsOn}
-use Rattle.record_text.specs.Reading.{first_byte, byte_at, path_at, value_at, stamp_at, u16_at}
-use Rattle.record_text.proofs.FieldLaws.{field_ok}
-use Rattle.record_text.proofs.KeepsOnLaws.{keeps_on-nothing, keeps_on-then, keeps_on-byte, keeps_on-path, keeps_on-value, keeps_on-stamp, keeps_on-u16, front_is_truncated}
+use Rattle.std.proofs.Common.{◌<◌, length, ◌≡◌, ℕ, ◌==◌, List, Ok, Err}
+use Rattle.record_text.specs.declared.reader.TextFault.TheVariants.{Malformed}
+use Rattle.record_text.specs.Fields.{KeepsOn}
+use Rattle.record_text.specs.Reading.{path_at, value_at, stamp_at, u16_at}
+use Rattle.record_text.proofs.KeepsOnLaws.{keeps_on-nothing, keeps_on-path, keeps_on-value, keeps_on-stamp, keeps_on-u16}
 use Rattle.log_codec.specs.declared.command.Command.{Command}
 use Rattle.log_codec.specs.declared.command.Command.TheVariants.{AddM, EvictM, AddB, EvictB, EvictBM, Get, Put, NextEpoch}
-use Rattle.log_codec.specs.Command.{command_text, add_m_at, evict_m_at, add_b_at, evict_b_at, evict_bm_at, get_at, put_at, command_behind, command_at, IsCommand}
-use Rattle.log_codec.proofs.StepLaws.{then_ok, keeps_on-if, keeps_on-malformed, keeps_on-two, keeps_on-three, keeps_on-four}
-use Rattle.log_codec.proofs.CommandLaws.{command_again}
+use Rattle.log_codec.specs.Command.{add_m_at, evict_m_at, add_b_at, evict_b_at, evict_bm_at, get_at, put_at, command_behind, command_at}
+use Rattle.log_codec.proofs.StepLaws.{keeps_on-if, keeps_on-malformed, keeps_on-two, keeps_on-three, keeps_on-four}
+use Rattle.log_codec.proofs.GrammarLaws.{IsExact, keeps_on-tagged, tagged_shorter}
+use Rattle.log_codec.proofs.CommandLaws.{path_grammar, command_begins, command_again}
 
 keeps_on-behind : (longest : ℕ) (tag : ℕ) → KeepsOn (λ bytes. command_behind longest tag bytes)
 keeps_on-behind longest tag =
@@ -26,22 +26,19 @@ keeps_on-behind longest tag =
 
 pub keeps_on-command : (longest : ℕ) → KeepsOn (command_at longest)
 unfolding command_at
-keeps_on-command longest =
-    keeps_on-then byte_at (λ tag bytes. command_behind longest tag bytes) keeps_on-byte (keeps_on-behind longest)
+keeps_on-command longest = keeps_on-tagged (λ tag bytes. command_behind longest tag bytes) (keeps_on-behind longest)
 
 -- A command takes a byte at least.
 pub command_shorter : (longest : ℕ) (bytes : List ℕ) (command : Command) (rest : List ℕ) → command_at longest bytes ≡ Ok (command, rest) → length rest < length bytes
-unfolding command_at byte_at
+unfolding command_at
 command_shorter longest bytes command rest e =
-    let t = then_ok (field 1 (λ run. Some (first_byte run)) bytes) (λ tag left. command_behind longest tag left) command rest e in
-    let f = field_ok 1 (λ run. Some (first_byte run)) bytes t.0 t.1 t.2 in
-    let behind : length t.1 ≡ length bytes - 1 = sym (ap (λ (left : List ℕ). length left) f.2) ∙ length-drop 1 bytes in
-    let no_longer : length rest ≤ length t.1 = (keeps_on-behind longest t.0).left t.1 command rest t.3 in
-    omega arith
+    tagged_shorter (λ tag left. command_behind longest tag left) (keeps_on-behind longest) bytes command rest e
 
--- a command's text that is cut short is truncated
-pub command_front : (longest : ℕ) (command : Command) (front : List ℕ) (byte : ℕ) (back : List ℕ) → IsCommand longest command → command_text command ≡ front ++ byte ∷ back → command_at longest front ≡ Err Truncated
-command_front longest command front byte back is cut =
-    let whole : command_at longest (front ++ byte ∷ back) ≡ Ok (command, []) =
-    ap (command_at longest) (sym cut ∙ sym (append-nil (command_text command))) ∙ command_again longest command [] is in
-    front_is_truncated (command_at longest) front byte back command (keeps_on-command longest) whole
+-- Each command is read of its text and of no other bytes.
+pub path_exact : (longest : ℕ) → IsExact (path_grammar longest)
+path_exact longest = record {
+  begins = command_begins longest;
+  again = command_again longest;
+  keeps_on = keeps_on-command longest;
+  shorter = command_shorter longest;
+}

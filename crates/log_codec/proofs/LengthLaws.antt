@@ -16,11 +16,13 @@ use Rattle.record_text.specs.Longest.{longest_blob}
 use Rattle.log_codec.specs.declared.command.Command.{Command}
 use Rattle.log_codec.specs.declared.command.Command.TheVariants.{AddM, EvictM, AddB, EvictB, EvictBM, Get, Put, NextEpoch}
 use Rattle.log_codec.specs.Command.{add_m_at, evict_m_at, add_b_at, evict_b_at, evict_bm_at, get_at, put_at, command_behind, command_at, command_text, IsCommand}
-use Rattle.log_codec.proofs.CommandLaws.{command_again}
+use Rattle.log_codec.proofs.CommandLaws.{path_grammar}
+use Rattle.log_codec.proofs.CommandKeepsOnLaws.{path_exact}
+use Rattle.log_codec.proofs.GrammarLaws.{Grammar, IsExact, tagged_at}
 use Rattle.log_codec.proofs.StepLaws.{then_at, then_ok, two_at, three_at, four_at}
 
 -- A reader takes at most n bytes, and has fewer where they are cut.
-record Spans {A : Type 0} (n : ℕ) (read : List ℕ → Parsed A) : Type 0 where
+pub record Spans {A : Type 0} (n : ℕ) (read : List ℕ → Parsed A) : Type 0 where
   pub takes : (bytes : List ℕ) (made : A) (rest : List ℕ) → read bytes ≡ Ok (made, rest) → length bytes ≤ n + length rest
   pub cut : (bytes : List ℕ) → read bytes ≡ Err faults.Truncated → length bytes < n
 
@@ -34,7 +36,7 @@ guarded_cut : {A : Type 0} (short : Bool) (o : Option A) (left : List ℕ) → c
 guarded_cut true o left e = refl
 guarded_cut false o left e = absurd (ranged_whole o left e)
 
-Spans-field : {A : Type 0} (n : ℕ) (value : List ℕ → Option A) → Spans n (λ bytes. field n value bytes)
+pub Spans-field : {A : Type 0} (n : ℕ) (value : List ℕ → Option A) → Spans n (λ bytes. field n value bytes)
 Spans-field n value = record {
   takes = λ bytes made rest e.
       let f = field_ok n value bytes made rest e in
@@ -42,7 +44,7 @@ Spans-field n value = record {
   cut = λ bytes e. ltb-true _ _ (guarded_cut (ltb (length bytes) n) (value (take n bytes)) (drop n bytes) e);
 }
 
-Spans-done : {A : Type 0} (n : ℕ) (made : A) → Spans n (λ bytes. Ok (made, bytes))
+pub Spans-done : {A : Type 0} (n : ℕ) (made : A) → Spans n (λ bytes. Ok (made, bytes))
 Spans-done n made = record {
   takes = λ bytes x rest e.
       let same : bytes ≡ rest = ap (λ (found : _ × List ℕ). found.1) (Ok-is (made, bytes) (x, rest) e) in
@@ -50,7 +52,7 @@ Spans-done n made = record {
   cut = λ bytes e. absurd (cc);
 }
 
-Spans-malformed : {A : Type 0} (n : ℕ) → Spans {A = A} n (λ bytes. Err faults.Malformed)
+pub Spans-malformed : {A : Type 0} (n : ℕ) → Spans {A = A} n (λ bytes. Err faults.Malformed)
 Spans-malformed n = record { takes = λ bytes made rest e. absurd (cc); cut = λ bytes e. absurd (cc) }
 
 then_cut : {A B : Type 0} (first : Parsed A) (second : A → List ℕ → Parsed B) (P : Type 0)
@@ -62,7 +64,7 @@ then_cut (Err faults.Malformed) second P one two e = absurd (cc)
 then_cut (Err faults.Truncated) second P one two e = one refl
 
 -- one reader after another, whose span may rest on what the first one found
-Spans-then_found : {A B : Type 0} (n m : ℕ) (first : List ℕ → Parsed A) (second : A → List ℕ → Parsed B) → Spans n first → ((a : A) (bytes left : List ℕ) → first bytes ≡ Ok (a, left) → Spans m (second a)) → Spans (n + m) (λ bytes. then_at (first bytes) second)
+pub Spans-then_found : {A B : Type 0} (n m : ℕ) (first : List ℕ → Parsed A) (second : A → List ℕ → Parsed B) → Spans n first → ((a : A) (bytes left : List ℕ) → first bytes ≡ Ok (a, left) → Spans m (second a)) → Spans (n + m) (λ bytes. then_at (first bytes) second)
 Spans-then_found n m first second one two = record {
   takes = λ bytes made rest e.
       let t = then_ok (first bytes) second made rest e in
@@ -78,57 +80,57 @@ Spans-then_found n m first second one two = record {
       omega arith) e;
 }
 
-Spans-then : {A B : Type 0} (n m : ℕ) (first : List ℕ → Parsed A) (second : A → List ℕ → Parsed B) → Spans n first → ((a : A) → Spans m (second a)) → Spans (n + m) (λ bytes. then_at (first bytes) second)
+pub Spans-then : {A B : Type 0} (n m : ℕ) (first : List ℕ → Parsed A) (second : A → List ℕ → Parsed B) → Spans n first → ((a : A) → Spans m (second a)) → Spans (n + m) (λ bytes. then_at (first bytes) second)
 Spans-then n m first second one two = Spans-then_found n m first second one (λ a bytes left is. two a)
 
-Spans-if : {A : Type 0} (n : ℕ) (test : Bool) (first second : List ℕ → Parsed A) → Spans n first → Spans n second → Spans n (λ bytes. cond test (first bytes) (second bytes))
+pub Spans-if : {A : Type 0} (n : ℕ) (test : Bool) (first second : List ℕ → Parsed A) → Spans n first → Spans n second → Spans n (λ bytes. cond test (first bytes) (second bytes))
 Spans-if n true first second one two = one
 Spans-if n false first second one two = two
 
-Spans-wider : {A : Type 0} (n m : ℕ) (read : List ℕ → Parsed A) → n ≤ m → Spans n read → Spans m read
+pub Spans-wider : {A : Type 0} (n m : ℕ) (read : List ℕ → Parsed A) → n ≤ m → Spans n read → Spans m read
 Spans-wider n m read le spans = record {
   takes = λ bytes made rest e. let most = spans.takes bytes made rest e in omega arith;
   cut = λ bytes e. let most = spans.cut bytes e in omega arith;
 }
 
-Spans-two : {A B C : Type 0} (n m : ℕ) (make : A → B → C) (first : List ℕ → Parsed A) (second : A → List ℕ → Parsed B) → Spans n first → ((a : A) → Spans m (second a)) → Spans (n + m) (λ bytes. two_at make first second bytes)
+pub Spans-two : {A B C : Type 0} (n m : ℕ) (make : A → B → C) (first : List ℕ → Parsed A) (second : A → List ℕ → Parsed B) → Spans n first → ((a : A) → Spans m (second a)) → Spans (n + m) (λ bytes. two_at make first second bytes)
 Spans-two n m make first second one two =
     Spans-then n m first (λ a left. then_at (second a left) (λ b rest. Ok (make a b, rest))) one
     (λ a. Spans-wider (m + 0) m _ (omega arith) (Spans-then m 0 (second a) (λ b rest. Ok (make a b, rest)) (two a) (λ b. Spans-done 0 (make a b))))
 
-Spans-three : {A B C D : Type 0} (n m k : ℕ) (make : A → B → C → D) (first : List ℕ → Parsed A) (second : A → List ℕ → Parsed B) (third : List ℕ → Parsed C) → Spans n first → ((a : A) → Spans m (second a)) → Spans k third → Spans (n + (m + k)) (λ bytes. three_at make first second third bytes)
+pub Spans-three : {A B C D : Type 0} (n m k : ℕ) (make : A → B → C → D) (first : List ℕ → Parsed A) (second : A → List ℕ → Parsed B) (third : List ℕ → Parsed C) → Spans n first → ((a : A) → Spans m (second a)) → Spans k third → Spans (n + (m + k)) (λ bytes. three_at make first second third bytes)
 Spans-three n m k make first second third one two three =
     Spans-then n (m + k) first (λ a left. two_at (make a) (second a) (λ b. third) left) one
     (λ a. Spans-two m k (make a) (second a) (λ b. third) (two a) (λ b. three))
 
-Spans-four : {A B C D E : Type 0} (n m k j : ℕ) (make : A → B → C → D → E) (first : List ℕ → Parsed A) (second : A → List ℕ → Parsed B) (third : List ℕ → Parsed C) (fourth : List ℕ → Parsed D) → Spans n first → ((a : A) → Spans m (second a)) → Spans k third → Spans j fourth → Spans (n + (m + (k + j))) (λ bytes. four_at make first second third fourth bytes)
+pub Spans-four : {A B C D E : Type 0} (n m k j : ℕ) (make : A → B → C → D → E) (first : List ℕ → Parsed A) (second : A → List ℕ → Parsed B) (third : List ℕ → Parsed C) (fourth : List ℕ → Parsed D) → Spans n first → ((a : A) → Spans m (second a)) → Spans k third → Spans j fourth → Spans (n + (m + (k + j))) (λ bytes. four_at make first second third fourth bytes)
 Spans-four n m k j make first second third fourth one two three four =
     Spans-then n (m + (k + j)) first (λ a left. three_at (make a) (second a) (λ b. third) fourth left) one
     (λ a. Spans-three m k j (make a) (second a) (λ b. third) fourth (two a) (λ b. three) four)
 
 -- ---- the fields
 
-Spans-byte : Spans 1 (λ bytes. byte_at bytes)
+pub Spans-byte : Spans 1 (λ bytes. byte_at bytes)
 unfolding byte_at
 Spans-byte = Spans-field 1 (λ run. Some (first_byte run))
 
-Spans-path : Spans 9 (λ bytes. path_at bytes)
+pub Spans-path : Spans 9 (λ bytes. path_at bytes)
 unfolding path_at
 Spans-path = Spans-field 9 path_in
 
-Spans-path_below : (prefix : List Bool) → Spans 9 (λ bytes. path_below_at prefix bytes)
+pub Spans-path_below : (prefix : List Bool) → Spans 9 (λ bytes. path_below_at prefix bytes)
 unfolding path_below_at
 Spans-path_below prefix = Spans-field 9 (path_below_in prefix)
 
-Spans-u16 : Spans 2 (λ bytes. u16_at bytes)
+pub Spans-u16 : Spans 2 (λ bytes. u16_at bytes)
 unfolding u16_at
 Spans-u16 = Spans-field 2 (λ run. Some (from_be_bytes w16 run))
 
-Spans-u32 : Spans 4 (λ bytes. u32_at bytes)
+pub Spans-u32 : Spans 4 (λ bytes. u32_at bytes)
 unfolding u32_at
 Spans-u32 = Spans-field 4 (λ run. Some (from_be_bytes w32 run))
 
-Spans-stamp : Spans 8 (λ bytes. stamp_at bytes)
+pub Spans-stamp : Spans 8 (λ bytes. stamp_at bytes)
 unfolding stamp_at
 Spans-stamp =
     let stamp : ℕ → ℕ → Stamp = λ epoch counter. record { epoch = epoch; counter = counter } in
@@ -145,7 +147,7 @@ count_within bytes count e =
     let least : first_byte bytes ≤ 64 = leb-true _ _ is.0 in
     omega (arith, is.1)
 
-Spans-blob_behind : (present : Bool) → Spans 65 (λ bytes. blob_behind longest_blob present bytes)
+pub Spans-blob_behind : (present : Bool) → Spans 65 (λ bytes. blob_behind longest_blob present bytes)
 Spans-blob_behind false = Spans-done 65 None
 Spans-blob_behind true =
     Spans-then_found 1 64 (λ bytes. field 1 (count_in longest_blob) bytes) (λ count left. then_at (run_at count left) (λ text rest. Ok (Some text, rest))) (Spans-field 1 (count_in longest_blob))
@@ -154,39 +156,51 @@ Spans-blob_behind true =
     let most : count ≤ 64 = count_within (take 1 bytes) count f.1 in
     Spans-wider (count + 0) 64 _ (omega arith) (Spans-then count 0 (λ bytes. run_at count bytes) (λ text rest. Ok (Some text, rest)) (Spans-field count (λ run. Some run)) (λ text. Spans-done 0 (Some text))))
 
-Spans-blob : Spans 66 (λ bytes. blob_at longest_blob bytes)
+pub Spans-blob : Spans 66 (λ bytes. blob_at longest_blob bytes)
 unfolding blob_at
 Spans-blob = Spans-then 1 65 (λ bytes. field 1 flag_in bytes) (λ present bytes. blob_behind longest_blob present bytes) (Spans-field 1 flag_in) Spans-blob_behind
 
-Spans-pointer_behind : (prefix : List Bool) (tag : Option Bool) → Spans 41 (λ bytes. pointer_behind prefix tag bytes)
+pub Spans-pointer_behind : (prefix : List Bool) (tag : Option Bool) → Spans 41 (λ bytes. pointer_behind prefix tag bytes)
 Spans-pointer_behind prefix None = Spans-done 41 None
 Spans-pointer_behind prefix (Some deferred) =
     let pointer : List Bool → List ℕ → Option Pointer = λ path digest. Some (record { path = path; digest = digest; deferred = deferred }) in
     Spans-two 9 32 pointer (λ bytes. path_below_at prefix bytes) (λ path bytes. run_at 32 bytes) (Spans-path_below prefix) (λ path. Spans-field 32 (λ run. Some run))
 
-Spans-pointer : (prefix : List Bool) → Spans 42 (λ bytes. pointer_at prefix bytes)
+pub Spans-pointer : (prefix : List Bool) → Spans 42 (λ bytes. pointer_at prefix bytes)
 unfolding pointer_at
 Spans-pointer prefix = Spans-then 1 41 (λ bytes. field 1 pointer_tag_in bytes) (λ tag bytes. pointer_behind prefix tag bytes) (Spans-field 1 pointer_tag_in) (Spans-pointer_behind prefix)
 
-Spans-node : (path : List Bool) → Spans 84 (λ bytes. node_at path bytes)
+pub Spans-node : (path : List Bool) → Spans 84 (λ bytes. node_at path bytes)
 unfolding node_at
 Spans-node path =
     let node : Option Pointer → Option Pointer → Node = λ side0 side1. record { side0 = side0; side1 = side1 } in
     Spans-two 42 42 node (λ bytes. pointer_at (path ++ false ∷ []) bytes) (λ side0 bytes. pointer_at (path ++ true ∷ []) bytes)
     (Spans-pointer (path ++ false ∷ [])) (λ side0. Spans-pointer (path ++ true ∷ []))
 
-Spans-value_by : (path : List Bool) (data_path : Bool) → Spans 84 (λ bytes. value_by longest_blob path data_path bytes)
+pub Spans-value_by : (path : List Bool) (data_path : Bool) → Spans 84 (λ bytes. value_by longest_blob path data_path bytes)
 Spans-value_by path true =
     Spans-then 66 18 (λ bytes. blob_at longest_blob bytes) (λ blob rest. Ok (values.Blob blob, rest)) Spans-blob (λ blob. Spans-done 18 (values.Blob blob))
 Spans-value_by path false =
     Spans-then 84 0 (λ bytes. node_at path bytes) (λ node rest. Ok (values.Node node, rest)) (Spans-node path) (λ node. Spans-done 0 (values.Node node))
 
-Spans-value : (path : List Bool) → Spans 84 (λ bytes. value_at longest_blob path bytes)
+pub Spans-value : (path : List Bool) → Spans 84 (λ bytes. value_at longest_blob path bytes)
 Spans-value path = Spans-value_by path (is_data path)
 
 -- ---- the commands
 
-Spans-behind : (tag : ℕ) → Spans 103 (λ bytes. command_behind longest_blob tag bytes)
+-- a tag, and what is read behind it
+pub Spans-tagged : {C : Type 0} (n : ℕ) (behind : ℕ → List ℕ → Parsed C) → ((tag : ℕ) → Spans n (λ bytes. behind tag bytes)) → Spans (1 + n) (λ bytes. tagged_at behind bytes)
+Spans-tagged n behind spans = Spans-then 1 n (λ bytes. byte_at bytes) behind Spans-byte spans
+
+-- A command's text has no more bytes than its reader takes.
+pub text_spans : {C : Type 0} (grammar : Grammar C) → IsExact grammar → (n : ℕ) → Spans n grammar.read → (command : C) → grammar.Is command → length (grammar.text command) ≤ n
+text_spans grammar exact n spans command is =
+    let within = spans.takes (grammar.text command ++ []) command [] (exact.again command [] is) in
+    omega (arith, within, ap (λ (text : List ℕ). length text) (append-nil (grammar.text command)))
+
+-- ---- commands that name paths
+
+pub Spans-behind : (tag : ℕ) → Spans 103 (λ bytes. command_behind longest_blob tag bytes)
 Spans-behind tag =
     Spans-if 103 (tag == 1) (λ bytes. add_m_at longest_blob bytes) _ (Spans-wider 102 103 _ (omega arith) (Spans-three 9 84 9 AddM path_at (value_at longest_blob) path_at Spans-path Spans-value Spans-path))
     (Spans-if 103 (tag == 2) (λ bytes. evict_m_at bytes) _ (Spans-wider 18 103 _ (omega arith) (Spans-two 9 9 EvictM path_at (λ p. path_at) Spans-path (λ p. Spans-path)))
@@ -197,9 +211,9 @@ Spans-behind tag =
     (Spans-if 103 (tag == 7) (λ bytes. put_at longest_blob bytes) _ (Spans-wider 93 103 _ (omega arith) (Spans-two 9 84 Put path_at (value_at longest_blob) Spans-path Spans-value))
     (Spans-if 103 (tag == 8) (λ bytes. Ok (NextEpoch, bytes)) (λ bytes. Err faults.Malformed) (Spans-done 103 NextEpoch) (Spans-malformed 103))))))))
 
-Spans-command : Spans 104 (λ bytes. command_at longest_blob bytes)
+pub Spans-command : Spans 104 (λ bytes. command_at longest_blob bytes)
 unfolding command_at
-Spans-command = Spans-then 1 103 (λ bytes. byte_at bytes) (λ tag left. command_behind longest_blob tag left) Spans-byte Spans-behind
+Spans-command = Spans-tagged 103 (λ tag left. command_behind longest_blob tag left) Spans-behind
 
 -- A command that was read takes at most 104 bytes.
 pub taken_within : (bytes : List ℕ) (command : Command) (rest : List ℕ) → command_at longest_blob bytes ≡ Ok (command, rest) → length bytes ≤ 104 + length rest
@@ -211,6 +225,4 @@ cut_is_short bytes e = Spans-command.cut bytes e
 
 -- A command's text has at most 104 bytes.
 pub text_within : (command : Command) → IsCommand longest_blob command → length (command_text command) ≤ 104
-text_within command is =
-    let within = taken_within (command_text command ++ []) command [] (command_again longest_blob command [] is) in
-    omega (arith, within, ap (λ (text : List ℕ). length text) (append-nil (command_text command)))
+text_within command is = text_spans (path_grammar longest_blob) (path_exact longest_blob) 104 Spans-command command is

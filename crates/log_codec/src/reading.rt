@@ -7,23 +7,13 @@ ghost use Rattle.log_codec.specs.Command.{add_m_at, evict_m_at, add_b_at, evict_
 ghost use Rattle.log_codec.specs.Decoded.{Decodes, IfRead};
 
 use crate::command::Command;
+use crate::decoded::Decoded;
 use record_text::{Reader, TextFault};
 
-/// What bytes begin with.
-#[derive(Clone, Debug, PartialEq, Eq, Drop)]
-pub enum Decoded {
-    /// A command, and how many bytes it takes.
-    Read(Command, usize),
-    /// No command, whatever follows the bytes.
-    Malformed,
-    /// The bytes end in the middle of a command, or are none.
-    Truncated,
-}
-
 /// The command whose text these bytes begin with, and the length of its text. Others may follow it.
-pub fn read(bytes: &[u8]) -> Decoded
+pub fn read(bytes: &[u8]) -> Decoded<Command>
     // Which command or fault it is.
-    ensures exact { Decodes longest_blob bytes.now result }
+    ensures exact { Decodes (command_at longest_blob) bytes.now result }
 
     // A command takes some of the bytes.
     ensures some { IfRead result (λ command taken. 0 < taken) }

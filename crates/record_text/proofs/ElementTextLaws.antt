@@ -8,7 +8,7 @@ use Rattle.record_text.specs.Element.{IsStamp, IsElement}
 use Rattle.record_text.specs.Fields.{Parsed, ◌>>=◌}
 use Rattle.record_text.specs.Reading.{path_at, value_at, u16_at, u32_at, stamp_at, element_at}
 use Rattle.record_text.specs.Texts.{path_text, value_text, stamp_text, element_text}
-use Rattle.record_text.proofs.FieldLaws.{AreBytes, Begins, Begins-then, IsWide, wide16, wide32, number_begins, number_again, bind_ok, Ok-is}
+use Rattle.record_text.proofs.FieldLaws.{AreBytes, Begins, Begins-then, wide16, wide32, number_begins, number_again, bind_ok, Ok-is}
 use Rattle.record_text.proofs.PathTextLaws.{path_begins, path_again}
 use Rattle.record_text.proofs.ValueTextLaws.{value_begins, value_again, path_of_value}
 

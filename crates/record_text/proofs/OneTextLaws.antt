@@ -1,5 +1,5 @@
 -- No text of a kind begins another of its kind, and a proper front of a text is truncated.
-use Rattle.std.proofs.Common.{◌≡◌, ℕ, ◌^◌, ◌≤◌, Bool, true, false, List, [], ◌∷◌, ◌++◌, length, Option, Ok, Err, sym, ap, ◌∙◌, append_assoc, arith}
+use Rattle.std.proofs.Common.{◌≡◌, ℕ, Bool, true, false, List, [], ◌∷◌, ◌++◌, length, Option, Ok, Err, sym, ap, ◌∙◌, append_assoc, arith}
 use Rattle.std.proofs.lemmas.List.{append-nil}
 use Rattle.tree_keys.specs.Path.{IsPath}
 use Rattle.lamport_clocks.specs.declared.stamp.Stamp.{Stamp}
@@ -14,7 +14,7 @@ use Rattle.record_text.specs.Element.{IsStamp, IsElement}
 use Rattle.record_text.specs.Fields.{Parsed, KeepsOn}
 use Rattle.record_text.specs.Reading.{path_at, blob_at, pointer_at, value_at, stamp_at, element_at}
 use Rattle.record_text.specs.Texts.{path_text, blob_text, pointer_text, value_text, stamp_text, element_text}
-use Rattle.record_text.proofs.FieldLaws.{IsWide, Ok-is}
+use Rattle.record_text.proofs.FieldLaws.{Ok-is}
 use Rattle.record_text.proofs.PathTextLaws.{path_again}
 use Rattle.record_text.proofs.ValueTextLaws.{blob_again, IsUnder, IsUnder-root, pointer_again_under, value_again}
 use Rattle.record_text.proofs.ElementTextLaws.{stamp_again, element_again}

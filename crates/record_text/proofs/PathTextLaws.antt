@@ -9,7 +9,7 @@ use Rattle.tree_keys.specs.Path.{word_of, path_in_word, is_prefix, key_bits, IsP
 use Rattle.tree_keys.proofs.BitsLaws.{bits_of-number_of, number_of-lt, first_below}
 use Rattle.record_text.specs.Reading.{path_in, path_at, if_below, path_below_in, path_below_at}
 use Rattle.record_text.specs.Texts.{path_text}
-use Rattle.record_text.proofs.FieldLaws.{AreBytes, AreBytes-rest, Begins, IsWide, field_begins, field_again, wide64}
+use Rattle.record_text.proofs.FieldLaws.{AreBytes, AreBytes-rest, Begins, field_begins, field_again, wide64}
 
 -- ---- a path in a word
 

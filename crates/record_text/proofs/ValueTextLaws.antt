@@ -1,5 +1,5 @@
 -- The texts of values: what was read as one is spelled so and of its kind, and what is spelled so is read.
-use Rattle.std.proofs.Common.{◌≡◌, ℕ, ◌^◌, ◌<◌, ◌≤◌, Bool, true, false, cond, eqb, leb, List, [], ◌∷◌, ◌++◌, length, take, Option, Some, None, IsTrue, Ok, refl, sym, ap, subst, ◌∙◌, append_assoc, arith, ◌⊎◌, inl, inr}
+use Rattle.std.proofs.Common.{◌≡◌, ℕ, ◌≤◌, Bool, true, false, cond, eqb, leb, List, [], ◌∷◌, ◌++◌, length, take, Option, Some, None, IsTrue, Ok, refl, sym, ap, subst, ◌∙◌, append_assoc, arith, ◌⊎◌, inl, inr}
 use Rattle.std.proofs.lemmas.Bool.{leb-true, le-leb, eqb-true, eqb-false, eq-eqb, ne_eqb}
 use Rattle.tree_keys.specs.Path.{is_prefix, key_bits, IsPath, IsNodePath}
 use Rattle.record_text.specs.declared.value.Pointer.{Pointer}
@@ -10,7 +10,7 @@ use Rattle.record_text.specs.Value.{IsPointer, IsSide, IsBlob, IsOf, empty_node,
 use Rattle.record_text.specs.Fields.{Parsed, ◌>>=◌, field}
 use Rattle.record_text.specs.Reading.{run_at, flag_in, count_in, blob_behind, blob_at, pointer_tag_in, path_below_at, pointer_behind, pointer_at, node_at, value_by, value_at}
 use Rattle.record_text.specs.Texts.{path_text, blob_text, deferred_tag, pointer_text, value_text}
-use Rattle.record_text.proofs.FieldLaws.{AreBytes, Begins, Begins-then, IsWide, bind_ok, Ok-is, field_begins, byte_field_begins, field_again}
+use Rattle.record_text.proofs.FieldLaws.{AreBytes, Begins, Begins-then, bind_ok, Ok-is, field_begins, byte_field_begins, field_again}
 use Rattle.record_text.proofs.PathTextLaws.{path_below_begins, path_below_again}
 
 -- ---- runs of bytes

@@ -1,5 +1,5 @@
 -- What bytes mean as paths, values, stamps and elements: the fields in order, and the first fault.
-use Rattle.std.specs.Prelude.{ℕ, ◌+◌, ◌==◌, nat_le, Bool, true, false, List, [], ◌∷◌, ◌++◌, length, drop, slice_index, Option, Some, None, Ok, if◌then◌else◌}
+use Rattle.std.specs.Prelude.{ℕ, ◌+◌, ◌==◌, nat_le, Bool, true, false, List, [], ◌∷◌, ◌++◌, drop, slice_index, Option, Some, None, Ok, if◌then◌else◌}
 use Rattle.std.specs.Int.{w16, w32, byte_len, from_be_bytes, w64}
 use Rattle.lamport_clocks.specs.declared.stamp.Stamp.{Stamp}
 use Rattle.tree_keys.specs.Path.{path_in_word, is_prefix, key_bits, is_data}

@@ -35,6 +35,6 @@ pub use refusal::Refusal;
 pub use request::Request;
 pub use value::{Blob, LONGEST_BLOB, Node, Pointer, Value, initial};
 pub use writing::{
-    LONGEST_ELEMENT_TEXT, LONGEST_VALUE_TEXT, PATH_TEXT_LEN, element_text, push_path, push_stamp,
-    push_u16, push_value, value_text,
+    LONGEST_ELEMENT_TEXT, LONGEST_VALUE_TEXT, PATH_TEXT_LEN, element_text, push_blob, push_path,
+    push_stamp, push_u16, push_value, value_text,
 };

@@ -121,9 +121,9 @@ impl<'a> Reader<'a> {
         }
     }
 
-    // A data value: none, or its bytes, at most 64.
+    /// A data value: none, or its bytes, at most 64.
     #[tactic(auto, unfolding(crate::specs::Reading::blob_at))]
-    fn blob(&mut self) -> Result<Blob, TextFault>
+    pub fn blob(&mut self) -> Result<Blob, TextFault>
         ensures takes { Takes result self.new (blob_at longest_blob self.old) }
         ensures kind { IfOk result (IsBlob longest_blob) }
     {

@@ -1,7 +1,8 @@
 //! Why a log is not read on.
 ghost use Rattle.std.specs.Prelude.{◌≡◌};
 
-/// Why a verifier refuses a command: the first test, in this order, that the command doesn't pass.
+/// Why a verifier refuses a command: the first of its tests that the command doesn't pass. Those of a command that
+/// names paths stand in this order; the last two are of commands that name slots.
 #[derive(Clone, Copy, Debug, PartialEq, Eq)]
 pub enum Refusal {
     /// The bytes are no command, whatever follows them.
@@ -46,6 +47,10 @@ pub enum Refusal {
     NotData,
     /// The cached value is another.
     WrongValue,
+    /// The slot holds an entry already.
+    SlotTaken,
+    /// The slot holds no entry, or there is no such slot.
+    SlotEmpty,
 }
 
 impl Refusal {
@@ -77,6 +82,8 @@ impl Refusal {
             Refusal::ClockEnd => "ClockEnd",
             Refusal::NotData => "NotData",
             Refusal::WrongValue => "WrongValue",
+            Refusal::SlotTaken => "SlotTaken",
+            Refusal::SlotEmpty => "SlotEmpty",
         }
     }
 }

@@ -102,8 +102,8 @@ fn push_u64<const CAP: usize>(items: &mut ArrayVec<u8, CAP>, number: u64)
     push_all(items, &number.to_be_bytes());
 }
 
-// Appends the text of a data value, of at most 66 bytes.
-fn push_blob<const CAP: usize>(items: &mut ArrayVec<u8, CAP>, blob: &Blob)
+/// Appends the text of a data value, of at most 66 bytes.
+pub fn push_blob<const CAP: usize>(items: &mut ArrayVec<u8, CAP>, blob: &Blob)
     requires room { array_vec_len items.old + 66 ≤ CAP }
     ensures text { items.new.items ≡ items.old.items ++ blob_text blob.now }
     ensures len { array_vec_len items.new ≤ array_vec_len items.old + 66 }

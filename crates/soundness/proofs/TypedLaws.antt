@@ -1,12 +1,12 @@
 -- What the log grammar reads is typed, whatever the numbers: each value is of its path's kind.
-use Rattle.std.proofs.Common.{◌≡◌, ℕ, zero, suc, ◌+◌, ◌-◌, ◌/◌, ◌%◌, ◌^◌, ◌<◌, ◌≤◌, ◌==◌, ◌&&◌, Bool, true, false, cond, eqb, leb, List, [], ◌∷◌, ◌++◌, length, take, Option, Some, None, Ok, Err, refl, sym, ap, subst, ◌∙◌, arith}
+use Rattle.std.proofs.Common.{◌≡◌, ℕ, zero, suc, ◌+◌, ◌-◌, ◌/◌, ◌%◌, ◌^◌, ◌≤◌, ◌==◌, ◌&&◌, Bool, true, false, cond, eqb, leb, List, [], ◌∷◌, ◌++◌, length, take, Option, Some, None, Ok, Err, refl, sym, ap, subst, ◌∙◌, arith}
 use Rattle.std.specs.List.{AllByRecursion}
 use Rattle.std.specs.Int.{byte_len, w64}
 use Rattle.std.proofs.lemmas.Bool.{leb-true, eqb-true, eqb-false, and_parts}
 use Rattle.std.proofs.lemmas.List.{length-take-le}
 use Rattle.tree_keys.specs.Bits.{bits_of}
 use Rattle.tree_keys.specs.BitsLaws.{length-bits_of}
-use Rattle.tree_keys.specs.Path.{path_in_word, is_prefix, key_bits, IsPath, IsNodePath, is_data}
+use Rattle.tree_keys.specs.Path.{path_in_word, is_prefix, key_bits, IsPath, IsNodePath}
 use Rattle.record_text.specs.declared.reader.TextFault.TheVariants.{Malformed}
 use Rattle.record_text.specs.declared.value.Pointer.{Pointer}
 use Rattle.record_text.specs.declared.value.Node.{Node}
@@ -22,6 +22,7 @@ use Rattle.log_codec.specs.declared.command.Command.TheVariants.{AddM, EvictM, A
 use Rattle.log_codec.specs.Command.{add_m_at, evict_m_at, add_b_at, evict_b_at, evict_bm_at, get_at, put_at, command_behind, command_at}
 use Rattle.log_codec.specs.Log.{log_behind, log_up_to, read_log}
 use Rattle.log_codec.proofs.StepLaws.{then_at, two_at, then_ok}
+use Rattle.log_codec.proofs.GrammarLaws.{tagged_at}
 use Rattle.soundness.specs.Typed.{IsTyped}
 
 -- ---- fields
@@ -187,114 +188,119 @@ value_at-kind longest path bytes value rest short e =
 
 -- ---- commands
 
--- whatever the reader makes of bytes is typed
-abbrev ReadsTyped : ℕ → (List ℕ → Parsed Command) → Type 0
-ReadsTyped longest read =
-    (bytes : List ℕ) (command : Command) (rest : List ℕ) → read bytes ≡ Ok (command, rest) → IsTyped longest command
+-- whatever a reader makes of bytes is of a kind
+abbrev pub ReadsTyped : {C : Type 0} → (C → Type 0) → (List ℕ → Parsed C) → Type 0
+ReadsTyped {C} Is read = (bytes : List ℕ) (command : C) (rest : List ℕ) → read bytes ≡ Ok (command, rest) → Is command
 
-typed_done : (longest : ℕ) (command : Command) → IsTyped longest command
-    → ReadsTyped longest (λ bytes. Ok (command, bytes))
-typed_done longest command typed bytes made rest e =
-    subst (λ (x : Command × List ℕ). IsTyped longest x.0) (Ok-is (command, bytes) (made, rest) e) typed
+pub typed_done : {C : Type 0} (Is : C → Type 0) (command : C) → Is command → ReadsTyped Is (λ bytes. Ok (command, bytes))
+typed_done Is command typed bytes made rest e =
+    subst (λ (x : _ × List ℕ). Is x.0) (Ok-is (command, bytes) (made, rest) e) typed
 
 -- one reader after another
-typed_then : {A : Type 0} (longest : ℕ) (first : List ℕ → Parsed A) (second : A → List ℕ → Parsed Command)
-    → ((bytes : List ℕ) (a : A) (left : List ℕ) → first bytes ≡ Ok (a, left) → ReadsTyped longest (second a))
-    → ReadsTyped longest (λ bytes. then_at (first bytes) second)
-typed_then longest first second next bytes command rest e =
+pub typed_then : {A C : Type 0} (Is : C → Type 0) (first : List ℕ → Parsed A) (second : A → List ℕ → Parsed C)
+    → ((bytes : List ℕ) (a : A) (left : List ℕ) → first bytes ≡ Ok (a, left) → ReadsTyped Is (second a))
+    → ReadsTyped Is (λ bytes. then_at (first bytes) second)
+typed_then Is first second next bytes command rest e =
     let t = then_ok (first bytes) second command rest e in
     next bytes t.0 t.1 t.2 t.1 command rest t.3
 
 -- a path, and a value of it
-typed_of : (longest : ℕ) (second : List Bool → Value → List ℕ → Parsed Command)
-    → ((path : List Bool) (value : Value) → IsOf longest path value → ReadsTyped longest (second path value))
-    → ReadsTyped longest (λ bytes. then_at (path_at bytes) (λ path left.
+pub typed_of : {C : Type 0} (Is : C → Type 0) (longest : ℕ) (second : List Bool → Value → List ℕ → Parsed C)
+    → ((path : List Bool) (value : Value) → IsOf longest path value → ReadsTyped Is (second path value))
+    → ReadsTyped Is (λ bytes. then_at (path_at bytes) (λ path left.
     then_at (value_at longest path left) (second path)))
-typed_of longest second next =
-    typed_then longest path_at (λ path left. then_at (value_at longest path left) (second path))
+typed_of Is longest second next =
+    typed_then Is path_at (λ path left. then_at (value_at longest path left) (second path))
     (λ bytes path left e.
-    typed_then longest (value_at longest path) (second path) (λ more value rest is.
+    typed_then Is (value_at longest path) (second path) (λ more value rest is.
     next path value (value_at-kind longest path more value rest (path_at-short bytes path left e) is)))
 
-typed_if : (longest : ℕ) (test : Bool) (first second : List ℕ → Parsed Command)
-    → ReadsTyped longest first → ReadsTyped longest second
-    → ReadsTyped longest (λ bytes. cond test (first bytes) (second bytes))
-typed_if longest true first second one two = one
-typed_if longest false first second one two = two
+pub typed_if : {C : Type 0} (Is : C → Type 0) (test : Bool) (first second : List ℕ → Parsed C)
+    → ReadsTyped Is first → ReadsTyped Is second
+    → ReadsTyped Is (λ bytes. cond test (first bytes) (second bytes))
+typed_if Is true first second one two = one
+typed_if Is false first second one two = two
 
-add_m_typed : (longest : ℕ) → ReadsTyped longest (add_m_at longest)
+-- a tag, and what is read behind it
+pub typed_tagged : {C : Type 0} (Is : C → Type 0) (behind : ℕ → List ℕ → Parsed C)
+    → ((tag : ℕ) → ReadsTyped Is (behind tag)) → ReadsTyped Is (λ bytes. tagged_at behind bytes)
+unfolding byte_at
+typed_tagged Is behind typed =
+    typed_then Is (λ bytes. field 1 (λ run. Some (first_byte run)) bytes) behind (λ bytes tag left e. typed tag)
+
+-- ---- commands that name paths
+
+add_m_typed : (longest : ℕ) → ReadsTyped (IsTyped longest) (add_m_at longest)
 add_m_typed longest =
-    typed_of longest
+    typed_of (IsTyped longest) longest
     (λ path value left. then_at (path_at left) (λ parent rest. Ok (AddM path value parent, rest)))
     (λ path value kind.
-    typed_then longest path_at (λ parent rest. Ok (AddM path value parent, rest)) (λ bytes parent left e.
-    typed_done longest (AddM path value parent) kind))
+    typed_then (IsTyped longest) path_at (λ parent rest. Ok (AddM path value parent, rest)) (λ bytes parent left e.
+    typed_done (IsTyped longest) (AddM path value parent) kind))
 
-evict_m_typed : (longest : ℕ) → ReadsTyped longest evict_m_at
+evict_m_typed : (longest : ℕ) → ReadsTyped (IsTyped longest) evict_m_at
 evict_m_typed longest =
-    typed_then longest path_at
+    typed_then (IsTyped longest) path_at
     (λ path left. then_at (path_at left) (λ parent rest. Ok (EvictM path parent, rest))) (λ bytes path left e.
-    typed_then longest path_at (λ parent rest. Ok (EvictM path parent, rest)) (λ bytes parent left e.
-    typed_done longest (EvictM path parent) tt))
+    typed_then (IsTyped longest) path_at (λ parent rest. Ok (EvictM path parent, rest)) (λ bytes parent left e.
+    typed_done (IsTyped longest) (EvictM path parent) tt))
 
-add_b_typed : (longest : ℕ) → ReadsTyped longest (add_b_at longest)
+add_b_typed : (longest : ℕ) → ReadsTyped (IsTyped longest) (add_b_at longest)
 add_b_typed longest =
-    typed_of longest (λ path value left. two_at (AddB path value) stamp_at (λ stamp. u16_at) left)
+    typed_of (IsTyped longest) longest (λ path value left. two_at (AddB path value) stamp_at (λ stamp. u16_at) left)
     (λ path value kind.
-    typed_then longest stamp_at
+    typed_then (IsTyped longest) stamp_at
     (λ stamp left. then_at (u16_at left) (λ verifier rest. Ok (AddB path value stamp verifier, rest)))
     (λ bytes stamp left e.
-    typed_then longest u16_at (λ verifier rest. Ok (AddB path value stamp verifier, rest)) (λ bytes verifier left e.
-    typed_done longest (AddB path value stamp verifier) kind)))
+    typed_then (IsTyped longest) u16_at (λ verifier rest. Ok (AddB path value stamp verifier, rest)) (λ bytes verifier left e.
+    typed_done (IsTyped longest) (AddB path value stamp verifier) kind)))
 
-evict_b_typed : (longest : ℕ) → ReadsTyped longest evict_b_at
+evict_b_typed : (longest : ℕ) → ReadsTyped (IsTyped longest) evict_b_at
 evict_b_typed longest =
-    typed_then longest path_at
+    typed_then (IsTyped longest) path_at
     (λ path left. then_at (stamp_at left) (λ stamp rest. Ok (EvictB path stamp, rest))) (λ bytes path left e.
-    typed_then longest stamp_at (λ stamp rest. Ok (EvictB path stamp, rest)) (λ bytes stamp left e.
-    typed_done longest (EvictB path stamp) tt))
+    typed_then (IsTyped longest) stamp_at (λ stamp rest. Ok (EvictB path stamp, rest)) (λ bytes stamp left e.
+    typed_done (IsTyped longest) (EvictB path stamp) tt))
 
-evict_bm_typed : (longest : ℕ) → ReadsTyped longest evict_bm_at
+evict_bm_typed : (longest : ℕ) → ReadsTyped (IsTyped longest) evict_bm_at
 evict_bm_typed longest =
-    typed_then longest path_at
+    typed_then (IsTyped longest) path_at
     (λ path left. two_at (EvictBM path) path_at (λ parent. stamp_at) left) (λ bytes path left e.
-    typed_then longest path_at
+    typed_then (IsTyped longest) path_at
     (λ parent left. then_at (stamp_at left) (λ stamp rest. Ok (EvictBM path parent stamp, rest)))
     (λ bytes parent left e.
-    typed_then longest stamp_at (λ stamp rest. Ok (EvictBM path parent stamp, rest)) (λ bytes stamp left e.
-    typed_done longest (EvictBM path parent stamp) tt)))
+    typed_then (IsTyped longest) stamp_at (λ stamp rest. Ok (EvictBM path parent stamp, rest)) (λ bytes stamp left e.
+    typed_done (IsTyped longest) (EvictBM path parent stamp) tt)))
 
-get_typed : (longest : ℕ) → ReadsTyped longest (get_at longest)
+get_typed : (longest : ℕ) → ReadsTyped (IsTyped longest) (get_at longest)
 get_typed longest =
-    typed_of longest (λ path value rest. Ok (Get path value, rest))
-    (λ path value kind. typed_done longest (Get path value) tt)
+    typed_of (IsTyped longest) longest (λ path value rest. Ok (Get path value, rest))
+    (λ path value kind. typed_done (IsTyped longest) (Get path value) tt)
 
-put_typed : (longest : ℕ) → ReadsTyped longest (put_at longest)
+put_typed : (longest : ℕ) → ReadsTyped (IsTyped longest) (put_at longest)
 put_typed longest =
-    typed_of longest (λ path value rest. Ok (Put path value, rest))
-    (λ path value kind. typed_done longest (Put path value) kind)
+    typed_of (IsTyped longest) longest (λ path value rest. Ok (Put path value, rest))
+    (λ path value kind. typed_done (IsTyped longest) (Put path value) kind)
 
-behind_typed : (longest : ℕ) (tag : ℕ) → ReadsTyped longest (command_behind longest tag)
+behind_typed : (longest : ℕ) (tag : ℕ) → ReadsTyped (IsTyped longest) (command_behind longest tag)
 behind_typed longest tag =
-    typed_if longest (tag == 1) (add_m_at longest) _ (add_m_typed longest)
-    (typed_if longest (tag == 2) evict_m_at _ (evict_m_typed longest)
-    (typed_if longest (tag == 3) (add_b_at longest) _ (add_b_typed longest)
-    (typed_if longest (tag == 4) evict_b_at _ (evict_b_typed longest)
-    (typed_if longest (tag == 5) evict_bm_at _ (evict_bm_typed longest)
-    (typed_if longest (tag == 6) (get_at longest) _ (get_typed longest)
-    (typed_if longest (tag == 7) (put_at longest) _ (put_typed longest)
-    (typed_if longest (tag == 8) (λ bytes. Ok (NextEpoch, bytes)) (λ bytes. Err Malformed)
-    (typed_done longest NextEpoch tt)
+    typed_if (IsTyped longest) (tag == 1) (add_m_at longest) _ (add_m_typed longest)
+    (typed_if (IsTyped longest) (tag == 2) evict_m_at _ (evict_m_typed longest)
+    (typed_if (IsTyped longest) (tag == 3) (add_b_at longest) _ (add_b_typed longest)
+    (typed_if (IsTyped longest) (tag == 4) evict_b_at _ (evict_b_typed longest)
+    (typed_if (IsTyped longest) (tag == 5) evict_bm_at _ (evict_bm_typed longest)
+    (typed_if (IsTyped longest) (tag == 6) (get_at longest) _ (get_typed longest)
+    (typed_if (IsTyped longest) (tag == 7) (put_at longest) _ (put_typed longest)
+    (typed_if (IsTyped longest) (tag == 8) (λ bytes. Ok (NextEpoch, bytes)) (λ bytes. Err Malformed)
+    (typed_done (IsTyped longest) NextEpoch tt)
     (λ bytes command rest e. absurd (cc)))))))))
 
 -- What is read as a command is typed.
 pub command_typed : (longest : ℕ) (bytes : List ℕ) (command : Command) (rest : List ℕ)
     → command_at longest bytes ≡ Ok (command, rest) → IsTyped longest command
-unfolding command_at byte_at
+unfolding command_at
 command_typed longest bytes command rest e =
-    let t = then_ok (field 1 (λ run. Some (first_byte run)) bytes) (λ tag left. command_behind longest tag left)
-    command rest e in
-    behind_typed longest t.0 t.1 command rest t.3
+    typed_tagged (IsTyped longest) (λ tag left. command_behind longest tag left) (behind_typed longest) bytes command rest e
 
 -- ---- logs
 

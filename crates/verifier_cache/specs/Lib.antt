@@ -1,6 +1,7 @@
 -- What the clauses on caches cite, in reading order.
 pub mod Entry
 pub mod Cache
+pub mod Slots
 pub mod LendsValue
 pub mod Order
 pub mod Index

@@ -2,6 +2,7 @@
 mod KeyLemmas
 pub mod BelowLaws
 mod CacheLemmas
+mod SlotLemmas
 pub mod BoundLaws
 pub mod InvertLaws
 pub mod TickLaws

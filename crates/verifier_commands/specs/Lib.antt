@@ -4,6 +4,7 @@ pub mod State
 pub mod Changes
 pub mod Change
 pub mod Transition
+pub mod SlotTransition
 pub mod Outcome
 pub mod Sums
 pub mod Machine

@@ -6,9 +6,7 @@ use Rattle.record_text.specs.declared.value.Value.TheVariants as values
 use Rattle.record_text.specs.declared.refusal.Refusal.{Refusal}
 use Rattle.verifier_commands.specs.declared.outcome.Outcome.{Outcome}
 use Rattle.verifier_commands.specs.declared.outcome.Outcome.TheVariants as outcomes
-use Rattle.verifier_commands.specs.declared.state.State.{State}
 use Rattle.verifier_commands.specs.Change.{Change, did_add_m, did_evict_m, did_add_b, did_evict_b, did_evict_bm, did_get, did_put, did_next_epoch}
-use Rattle.verifier_commands.specs.Transition.{Step}
 
 -- the data value that a value is
 abbrev pub blob_of : Value → Option (List ℕ)
@@ -26,7 +24,7 @@ outcome_of (did_get entry) = outcomes.Get (number_of entry.path) (blob_of entry.
 outcome_of (did_put before after) = outcomes.Put (number_of after.path) (blob_of after.value)
 outcome_of (did_next_epoch sealed) = outcomes.NextEpoch sealed
 
--- a step by what it hands up
-abbrev pub told : Step → Result (Outcome × State) Refusal
+-- a step by what it hands up, whatever the state
+abbrev pub told : {S : Type 0} → Result (Change × S) Refusal → Result (Outcome × S) Refusal
 told (Ok done) = Ok (outcome_of done.0, done.1)
 told (Err refusal) = Err refusal

@@ -126,7 +126,7 @@ impl State {
 }
 
 // Whether a record came in with a stamp.
-fn is_by_stamp(hold: Hold) -> bool
+pub(crate) fn is_by_stamp(hold: Hold) -> bool
     ensures value { result ≡ is_by_stamp hold }
 {
     match hold {

@@ -4,7 +4,8 @@
 //! order, over a state of cached entries and a clock. Beside it a verifier keeps sums of what it added and
 //! evicted in two epochs. The crate stands on `log_codec` for the commands, and on `merkle_records`,
 //! `verifier_cache`, `lamport_clocks` and `multiset_sum` for what they change. It has no laws of its own.
-//! Begin with `Verifier::step` in `verifier.rt`, beside `stepped` in `specs/Machine.antt`.
+//! Begin with `Verifier::step` in `verifier.rt`, beside `stepped` in `specs/Machine.antt`. Commands that name
+//! slots of the cache change a `SlotState`, as `slot_transition` in `specs/SlotTransition.antt` says.
 #![tactic(auto)]
 
 mod applying;
@@ -14,12 +15,17 @@ mod effect;
 mod merkle;
 mod outcome;
 mod records;
+mod slot_deferred;
+mod slot_merkle;
+mod slot_records;
+mod slot_state;
 mod state;
 mod sums;
 mod verifier;
 
 pub use effect::Effect;
 pub use outcome::Outcome;
+pub use slot_state::SlotState;
 pub use state::State;
 pub use sums::Sums;
 pub use verifier::Verifier;

@@ -73,7 +73,7 @@ fn write(cache: &mut Cache, path: &Path, hint: Hint, value: Value)
 }
 
 // The data value that a value is.
-fn blob_of(value: &Value) -> Blob
+pub(crate) fn blob_of(value: &Value) -> Blob
     ensures value { result ≡ blob_of value.now }
 {
     match value {

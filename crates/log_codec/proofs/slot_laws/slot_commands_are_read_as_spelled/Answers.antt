@@ -1,0 +1,12 @@
+use Rattle.record_text.specs.Longest.{longest_blob}
+use Rattle.log_codec.proofs.SlotCommandLaws.{slot_command_begins, slot_command_again}
+use Rattle.log_codec.proofs.LogLaws.{AreBytes-from_all}
+use Rattle.log_codec.proofs.slot_laws.slot_commands_are_read_as_spelled.Goals as goal
+
+pub returns : goal.returns
+returns c = record {
+  spelled = λ bytes command rest fits read.
+      let begins = slot_command_begins longest_blob bytes command rest (AreBytes-from_all bytes fits) read in
+      (begins.0.parts, begins.1);
+  read = slot_command_again longest_blob;
+}

@@ -1,0 +1,117 @@
+-- The commands of a log that names slots, and their one text: a tag and the fields.
+use Rattle.std.specs.Prelude.{ℕ, ◌==◌, ◌<◌, ◌^◌, List, [], ◌∷◌, ◌++◌, Ok, Err, if◌then◌else◌}
+use Rattle.std.specs.Int.{w16, to_be_bytes}
+use Rattle.record_text.specs.Value.{IsOf, IsBlob}
+use Rattle.record_text.specs.Element.{IsStamp}
+use Rattle.record_text.specs.Texts.{path_text, value_text, blob_text, stamp_text}
+use Rattle.record_text.specs.Fields.{Parsed, ◌>>=◌}
+use Rattle.record_text.specs.Reading.{byte_at, path_at, value_at, blob_at, stamp_at, u16_at}
+use Rattle.record_text.specs.declared.reader.TextFault.TheVariants.{Malformed}
+use Rattle.log_codec.specs.declared.slot_command.SlotCommand.{SlotCommand}
+use Rattle.log_codec.specs.declared.slot_command.SlotCommand.TheVariants.{AddM, EvictM, AddB, EvictB, EvictBM, Get, Put, NextEpoch}
+
+-- the number of a slot
+abbrev pub slot_text : ℕ → List ℕ
+slot_text slot = to_be_bytes w16 slot
+
+-- the tag of a command, and its fields
+abbrev pub slot_command_text : SlotCommand → List ℕ
+slot_command_text (AddM slot path value parent) = 1 ∷ slot_text slot ++ path_text path ++ value_text value ++ slot_text parent
+slot_command_text (EvictM slot parent) = 2 ∷ slot_text slot ++ slot_text parent
+slot_command_text (AddB slot path value stamp verifier) = 3 ∷ slot_text slot ++ path_text path ++ value_text value ++ stamp_text stamp ++ to_be_bytes w16 verifier
+slot_command_text (EvictB slot stamp) = 4 ∷ slot_text slot ++ stamp_text stamp
+slot_command_text (EvictBM slot parent stamp) = 5 ∷ slot_text slot ++ slot_text parent ++ stamp_text stamp
+slot_command_text (Get slot value) = 6 ∷ slot_text slot ++ blob_text value
+slot_command_text (Put slot value) = 7 ∷ slot_text slot ++ blob_text value
+slot_command_text NextEpoch = 8 ∷ []
+
+-- ---- the fields of each command, behind its tag
+
+-- a slot, a path, its value and the parent's slot
+abbrev pub add_m_at : ℕ → List ℕ → Parsed SlotCommand
+add_m_at longest bytes = do
+  slot ← u16_at bytes
+  path ← path_at slot.1
+  value ← value_at longest path.0 path.1
+  parent ← u16_at value.1
+  Ok (AddM slot.0 path.0 value.0 parent.0, parent.1)
+
+-- a slot and the parent's slot
+abbrev pub evict_m_at : List ℕ → Parsed SlotCommand
+evict_m_at bytes = do
+  slot ← u16_at bytes
+  parent ← u16_at slot.1
+  Ok (EvictM slot.0 parent.0, parent.1)
+
+-- a slot, a path, its value, the stamp of its evict, and the verifier that evicted it
+abbrev pub add_b_at : ℕ → List ℕ → Parsed SlotCommand
+add_b_at longest bytes = do
+  slot ← u16_at bytes
+  path ← path_at slot.1
+  value ← value_at longest path.0 path.1
+  stamp ← stamp_at value.1
+  verifier ← u16_at stamp.1
+  Ok (AddB slot.0 path.0 value.0 stamp.0 verifier.0, verifier.1)
+
+-- a slot and its stamp
+abbrev pub evict_b_at : List ℕ → Parsed SlotCommand
+evict_b_at bytes = do
+  slot ← u16_at bytes
+  stamp ← stamp_at slot.1
+  Ok (EvictB slot.0 stamp.0, stamp.1)
+
+-- a slot, the parent's slot and the stamp
+abbrev pub evict_bm_at : List ℕ → Parsed SlotCommand
+evict_bm_at bytes = do
+  slot ← u16_at bytes
+  parent ← u16_at slot.1
+  stamp ← stamp_at parent.1
+  Ok (EvictBM slot.0 parent.0 stamp.0, stamp.1)
+
+-- a slot and a data value
+abbrev pub get_at : ℕ → List ℕ → Parsed SlotCommand
+get_at longest bytes = do
+  slot ← u16_at bytes
+  value ← blob_at longest slot.1
+  Ok (Get slot.0 value.0, value.1)
+
+-- a slot and a data value
+abbrev pub put_at : ℕ → List ℕ → Parsed SlotCommand
+put_at longest bytes = do
+  slot ← u16_at bytes
+  value ← blob_at longest slot.1
+  Ok (Put slot.0 value.0, value.1)
+
+-- behind a tag: the fields of its command; any other tag is malformed
+abbrev pub slot_command_behind : ℕ → ℕ → List ℕ → Parsed SlotCommand
+slot_command_behind longest tag bytes =
+    if tag == 1 then add_m_at longest bytes
+    else if tag == 2 then evict_m_at bytes
+    else if tag == 3 then add_b_at longest bytes
+    else if tag == 4 then evict_b_at bytes
+    else if tag == 5 then evict_bm_at bytes
+    else if tag == 6 then get_at longest bytes
+    else if tag == 7 then put_at longest bytes
+    else if tag == 8 then Ok (NextEpoch, bytes)
+    else Err Malformed
+
+-- the command that the bytes begin with, and the bytes behind it; or the first fault
+unfoldable pub slot_command_at : ℕ → List ℕ → Parsed SlotCommand
+slot_command_at longest bytes = do
+  tag ← byte_at bytes
+  slot_command_behind longest tag.0 tag.1
+
+-- a slot's number has 16 bits
+abbrev pub IsSlot : ℕ → Type 0
+IsSlot slot = slot < 2 ^ 16
+
+-- what has a text: each value is of its path's kind, and each path, slot, stamp and number is in its range
+abbrev pub IsSlotCommand : ℕ → SlotCommand → Type 0
+IsSlotCommand longest (AddM slot path value parent) = IsSlot slot × IsOf longest path value × IsSlot parent
+IsSlotCommand longest (EvictM slot parent) = IsSlot slot × IsSlot parent
+IsSlotCommand longest (AddB slot path value stamp verifier) = IsSlot slot × IsOf longest path value × IsStamp stamp × (verifier < 2 ^ 16)
+IsSlotCommand longest (EvictB slot stamp) = IsSlot slot × IsStamp stamp
+IsSlotCommand longest (EvictBM slot parent stamp) = IsSlot slot × IsSlot parent × IsStamp stamp
+IsSlotCommand longest (Get slot value) = IsSlot slot × IsBlob longest value
+IsSlotCommand longest (Put slot value) = IsSlot slot × IsBlob longest value
+IsSlotCommand longest NextEpoch = Unit {0}

@@ -1,0 +1,80 @@
+//! The cache of a verifier whose commands name slots.
+ghost use Rattle.std.specs.Prelude.{◌≡◌, Some, None, IsSome, IsNone, IsTrue, IfOk};
+ghost use Rattle.std.specs.Option.{option_copied};
+ghost use Rattle.verifier_cache.specs.Slots.{is_slot, entry_at, with_slot, empty_slots};
+
+use crate::entry::Entry;
+use base_words::Memory;
+use std::alloc::Global;
+use std::marker::Model;
+
+/// So many slots, each empty or with one entry. Nothing is searched for, and a path may stand in two of them.
+#[derive(Debug, Drop)]
+pub struct SlotCache {
+    slots: Vec<Option<Entry>>,
+}
+
+impl Model for SlotCache {
+    ghost use Rattle.verifier_cache.specs.Slots.{Slots};
+
+    ghost Value = { Slots };
+
+    ghost view = { λ c. c.slots.items };
+}
+
+impl SlotCache {
+    /// So many empty slots. It takes all of its memory here.
+    pub fn new(alloc: Global, count: u32) -> Result<Self, Memory>
+        ensures empty { IfOk result (λ cache. cache ≡ empty_slots count) }
+    {
+        let mut slots = Vec::with_capacity(alloc, count as usize)?;
+        for _ in 0..count {
+            slots.push(None)?;
+        }
+        Ok(SlotCache { slots })
+    }
+
+    /// Whether there is a slot of this number.
+    pub fn is_slot(&self, slot: u16) -> bool
+        ensures value { result ≡ is_slot self.now slot }
+    {
+        usize::from(slot) < self.slots.len()
+    }
+
+    /// The entry in a slot, if there is such a slot and it isn't empty.
+    pub fn at(&self, slot: u16) -> Option<&Entry>
+        ensures value { option_copied result ≡ entry_at self.now slot }
+    {
+        match self.slots.get(usize::from(slot)) {
+            Some(Some(entry)) => Some(entry),
+            _ => None,
+        }
+    }
+
+    /// Puts an entry into an empty slot.
+    pub fn put_at(&mut self, slot: u16, entry: Entry)
+        requires slot { IsTrue (is_slot self.old slot) }
+        requires empty { IsNone (entry_at self.old slot) }
+        ensures slots { self.new ≡ with_slot self.old slot (Some entry) }
+    {
+        let place = usize::from(slot);
+        self.slots[place] = Some(entry);
+    }
+
+    /// Puts an entry in the place of the one in a slot.
+    pub fn replace_at(&mut self, slot: u16, entry: Entry)
+        requires there { IsSome (entry_at self.old slot) }
+        ensures slots { self.new ≡ with_slot self.old slot (Some entry) }
+    {
+        self.slots[usize::from(slot)] = Some(entry);
+    }
+
+    /// Takes the entry out of a slot, which is empty then.
+    pub fn take_at(&mut self, slot: u16) -> Entry
+        requires there { IsSome (entry_at self.old slot) }
+        ensures entry { entry_at self.old slot ≡ Some result }
+        ensures slots { self.new ≡ with_slot self.old slot None }
+    {
+        self.slots[usize::from(slot)].take().unwrap()
+    }
+}

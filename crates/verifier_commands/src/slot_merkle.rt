@@ -1,0 +1,75 @@
+//! The commands that come and go by digests, by slots.
+ghost use Rattle.std.specs.Prelude.{IfOk};
+ghost use Rattle.base_words.specs.Follows.{Follows};
+ghost use Rattle.verifier_commands.specs.SlotTransition.{add_m, evict_m};
+ghost use Rattle.verifier_commands.specs.Outcome.{told};
+ghost use Rattle.verifier_commands.specs.Machine.{ClockMoves};
+
+use crate::changes::{add_under, evict_under};
+use crate::outcome::Outcome;
+use crate::slot_state::SlotState;
+use crate::state::is_root;
+use record_hash::Digests;
+use record_text::{Refusal, Value};
+use tree_keys::Path;
+
+impl SlotState {
+    /// Adds a record into a slot, under its parent, whose digest vouches for it.
+    #[tactic(auto, using(crate::proofs::SlotLemmas::slot_view))]
+    pub(crate) fn add_m<D: Digests>(
+        &mut self,
+        d: &D,
+        slot: u16,
+        path: &Path,
+        value: &Value,
+        parent: u16,
+    ) -> Result<Outcome, Refusal>
+        ensures follows { Follows result self.old self.new
+            (told (add_m (D.functions d.now).digest self.old slot path.now value.now parent)) }
+        ensures clock { IfOk result (ClockMoves self.old.clock self.new.clock) }
+    {
+        if is_root(path) {
+            return Err(Refusal::IsRoot);
+        }
+        if !self.slots.is_slot(slot) {
+            return Err(Refusal::CacheFull);
+        }
+        if self.slots.at(slot).is_some() {
+            return Err(Refusal::SlotTaken);
+        }
+        let Some(holder) = self.slots.at(parent) else {
+            return Err(Refusal::SlotEmpty);
+        };
+        let family = add_under(d, holder, path, value)?;
+        self.slots.replace_at(parent, family.parent);
+        self.slots.put_at(slot, family.child);
+        Ok(Outcome::AddM)
+    }
+
+    /// Evicts the record in a slot into its parent, which keeps its digest.
+    #[tactic(auto, using(crate::proofs::SlotLemmas::slot_view))]
+    pub(crate) fn evict_m<D: Digests>(
+        &mut self,
+        d: &D,
+        slot: u16,
+        parent: u16,
+    ) -> Result<Outcome, Refusal>
+        ensures follows { Follows result self.old self.new
+            (told (evict_m (D.functions d.now).digest self.old slot parent)) }
+        ensures clock { IfOk result (ClockMoves self.old.clock self.new.clock) }
+    {
+        let Some(child) = self.slots.at(slot) else {
+            return Err(Refusal::SlotEmpty);
+        };
+        if is_root(&child.path) {
+            return Err(Refusal::IsRoot);
+        }
+        let Some(holder) = self.slots.at(parent) else {
+            return Err(Refusal::SlotEmpty);
+        };
+        let after = evict_under(d, holder, child)?;
+        self.slots.replace_at(parent, after);
+        let _ = self.slots.take_at(slot);
+        Ok(Outcome::EvictM)
+    }
+}

@@ -1,0 +1,86 @@
+//! The commands on data values, and the step to the next epoch, by slots.
+ghost use Rattle.std.specs.Prelude.{◌≡◌, IfOk};
+ghost use Rattle.base_words.specs.Follows.{Follows};
+ghost use Rattle.record_text.specs.declared.value.Value.TheVariants as values;
+ghost use Rattle.record_text.specs.Same.{same_value};
+ghost use Rattle.verifier_cache.specs.Entry.{with_value};
+ghost use Rattle.verifier_commands.specs.SlotTransition.{get, put, next_epoch};
+ghost use Rattle.verifier_commands.specs.Outcome.{told};
+ghost use Rattle.verifier_commands.specs.Machine.{ClockMoves};
+
+use crate::outcome::Outcome;
+use crate::records::blob_of;
+use crate::slot_state::SlotState;
+use crate::state::clock_refusal;
+use record_text::{Blob, Refusal, Value};
+use verifier_cache::Entry;
+
+impl SlotState {
+    /// A get: the value that is read.
+    #[tactic(auto, using(crate::proofs::KeyLemmas::key_view))]
+    pub(crate) fn get(&mut self, slot: u16, value: &Blob) -> Result<Outcome, Refusal>
+        ensures follows { Follows result self.old self.new (told (get self.old slot value.now)) }
+        ensures clock { IfOk result (ClockMoves self.old.clock self.new.clock) }
+    {
+        let Some(entry) = self.slots.at(slot) else {
+            return Err(Refusal::SlotEmpty);
+        };
+        let Some(key) = entry.path.key() else {
+            return Err(Refusal::NotData);
+        };
+        if !is_blob(&entry.value, value) {
+            return Err(Refusal::WrongValue);
+        }
+        Ok(Outcome::Get(key, blob_of(&entry.value)))
+    }
+
+    /// A put: the value that is written.
+    #[tactic(auto, using(crate::proofs::KeyLemmas::key_view))]
+    pub(crate) fn put(&mut self, slot: u16, value: &Blob) -> Result<Outcome, Refusal>
+        ensures follows { Follows result self.old self.new (told (put self.old slot value.now)) }
+        ensures clock { IfOk result (ClockMoves self.old.clock self.new.clock) }
+    {
+        let Some(entry) = self.slots.at(slot) else {
+            return Err(Refusal::SlotEmpty);
+        };
+        let Some(key) = entry.path.key() else {
+            return Err(Refusal::NotData);
+        };
+        let after = written(entry, value);
+        self.slots.replace_at(slot, after);
+        Ok(Outcome::Put(key, value.copy()))
+    }
+
+    /// The step to the next epoch.
+    pub(crate) fn next_epoch(&mut self) -> Result<Outcome, Refusal>
+        ensures follows { Follows result self.old self.new (told (next_epoch self.old)) }
+        ensures clock { IfOk result (ClockMoves self.old.clock self.new.clock) }
+    {
+        match self.clock.next_epoch() {
+            Ok(sealed) => Ok(Outcome::NextEpoch(sealed)),
+            Err(fault) => Err(clock_refusal(fault)),
+        }
+    }
+}
+
+// Whether a value is this data value.
+fn is_blob(value: &Value, blob: &Blob) -> bool
+    ensures value { result ≡ same_value value.now (values.Blob blob.now) }
+{
+    match value {
+        Value::Blob(own) => own.is_same(blob),
+        Value::Node(_) => false,
+    }
+}
+
+// The entry with this data value.
+fn written(entry: &Entry, value: &Blob) -> Entry
+    ensures value { result ≡ with_value entry.now (values.Blob value.now) }
+{
+    Entry {
+        path: entry.path,
+        value: Value::Blob(value.copy()),
+        hold: entry.hold,
+        kids: entry.kids,
+    }
+}

@@ -1,0 +1,158 @@
+//! Commands that name slots, written out by hand from the table of tags and fields.
+ghost use Rattle.std.specs.Prelude.{◌≡◌, ◌≤◌};
+
+use crate::rows::same;
+use lamport_clocks::Header;
+use log_codec::{Decoded, SlotCommand, read_slot_command, write_slot_command};
+use record_hash::ToyDigests;
+use std::alloc::Global;
+use std::process::Abort;
+use verifier_commands::SlotState;
+
+// One verifier of four slots, from epoch 0 on.
+fn header() -> Header
+    ensures some { 1 ≤ result.cache }
+{
+    Header::by_path(1, 4, 0, 16_777_215)
+}
+
+// A row is a command's digits, a bar, and its answer: `ok`, or the name of the refusal.
+fn digits_of<'a>(rt: &impl Abort, row: &'a str) -> &'a str {
+    row.split('|').next().expect(rt, "a row of nothing")
+}
+
+fn answer_of<'a>(rt: &impl Abort, row: &'a str) -> &'a str {
+    row.split('|')
+        .nth(1)
+        .expect(rt, "a row with no answer")
+        .trim()
+}
+
+// The bytes of these digits.
+fn bytes_of(rt: &impl Abort, alloc: Global, digits: &str) -> Vec<u8> {
+    let mut bytes = Vec::new(alloc);
+    for word in digits.split_whitespace() {
+        for byte in hex::decode(alloc, word).expect(rt, word) {
+            bytes.push(byte).expect(rt, "memory");
+        }
+    }
+    bytes
+}
+
+// The command whose text the digits of a row are: it is written so, and read from no front.
+fn command_of(rt: &impl Abort, alloc: Global, row: &str) -> SlotCommand {
+    let text = bytes_of(rt, alloc, digits_of(rt, row));
+    for cut in 0..text.len() {
+        same(
+            rt,
+            row,
+            &read_slot_command(&text[..cut]),
+            &Decoded::Truncated,
+        );
+    }
+    let Decoded::Read(command, len) = read_slot_command(&text) else {
+        panic!(rt; "a row that is no command");
+    };
+    same(rt, row, &len, &text.len());
+    let written = write_slot_command(&command);
+    same(rt, row, &written.as_slice(), &text.as_slice());
+    command
+}
+
+// Each command of a table has its answer, one after another.
+fn assert_answers(rt: &impl Abort, alloc: Global, table: &str) {
+    let header = header();
+    let mut state = SlotState::new(alloc, 0, &header).expect(rt, "memory");
+    for row in table.trim().lines() {
+        let command = command_of(rt, alloc, row);
+        let answer = match state.apply(&ToyDigests, 0, &header, &command) {
+            Ok(_) => "ok",
+            Err(refusal) => refusal.name(),
+        };
+        same(rt, row, &answer, &answer_of(rt, row));
+    }
+}
+
+// A record is added, put, evicted, added again and got, and the next epoch begins twice. Between them stand commands
+// that are refused, each by a test whose next would refuse it too, and that change nothing.
+const PUT_AND_GOT: &str = "
+01 0009 000000000000000000 00 00 0009 | IsRoot
+01 0004 400000000000000005 00 0009 | CacheFull
+01 0000 400000000000000005 00 0009 | SlotTaken
+01 0001 400000000000000005 00 0002 | SlotEmpty
+01 0001 400000000000000005 00 0009 | SlotEmpty
+02 0001 0000 | SlotEmpty
+04 0001 0000000000000001 | SlotEmpty
+05 0009 0000 0000000000000001 | SlotEmpty
+06 0001 01026162 | SlotEmpty
+07 0001 01026162 | SlotEmpty
+06 0000 00 | NotData
+07 0000 00 | NotData
+01 0001 400000000000000005 00 0000 | ok
+07 0001 01026162 | ok
+06 0001 00 | WrongValue
+02 0000 0001 | IsRoot
+04 0000 0000000000000001 | IsRoot
+05 0000 0001 0000000000000001 | IsRoot
+02 0001 0002 | SlotEmpty
+02 0001 0001 | NotBelow
+04 0001 0000000000000000 | WrongHold
+02 0001 0000 | ok
+01 0000 400000000000000005 01026162 0000 | SlotTaken
+01 0001 400000000000000005 01026162 0000 | ok
+06 0002 01026162 | SlotEmpty
+06 0001 01026162 | ok
+08 | ok
+08 | ok
+";
+
+// A path under its parent is added to one slot alone, by its digest.
+const ADDED_TWICE: &str = "
+01 0001 400000000000000005 00 0000 | ok
+01 0002 400000000000000005 00 0000 | HasChild
+01 0001 400000000000000005 00 0000 | SlotTaken
+";
+
+// What was evicted with a stamp comes back to any empty slot, and a path may stand in two: the sums tell.
+const BACK_TWICE: &str = "
+01 0001 400000000000000005 00 0000 | ok
+05 0001 0000 0000000000000001 | ok
+03 0001 000000000000000000 00 00 0000000000000001 0000 | IsRoot
+03 0004 400000000000000005 00 0000000000000001 0001 | CacheFull
+03 0000 400000000000000005 00 0000000000000001 0001 | SlotTaken
+03 0001 400000000000000005 00 0000000100000001 0001 | NoSuchVerifier
+03 0001 400000000000000005 00 0000000100000001 0000 | BadEpoch
+03 0001 400000000000000005 00 0000000000000001 0000 | ok
+03 0002 400000000000000005 00 0000000000000001 0000 | ok
+02 0001 0000 | ok
+02 0002 0000 | WrongHold
+04 0002 0000000000000003 | StampNotLater
+04 0002 0000000000000004 | ok
+08 | ok
+08 | ok
+";
+
+#[test]
+fn commands_answer_by_their_slots(rt: HostRuntime) {
+    assert_answers(&rt, rt.alloc(), PUT_AND_GOT);
+    assert_answers(&rt, rt.alloc(), ADDED_TWICE);
+    assert_answers(&rt, rt.alloc(), BACK_TWICE);
+}
+
+// Bytes that no command begins with.
+const MALFORMED: &str = "
+00
+09
+01 0001 41 0000000000000000
+03 0001 01 0000000000000000 00 03
+06 0001 02
+07 ffff 01 41
+";
+
+#[test]
+fn fields_of_slot_commands_are_malformed_where_they_stand(rt: HostRuntime) {
+    for row in MALFORMED.trim().lines() {
+        let text = bytes_of(&rt, rt.alloc(), row);
+        same(&rt, row, &read_slot_command(&text), &Decoded::Malformed);
+    }
+}
