@@ -15,7 +15,6 @@ use Rattle.report_text.specs.Status.{last_line}
 use Rattle.fv_outside.specs.declared.failure.Failure.TheVariants as failures
 use Rattle.bundle_report.specs.Report.{told_by}
 use Rattle.script_text.specs.declared.task.Task.{Task}
-use Rattle.log_codec.specs.declared.command.Command.{Command}
 use Rattle.host_world.specs.declared.fault.ClockEnd.{ClockEnd}
 use Rattle.host_world.specs.declared.settings.Settings.{Settings}
 use Rattle.fv_outside.specs.declared.failure.Failure.{Failure}

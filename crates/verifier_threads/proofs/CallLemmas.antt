@@ -1,5 +1,5 @@
 -- A runner between two calls, and what a call leaves.
-use Rattle.std.proofs.Common.{◌≡◌, Bool, false, ℕ, suc, ◌<◌, ◌-◌, List, [], length, map, get_or, Option, Result, Ok, Err, IfOk, inl, inr, refl, sym, ◌∙◌, ap, subst, arith}
+use Rattle.std.proofs.Common.{◌≡◌, Bool, false, ℕ, suc, ◌<◌, List, [], length, map, get_or, Option, Result, Ok, Err, IfOk, inl, inr, refl, sym, ◌∙◌, ap, subst, arith}
 use Rattle.std.specs.List.{AllByRecursion}
 use Rattle.fv_outside.specs.Faults.{Rose}
 use Rattle.record_hash.specs.Functions.{DigestFunctions}
@@ -19,7 +19,7 @@ use Rattle.verifier_threads.specs.declared.runner.Runner.{Runner}
 use Rattle.verifier_threads.specs.declared.runner.State.{State}
 use Rattle.verifier_threads.specs.declared.world_run.WorldRun.{WorldRun}
 use Rattle.verifier_threads.specs.Serving.{Outputs, IsCutOff, IsCutInRound}
-use Rattle.verifier_threads.specs.Running.{RunsBehind, IsUnderWayBehind, IsUnderWayWhole, IsAtPhase, IsAtClose, IsAtEnd}
+use Rattle.verifier_threads.specs.Running.{IsUnderWayBehind, IsUnderWayWhole, IsAtPhase, IsAtClose, IsAtEnd}
 use Rattle.verifier_threads.specs.Runners.{StandsBefore, StandsUnwritten, StandsFor, StateStands, Stands, IsRunOf}
 use Rattle.verifier_threads.proofs.EndingLemmas.{turns-now, runs-workers}
 use Rattle.verifier_threads.proofs.CutLemmas.{cut-as, cut_round-as}

@@ -7,13 +7,12 @@ use Rattle.record_hash.specs.Functions.{DigestFunctions}
 use Rattle.record_text.specs.declared.request.Request.{Request}
 use Rattle.lamport_clocks.specs.declared.header.Header.{Header}
 use Rattle.lamport_clocks.specs.Header.{IsHeader}
-use Rattle.log_codec.specs.declared.command.Command.{Command}
 use Rattle.bundle_frames.specs.Bundle.{header_text}
 use Rattle.bundle_report.specs.Logs.{empty_logs}
 use Rattle.bundle_report.specs.Report.{told_by}
 use Rattle.bundle_report.specs.Answer.{check_answer}
 use Rattle.host_core.specs.Host.{Host}
-use Rattle.host_core.specs.World.{Worker, World, logs_of, set_up}
+use Rattle.host_core.specs.World.{World, logs_of, set_up}
 use Rattle.host_shard.specs.Content.{Content}
 use Rattle.script_text.specs.declared.task.Task.{Task}
 use Rattle.host_world.specs.declared.fault.ClockEnd.{ClockEnd}
@@ -21,7 +20,7 @@ use Rattle.host_world.specs.declared.settings.Settings.{Settings}
 use Rattle.host_world.specs.Settings.{IsSettings}
 use Rattle.host_world.specs.ShippedHost.{shipped_host}
 use Rattle.host_world.specs.Shown.{shown_world, digests_of, requests_of}
-use Rattle.host_world.specs.Behind.{before_each, with_logs}
+use Rattle.host_world.specs.Behind.{with_logs}
 use Rattle.host_serving.proofs.LeadingLaws.{leads-none}
 use Rattle.host_serving.proofs.FormLaws.{run-none}
 use Rattle.host_rounds.specs.Round.{logs_with, round_text}

@@ -3,7 +3,6 @@ use Rattle.std.proofs.Common.{◌≡◌, Bool, ℕ, zero, suc, ◌<◌, List, []
 use Rattle.fv_outside.specs.Written.{Grows, GrowsByFront}
 use Rattle.record_hash.specs.Functions.{DigestFunctions}
 use Rattle.lamport_clocks.specs.declared.header.Header.{Header}
-use Rattle.log_codec.specs.declared.command.Command.{Command}
 use Rattle.report_text.specs.Status.{last_line}
 use Rattle.bundle_report.specs.Logs.{empty_logs}
 use Rattle.bundle_report.specs.Report.{EpochText, told_by}

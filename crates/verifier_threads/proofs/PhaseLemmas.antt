@@ -1,8 +1,8 @@
 -- Where a phase and a close leave a run.
-use Rattle.std.proofs.Common.{◌≡◌, ◌⊎◌, inl, inr, ◌↔◌, ℕ, zero, suc, ◌+◌, ◌<◌, ◌≤◌, Bool, true, false, List, [], ◌∷◌, length, map, get_or, replicate, Option, Some, None, IfSome, refl, sym, ◌∙◌, ap, subst, arith}
+use Rattle.std.proofs.Common.{◌≡◌, ◌⊎◌, inl, inr, ◌↔◌, ℕ, suc, ◌+◌, ◌<◌, ◌≤◌, Bool, true, false, length, Option, Some, None, IfSome, refl, sym, ◌∙◌, ap, subst, arith}
 use Rattle.std.proofs.lemmas.Bool.{false≢true, cases_lt}
 use Rattle.host_core.specs.Host.{Host}
-use Rattle.host_core.specs.World.{Worker, World, fresh, worker_at}
+use Rattle.host_core.specs.World.{World, fresh, worker_at}
 use Rattle.host_core.specs.WorldEvent.{IsLast}
 use Rattle.host_world.specs.declared.fault.ClockEnd.{ClockEnd}
 use Rattle.host_serving.specs.Leading.{first_of, CanDoNoMore}

@@ -4,7 +4,6 @@ use Rattle.fv_outside.specs.Written.{Grows, GrowsByFront}
 use Rattle.record_hash.specs.Functions.{DigestFunctions}
 use Rattle.record_text.specs.declared.operation.Operation.{Operation}
 use Rattle.lamport_clocks.specs.declared.header.Header.{Header}
-use Rattle.log_codec.specs.declared.command.Command.{Command}
 use Rattle.report_text.specs.declared.status.Status.{Status}
 use Rattle.load_summary.specs.Tallies.{tallies_of}
 use Rattle.load_summary.specs.Counting.{Counted}

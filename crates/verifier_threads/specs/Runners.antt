@@ -41,8 +41,8 @@ phases_left runner = left_by runner.next runner.state
 
 -- ---- a run of a world
 
--- A run before this call, with receipts or without: before a phase as many rounds are handed out as closes are done and as many more
--- as phases are, and before its close that of the phase too; at the end no more can be done.
+-- A run before this call, with receipts or without. Before a phase a round is handed out for each phase and each close before it, and
+-- before its close one more, that of the phase; at the end no more can be done.
 abbrev pub StandsBefore : NextCall → Bool → {D : Type 0} → (D → DigestFunctions) → WorldRun D → Outputs → Type 0
 StandsBefore calls.Phase receipts functions run outputs =
     RunsBehind receipts functions run (shown_world run.world).phase (shown_world run.world).phase outputs

@@ -1,9 +1,8 @@
 -- How a run stands between two calls: its world, the vault, what the verifiers read, and what is written.
-use Rattle.std.specs.Prelude.{◌≡◌, ◌≢◌, ◌⊎◌, Bool, ℕ, suc, ◌+◌, ◌*◌, ◌≤◌, List, [], ◌++◌, length, map, take, Option, Some, None}
+use Rattle.std.specs.Prelude.{◌≡◌, ◌≢◌, ◌⊎◌, Bool, ℕ, suc, ◌+◌, ◌*◌, ◌≤◌, List, [], length, map, take, Option, None}
 use Rattle.std.specs.List.{AllByRecursion}
 use Rattle.fv_outside.specs.Written.{Grows}
 use Rattle.record_hash.specs.Functions.{DigestFunctions}
-use Rattle.log_codec.specs.declared.command.Command.{Command}
 use Rattle.bundle_report.specs.Report.{told_by}
 use Rattle.host_core.specs.Host.{Host}
 use Rattle.host_core.specs.World as machine
@@ -11,7 +10,6 @@ use Rattle.host_shard.specs.Content.{Content}
 use Rattle.script_text.specs.declared.task.Task.{Task}
 use Rattle.host_world.specs.declared.fault.ClockEnd.{ClockEnd}
 use Rattle.host_world.specs.declared.settings.Settings.{Settings}
-use Rattle.host_world.specs.declared.world.World.{World}
 use Rattle.host_world.specs.Settings.{IsSettings}
 use Rattle.host_world.specs.Shown.{shown_world, digests_of, requests_of}
 use Rattle.host_world.specs.ShippedHost.{shipped_host}

@@ -1,12 +1,11 @@
-use Rattle.std.proofs.Common.{◌≡◌, ℕ, List, Option, Some, sym, ◌∙◌, ap, subst}
+use Rattle.std.proofs.Common.{ℕ, List, Option, sym, ◌∙◌, subst}
 use Rattle.fv_outside.specs.Written.{Grows, GrowsByFront}
 use Rattle.report_text.specs.declared.status.Status.{Status}
 use Rattle.report_text.specs.Status.{last_line}
 use Rattle.load_summary.specs.Summary.{summary_with_end}
 use Rattle.verifier_threads.specs.declared.accounts.Account.{Account}
-use Rattle.verifier_threads.specs.declared.accounts.Account.TheVariants as accounts
 use Rattle.verifier_threads.specs.declared.ending.RunEnd.TheVariants as ends
-use Rattle.verifier_threads.specs.Serving.{Outputs, IsServed, IsCutAtEnd, end_by, status_at}
+use Rattle.verifier_threads.specs.Serving.{IsServed, IsCutAtEnd, status_at}
 use Rattle.verifier_threads.proofs.PassingLemmas.{err_any}
 use Rattle.verifier_threads.proofs.NothingLemmas.{nothing-served, nothing-cut}
 use Rattle.verifier_threads.proofs.SummingLemmas.{nothing-summed, nothing-cut_summary}

@@ -1,9 +1,6 @@
-use Rattle.std.proofs.Common.{◌≡◌, Err, inl, inr, refl, sym, ◌∙◌, ap, subst, arith}
+use Rattle.std.proofs.Common.{inl, inr, refl, sym, ◌∙◌, arith}
 use Rattle.std.proofs.lemmas.Bool.{cases_lt}
 use Rattle.std.proofs.lemmas.Result.{err_from_is_err_and}
-use Rattle.verifier_threads.specs.declared.runner.NextCall.{NextCall}
-use Rattle.verifier_threads.specs.declared.runner.NextCall.TheVariants as calls
-use Rattle.verifier_threads.specs.Runners.{next_call_of}
 use Rattle.verifier_threads.proofs.RunningLemmas.{stops-so, came-so, finishes-so}
 use Rattle.verifier_threads.proofs.serving.serve.Goals as goal
 

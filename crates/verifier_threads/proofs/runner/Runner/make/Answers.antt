@@ -1,4 +1,4 @@
-use Rattle.std.proofs.Common.{◌≡◌, ◌≤◌, ℕ, List, Option, length, refl, sym, ◌∙◌, ap, subst, arith, Err, inl, inr}
+use Rattle.std.proofs.Common.{◌≡◌, ◌≤◌, ℕ, List, length, refl, sym, ◌∙◌, ap, subst, arith, Err, inl, inr}
 use Rattle.std.proofs.lemmas.Bool.{cases_lt}
 use Rattle.fv_outside.proofs.WrittenLaws.{GrowsByFront-none}
 use Rattle.record_hash.specs.Functions.{DigestFunctions}
@@ -14,7 +14,7 @@ use Rattle.host_world.specs.Shown.{shown_world, digests_of, requests_of}
 use Rattle.host_world.specs.Behind.{AreInRange, host_of}
 use Rattle.verifier_threads.specs.Serving.{IsCutOff, IsCutInHeader, setup_end}
 use Rattle.verifier_threads.specs.Running.{RunsBehind, IsAtPhase}
-use Rattle.verifier_threads.proofs.PassingLemmas.{err_any, err_then}
+use Rattle.verifier_threads.proofs.PassingLemmas.{err_any}
 use Rattle.verifier_threads.proofs.CallLemmas.{of-these, new-stands}
 use Rattle.verifier_threads.proofs.runner.Runner.make.Goals as goal
 

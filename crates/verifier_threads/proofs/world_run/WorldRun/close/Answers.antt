@@ -1,7 +1,6 @@
-use Rattle.std.proofs.Common.{◌≡◌, false, ℕ, List, Option, IfOk, OnErr, sym, subst, refl}
+use Rattle.std.proofs.Common.{false, IfOk, OnErr, sym, subst, refl}
 use Rattle.host_world.specs.Shown.{digests_of, requests_of}
 use Rattle.verifier_threads.specs.declared.accounts.Account.{Account}
-use Rattle.verifier_threads.specs.declared.accounts.Account.TheVariants as accounts
 use Rattle.verifier_threads.specs.declared.runner.NextCall.TheVariants as calls
 use Rattle.verifier_threads.specs.Serving.{IsCutOff, IsCutInRound}
 use Rattle.verifier_threads.specs.Runners.{StandsBefore, StandsFor, StandsUnwritten, TellsLines}

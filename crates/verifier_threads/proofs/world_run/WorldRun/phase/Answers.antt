@@ -1,4 +1,4 @@
-use Rattle.std.proofs.Common.{◌≡◌, inl, suc, ◌+◌, List, [], ◌∷◌, ◌++◌, length, Option, Ok, OnErr, refl, sym, ◌∙◌, ap, subst, arith}
+use Rattle.std.proofs.Common.{inl, suc, List, length, Option, Ok, OnErr, refl, sym, ◌∙◌, ap, subst, arith}
 use Rattle.record_hash.specs.Functions.{DigestFunctions}
 use Rattle.record_text.specs.declared.request.Request.{Request}
 use Rattle.host_core.specs.Host.{Host}

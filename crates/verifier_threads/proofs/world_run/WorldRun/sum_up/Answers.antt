@@ -1,4 +1,4 @@
-use Rattle.std.proofs.Common.{◌≡◌, ℕ, List, Option, length, sym, ◌∙◌, ap, subst}
+use Rattle.std.proofs.Common.{◌≡◌, ℕ, ◌∙◌, ap, subst}
 use Rattle.fv_outside.specs.Written.{Grows, GrowsByFront}
 use Rattle.report_text.specs.declared.status.Status.{Status}
 use Rattle.load_summary.specs.Counting.{Counted}
