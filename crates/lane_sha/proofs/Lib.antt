@@ -1,0 +1,4 @@
+mod WordLemmas
+mod TurnLemmas
+mod PaddingLemmas
+mod TextLemmas

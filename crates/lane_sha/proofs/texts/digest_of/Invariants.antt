@@ -1,0 +1,7 @@
+use Rattle.std.proofs.Common.{◌≡◌, ◌*◌, length, take}
+use Rattle.sha2.specs.Sha256.{digest_bytes}
+use Rattle.lane_sha.proofs.texts.digest_of.Given as goal
+
+-- the words so far stand there as bytes
+abbrev pub invariant-words : goal.invariant-words
+invariant-words l = (length l.digest ≡ 32) × (take (4 * l.i) l.digest ≡ digest_bytes l.hash l.i)

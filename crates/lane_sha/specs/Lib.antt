@@ -1,0 +1,4 @@
+pub mod Lanes
+pub mod Turns
+pub mod Padding
+pub mod Texts
