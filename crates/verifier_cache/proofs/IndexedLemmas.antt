@@ -8,12 +8,12 @@ use Rattle.std.proofs.lemmas.List.{get_or_append_left, get_or_push, length_push,
 use Rattle.tree_keys.specs.Path.{same_path}
 use Rattle.tree_keys.proofs.PathLaws.{same_path-true, same_path-self, same_path-apart}
 use Rattle.verifier_cache.specs.declared.entry.Entry.{Entry}
-use Rattle.verifier_cache.specs.declared.index.Index.{Index}
-use Rattle.verifier_cache.specs.declared.index.Mark.{Mark}
+use Rattle.path_index.specs.declared.index.Index.{Index}
+use Rattle.path_index.specs.declared.index.Mark.{Mark}
 use Rattle.verifier_cache.specs.declared.table.Stored.{Stored}
 use Rattle.verifier_cache.specs.Cache.{entry_of, without, changed, AreDistinct}
-use Rattle.verifier_cache.specs.Order.{order_of}
-use Rattle.verifier_cache.specs.Index.{mark_at, count_of, IsSound, Rises, IsRankOf, IsGapFor}
+use Rattle.path_index.specs.Order.{order_of}
+use Rattle.path_index.specs.Index.{mark_at, count_of, IsSound, Rises, IsRankOf, IsGapFor}
 use Rattle.verifier_cache.specs.Table.{standing, is_live, IsAt, IsIndexed}
 use Rattle.verifier_cache.proofs.EntriesLaws.{entry_of-append, entry_of-without, length-changed, length-without_there, absent-changed, absent-without, AreDistinct-changed, AreDistinct-without, AreDistinct-append, none_there}
 use Rattle.verifier_cache.proofs.TableLemmas.{entry_of-at, entry_of-read, changed-at, without-at, standing-push, standing-filter, filter-at, filter-within}

@@ -3,7 +3,5 @@ pub mod Entry
 pub mod Cache
 pub mod Slots
 pub mod LendsValue
-pub mod Order
-pub mod Index
 pub mod Table
 pub use Rattle.record_text.specs

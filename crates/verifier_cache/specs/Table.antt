@@ -4,9 +4,9 @@ use Rattle.std.specs.List.{HoldsAt}
 use Rattle.verifier_cache.specs.declared.entry.Entry.{Entry}
 use Rattle.verifier_cache.specs.declared.table.Stored.{Stored}
 use Rattle.verifier_cache.specs.declared.table.Table.{Table}
-use Rattle.verifier_cache.specs.declared.index.Index.{Index}
+use Rattle.path_index.specs.declared.index.Index.{Index}
 use Rattle.verifier_cache.specs.Cache.{entry_of, AreDistinct}
-use Rattle.verifier_cache.specs.Index.{mark_at, count_of, most_of, IsSound, Rises}
+use Rattle.path_index.specs.Index.{mark_at, count_of, most_of, IsSound, Rises}
 
 -- the entries that are there still, in their order
 abbrev pub standing : List Stored → List Entry

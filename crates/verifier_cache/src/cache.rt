@@ -7,10 +7,9 @@ ghost use Rattle.verifier_cache.specs.Entry.{kid_of, set_kid, new_entry};
 ghost use Rattle.verifier_cache.specs.Cache.{Held, IsHeld, entry_of, without, changed, replaced};
 
 use crate::entry::{Entry, Hold};
-use crate::search::Hint;
-use crate::steps::Steps;
 use crate::table::Table;
 use base_words::Memory;
+use path_index::{Hint, Steps};
 use record_text::Value;
 use std::alloc::Global;
 use std::marker::{Brand, Model};

@@ -3,18 +3,15 @@
 //! A contract sees a `Cache` as a list of entries, no path in two of them, and the most that it may hold;
 //! an entry is a record with its path, how it came in, and which of its children stand in the cache under
 //! it. All memory is taken when a cache is made. The crate stands on `tree_keys`, `record_text` and
-//! `fv_outside`. Begin with `Entry` in `entry.rt`, then `specs/Cache.antt` and `Cache` in `cache.rt`;
+//! `path_index`. Begin with `Entry` in `entry.rt`, then `specs/Cache.antt` and `Cache` in `cache.rt`;
 //! `laws.rt` says what is found after an entry came in, went out or was changed. Where commands name slots, a
 //! cache is a `SlotCache`, in `slots.rt`: a list of slots, each empty or with one entry.
 #![tactic(auto)]
 
 mod cache;
 mod entry;
-mod index;
 mod laws;
-mod search;
 mod slots;
-mod steps;
 mod table;
 
 pub use cache::Cache;
@@ -23,6 +20,5 @@ pub use laws::{
     changing_keeps_the_others, entries_are_found_by_their_paths, inserting_adds_one_entry,
     removing_takes_one_entry, replacing_changes_one_entry, setting_a_kid_bit_keeps_the_other,
 };
-pub use search::Hint;
+pub use path_index::{Hint, Steps};
 pub use slots::SlotCache;
-pub use steps::Steps;

@@ -6,14 +6,12 @@ ghost use Rattle.std.specs.Prelude.{◌≡◌, ℕ, ◌+◌, ◌-◌, ◌*◌, �
 ghost use Rattle.std.specs.Option.{option_copied};
 ghost use Rattle.verifier_cache.specs.Cache.{entry_of, without};
 ghost use Rattle.verifier_cache.specs.Table.{standing, is_live, IsTable, HasRoom, IsAt};
-ghost use Rattle.verifier_cache.specs.Index.{mark_at, count_of, most_of, IsSound};
+ghost use Rattle.path_index.specs.Index.{mark_at, count_of, most_of, IsSound};
 ghost use Rattle.std.specs.List.{filter};
 
 use crate::entry::Entry;
-use crate::index::{Index, Mark};
-use crate::search::{Hint, hint_of, search, search_near};
-use crate::steps::Steps;
 use base_words::Memory;
+use path_index::{Hint, Index, Mark, Steps, hint_of, search, search_near};
 use record_text::Value;
 use std::alloc::Global;
 use std::sync::ledger::{Blank, Ledger};

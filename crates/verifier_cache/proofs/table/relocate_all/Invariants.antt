@@ -1,5 +1,5 @@
 use Rattle.std.proofs.Common.{◌≡◌, ℕ, ◌<◌, ◌≤◌, slice_index}
-use Rattle.verifier_cache.specs.Index.{mark_at, count_of, most_of, IsSound}
+use Rattle.path_index.specs.Index.{mark_at, count_of, most_of, IsSound}
 use Rattle.verifier_cache.proofs.table.relocate_all.Given as goal
 
 abbrev pub invariant-loop-rank : goal.invariant-loop-rank

@@ -1,10 +1,10 @@
 use Rattle.std.proofs.Common.{ℕ, List, [], ◌∷◌, ◌++◌, true, IsNone, Result, refl, sym, ◌∙◌, ap, subst}
 use Rattle.std.specs.Result.{IfErr}
 use Rattle.verifier_cache.specs.declared.entry.Entry.{Entry}
-use Rattle.verifier_cache.specs.declared.index.Mark.{Mark}
+use Rattle.path_index.specs.declared.index.Mark.{Mark}
 use Rattle.verifier_cache.specs.declared.table.Stored.{Stored}
 use Rattle.verifier_cache.specs.Cache.{entry_of}
-use Rattle.verifier_cache.specs.Index.{IsGapFor}
+use Rattle.path_index.specs.Index.{IsGapFor}
 use Rattle.verifier_cache.specs.Table.{standing}
 use Rattle.verifier_cache.proofs.TableLemmas.{standing-push}
 use Rattle.verifier_cache.proofs.IndexedLemmas.{is_gap, indexed-push}

@@ -2,8 +2,8 @@ use Rattle.std.proofs.Common.{◌≡◌, ℕ, Option, Result, refl, sym, ap, sub
 use Rattle.std.specs.Option.{IfSome}
 use Rattle.std.specs.Result.{IfOk}
 use Rattle.verifier_cache.specs.declared.entry.Entry.{Entry}
-use Rattle.verifier_cache.specs.declared.index.Mark.{Mark}
-use Rattle.verifier_cache.specs.Index.{IsRankOf}
+use Rattle.path_index.specs.declared.index.Mark.{Mark}
+use Rattle.path_index.specs.Index.{IsRankOf}
 use Rattle.verifier_cache.specs.Table.{IsAt}
 use Rattle.verifier_cache.proofs.TableLemmas.{without-at, entry_of-read}
 use Rattle.verifier_cache.proofs.IndexedLemmas.{at_rank, indexed-left}

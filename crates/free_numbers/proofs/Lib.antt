@@ -1,0 +1,3 @@
+-- Lemmas on free numbers.
+mod FreeLemmas
+mod TreeLemmas

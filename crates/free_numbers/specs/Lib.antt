@@ -1,0 +1,3 @@
+-- What the clauses on free numbers cite, in reading order.
+pub mod Free
+pub mod Tree

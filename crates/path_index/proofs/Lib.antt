@@ -1,0 +1,4 @@
+-- Lemmas on an index.
+mod OrderLemmas
+mod HalvingLemmas
+mod IndexLemmas

@@ -1,8 +1,0 @@
-use Rattle.verifier_cache.proofs.IndexLemmas.{written-here, written-elsewhere}
-use Rattle.verifier_cache.proofs.index.write.Goals as goal
-
-pub returns-clause-here : goal.returns-clause-here
-returns-clause-here c = written-here _ _ _ _ _ c.lies.ensures.value c.requires.blocks c.requires.within
-
-pub returns-clause-others : goal.returns-clause-others
-returns-clause-others c = λ i apart. written-elsewhere _ _ _ _ _ i c.lies.ensures.value apart
