@@ -1,10 +1,10 @@
 -- The ranges of the numbers that a bundle begins with.
-use Rattle.std.specs.Prelude.{ℕ, ◌≤◌, nat_le, ◌&&◌, Bool}
+use Rattle.std.specs.Prelude.{ℕ, ◌≤◌, ◌==◌, nat_le, ◌&&◌, Bool}
 use Rattle.lamport_clocks.specs.declared.header.Header.{Header}
 
--- the last version of the format: there is one so far
+-- the last version of the format
 abbrev pub last_version : ℕ
-last_version = 1
+last_version = 2
 
 -- each number is in its range: a version that there is, 1 to 64 verifiers, 4 to 65,536 entries, counters that end at 1 to 16,777,215
 pub record IsHeader (h : Header) : Type 0 where
@@ -23,6 +23,10 @@ is_in_range h = nat_le 1 h.version && nat_le h.version last_version
     && nat_le 1 h.verifiers && nat_le h.verifiers 64
     && nat_le 4 h.cache && nat_le h.cache 65536
     && nat_le 1 h.end && nat_le h.end 16777215
+
+-- the commands of a bundle's logs name paths, in version 1, or slots of a verifier's cache, in version 2
+abbrev pub names_paths : Header → Bool
+names_paths h = h.version == 1
 
 -- the header of a bundle of version 1, whose commands name paths: verifiers, cache, first epoch, the counters' end
 abbrev pub header_by_path : ℕ → ℕ → ℕ → ℕ → Header

@@ -3,8 +3,8 @@ ghost use Rattle.std.specs.Prelude.{◌≡◌, ◌↔◌, IsTrue};
 
 // The first version of the format.
 const FIRST_VERSION: u8 = 1;
-// The last version of the format that is read and written.
-const LAST_VERSION: u8 = 1;
+// The last version of the format.
+const LAST_VERSION: u8 = 2;
 // The fewest verifiers of a bundle.
 const LEAST_VERIFIERS: u16 = 1;
 // The most verifiers of a bundle.
@@ -22,7 +22,7 @@ const MOST_END: u32 = 16_777_215;
 /// The numbers that a bundle begins with. They hold for each of its verifiers.
 #[derive(Clone, Copy, Debug, PartialEq, Eq)]
 pub struct Header {
-    /// The version of the format: in version 1 commands name paths.
+    /// The version of the format: in version 1 commands name paths, in version 2 slots of a verifier's cache.
     pub version: u8,
     /// How many verifiers there are; they are numbered from 0.
     pub verifiers: u16,
@@ -35,7 +35,7 @@ pub struct Header {
 }
 
 impl Header {
-    ghost use Rattle.lamport_clocks.specs.Header.{IsHeader, is_in_range, header_by_path};
+    ghost use Rattle.lamport_clocks.specs.Header.{IsHeader, is_in_range, names_paths, header_by_path};
 
     /// The header of a bundle of version 1, whose commands name paths.
     pub const fn by_path(verifiers: u16, cache: u32, first: u32, end: u32) -> Header
@@ -48,6 +48,13 @@ impl Header {
             first,
             end,
         }
+    }
+
+    /// Whether commands name paths, as they do in version 1 alone.
+    pub fn names_paths(&self) -> bool
+        ensures value { result ≡ names_paths self.now }
+    {
+        self.version == FIRST_VERSION
     }
 
     /// Whether each number is in its range.

@@ -9,13 +9,13 @@ use Rattle.record_text.proofs.FieldLaws.{AreBytes, Begins}
 use Rattle.record_text.proofs.ValueTextLaws.{path_of_value}
 use Rattle.log_codec.specs.declared.command.Command.{Command}
 use Rattle.log_codec.specs.declared.command.Command.TheVariants.{AddM, EvictM, AddB, EvictB, EvictBM, Get, Put, NextEpoch}
-use Rattle.log_codec.specs.Command.{command_text, add_m_at, evict_m_at, add_b_at, evict_b_at, evict_bm_at, get_at, put_at, command_behind, command_at, IsCommand}
+use Rattle.log_codec.specs.Command.{path_command_text, add_m_at, evict_m_at, add_b_at, evict_b_at, evict_bm_at, get_at, put_at, path_command_behind, path_command_at, IsPathCommand}
 use Rattle.log_codec.proofs.StepLaws.{then_at, two_at, three_at}
 use Rattle.log_codec.proofs.GrammarLaws.{Grammar, Spells, Spells-done, Spells-malformed, Spells-if, Spells-path, Spells-value, Spells-stamp, Spells-u16, Again, Again-done, Again-path, Again-value, Again-stamp, Again-u16, two_texts, three_texts, four_texts, tagged_at, tagged_begins, tagged_again}
 
 -- commands that name paths
 abbrev pub path_grammar : ℕ → Grammar Command
-path_grammar longest = record { text = command_text; read = λ bytes. command_at longest bytes; Is = IsCommand longest }
+path_grammar longest = record { text = path_command_text; read = λ bytes. path_command_at longest bytes; Is = IsPathCommand longest }
 
 -- ---- what was read is spelled so
 
@@ -65,7 +65,7 @@ put_spells longest =
     Spells-value (path_grammar longest) longest (7 ∷ path_text path) path short (λ value rest. Ok (Put path value, rest)) (λ value kind.
     Spells-done (path_grammar longest) _ (Put path value) refl kind))
 
-behind_spells : (longest : ℕ) (tag : ℕ) → Spells (path_grammar longest) (tag ∷ []) (λ bytes. command_behind longest tag bytes)
+behind_spells : (longest : ℕ) (tag : ℕ) → Spells (path_grammar longest) (tag ∷ []) (λ bytes. path_command_behind longest tag bytes)
 behind_spells longest tag =
     Spells-if (path_grammar longest) tag 1 (λ bytes. add_m_at longest bytes) _ (add_m_spells longest)
     (Spells-if (path_grammar longest) tag 2 (λ bytes. evict_m_at bytes) _ (evict_m_spells longest)
@@ -78,57 +78,57 @@ behind_spells longest tag =
     (Spells-malformed (path_grammar longest) (tag ∷ [])))))))))
 
 -- What is read as a command is spelled so, and in its ranges.
-pub command_begins : (longest : ℕ) (bytes : List ℕ) (command : Command) (rest : List ℕ) → AreBytes bytes → command_at longest bytes ≡ Ok (command, rest) → Begins bytes (command_text command) rest × IsCommand longest command
-unfolding command_at
-command_begins longest bytes command rest fits e =
-    tagged_begins (path_grammar longest) (λ tag left. command_behind longest tag left) (behind_spells longest) bytes command rest fits e
+pub path_command_begins : (longest : ℕ) (bytes : List ℕ) (command : Command) (rest : List ℕ) → AreBytes bytes → path_command_at longest bytes ≡ Ok (command, rest) → Begins bytes (path_command_text command) rest × IsPathCommand longest command
+unfolding path_command_at
+path_command_begins longest bytes command rest fits e =
+    tagged_begins (path_grammar longest) (λ tag left. path_command_behind longest tag left) (behind_spells longest) bytes command rest fits e
 
 -- ---- what is spelled so is read
 
-all_again : (longest : ℕ) (command : Command) → IsCommand longest command → Again (tagged_at (λ tag bytes. command_behind longest tag bytes)) (command_text command) command
+all_again : (longest : ℕ) (command : Command) → IsPathCommand longest command → Again (tagged_at (λ tag bytes. path_command_behind longest tag bytes)) (path_command_text command) command
 all_again longest (AddM path value parent) is =
-    tagged_again (λ tag bytes. command_behind longest tag bytes) 1 (λ bytes. add_m_at longest bytes) (path_text path ++ (value_text value ++ (path_text parent ++ []))) _ (AddM path value parent) (λ bytes. refl)
+    tagged_again (λ tag bytes. path_command_behind longest tag bytes) 1 (λ bytes. add_m_at longest bytes) (path_text path ++ (value_text value ++ (path_text parent ++ []))) _ (AddM path value parent) (λ bytes. refl)
     (Again-path path (path_of_value longest path value is.0) (λ path left. two_at (AddM path) (value_at longest path) (λ value. path_at) left) _ _
     (Again-value longest path value is.0 (λ value left. then_at (path_at left) (λ parent rest. Ok (AddM path value parent, rest))) _ _
     (Again-path parent is.1 (λ parent rest. Ok (AddM path value parent, rest)) [] _ (Again-done (AddM path value parent)))))
     (three_texts 1 (path_text path) (value_text value) (path_text parent))
 all_again longest (EvictM path parent) is =
-    tagged_again (λ tag bytes. command_behind longest tag bytes) 2 (λ bytes. evict_m_at bytes) (path_text path ++ (path_text parent ++ [])) _ (EvictM path parent) (λ bytes. refl)
+    tagged_again (λ tag bytes. path_command_behind longest tag bytes) 2 (λ bytes. evict_m_at bytes) (path_text path ++ (path_text parent ++ [])) _ (EvictM path parent) (λ bytes. refl)
     (Again-path path is.0 (λ path left. then_at (path_at left) (λ parent rest. Ok (EvictM path parent, rest))) _ _
     (Again-path parent is.1 (λ parent rest. Ok (EvictM path parent, rest)) [] _ (Again-done (EvictM path parent))))
     (two_texts 2 (path_text path) (path_text parent))
 all_again longest (AddB path value stamp verifier) is =
-    tagged_again (λ tag bytes. command_behind longest tag bytes) 3 (λ bytes. add_b_at longest bytes) (path_text path ++ (value_text value ++ (stamp_text stamp ++ (to_be_bytes w16 verifier ++ [])))) _ (AddB path value stamp verifier) (λ bytes. refl)
+    tagged_again (λ tag bytes. path_command_behind longest tag bytes) 3 (λ bytes. add_b_at longest bytes) (path_text path ++ (value_text value ++ (stamp_text stamp ++ (to_be_bytes w16 verifier ++ [])))) _ (AddB path value stamp verifier) (λ bytes. refl)
     (Again-path path (path_of_value longest path value is.0) (λ path left. three_at (AddB path) (value_at longest path) (λ value. stamp_at) u16_at left) _ _
     (Again-value longest path value is.0 (λ value left. two_at (AddB path value) stamp_at (λ stamp. u16_at) left) _ _
     (Again-stamp stamp is.1 (λ stamp left. then_at (u16_at left) (λ verifier rest. Ok (AddB path value stamp verifier, rest))) _ _
     (Again-u16 verifier is.2 (λ verifier rest. Ok (AddB path value stamp verifier, rest)) [] _ (Again-done (AddB path value stamp verifier))))))
     (four_texts 3 (path_text path) (value_text value) (stamp_text stamp) (to_be_bytes w16 verifier))
 all_again longest (EvictB path stamp) is =
-    tagged_again (λ tag bytes. command_behind longest tag bytes) 4 (λ bytes. evict_b_at bytes) (path_text path ++ (stamp_text stamp ++ [])) _ (EvictB path stamp) (λ bytes. refl)
+    tagged_again (λ tag bytes. path_command_behind longest tag bytes) 4 (λ bytes. evict_b_at bytes) (path_text path ++ (stamp_text stamp ++ [])) _ (EvictB path stamp) (λ bytes. refl)
     (Again-path path is.0 (λ path left. then_at (stamp_at left) (λ stamp rest. Ok (EvictB path stamp, rest))) _ _
     (Again-stamp stamp is.1 (λ stamp rest. Ok (EvictB path stamp, rest)) [] _ (Again-done (EvictB path stamp))))
     (two_texts 4 (path_text path) (stamp_text stamp))
 all_again longest (EvictBM path parent stamp) is =
-    tagged_again (λ tag bytes. command_behind longest tag bytes) 5 (λ bytes. evict_bm_at bytes) (path_text path ++ (path_text parent ++ (stamp_text stamp ++ []))) _ (EvictBM path parent stamp) (λ bytes. refl)
+    tagged_again (λ tag bytes. path_command_behind longest tag bytes) 5 (λ bytes. evict_bm_at bytes) (path_text path ++ (path_text parent ++ (stamp_text stamp ++ []))) _ (EvictBM path parent stamp) (λ bytes. refl)
     (Again-path path is.0 (λ path left. two_at (EvictBM path) path_at (λ parent. stamp_at) left) _ _
     (Again-path parent is.1 (λ parent left. then_at (stamp_at left) (λ stamp rest. Ok (EvictBM path parent stamp, rest))) _ _
     (Again-stamp stamp is.2 (λ stamp rest. Ok (EvictBM path parent stamp, rest)) [] _ (Again-done (EvictBM path parent stamp)))))
     (three_texts 5 (path_text path) (path_text parent) (stamp_text stamp))
 all_again longest (Get path value) is =
-    tagged_again (λ tag bytes. command_behind longest tag bytes) 6 (λ bytes. get_at longest bytes) (path_text path ++ (value_text value ++ [])) _ (Get path value) (λ bytes. refl)
+    tagged_again (λ tag bytes. path_command_behind longest tag bytes) 6 (λ bytes. get_at longest bytes) (path_text path ++ (value_text value ++ [])) _ (Get path value) (λ bytes. refl)
     (Again-path path (path_of_value longest path value is) (λ path left. then_at (value_at longest path left) (λ value rest. Ok (Get path value, rest))) _ _
     (Again-value longest path value is (λ value rest. Ok (Get path value, rest)) [] _ (Again-done (Get path value))))
     (two_texts 6 (path_text path) (value_text value))
 all_again longest (Put path value) is =
-    tagged_again (λ tag bytes. command_behind longest tag bytes) 7 (λ bytes. put_at longest bytes) (path_text path ++ (value_text value ++ [])) _ (Put path value) (λ bytes. refl)
+    tagged_again (λ tag bytes. path_command_behind longest tag bytes) 7 (λ bytes. put_at longest bytes) (path_text path ++ (value_text value ++ [])) _ (Put path value) (λ bytes. refl)
     (Again-path path (path_of_value longest path value is) (λ path left. then_at (value_at longest path left) (λ value rest. Ok (Put path value, rest))) _ _
     (Again-value longest path value is (λ value rest. Ok (Put path value, rest)) [] _ (Again-done (Put path value))))
     (two_texts 7 (path_text path) (value_text value))
 all_again longest NextEpoch is =
-    tagged_again (λ tag bytes. command_behind longest tag bytes) 8 (λ bytes. Ok (NextEpoch, bytes)) [] _ NextEpoch (λ bytes. refl) (Again-done NextEpoch) refl
+    tagged_again (λ tag bytes. path_command_behind longest tag bytes) 8 (λ bytes. Ok (NextEpoch, bytes)) [] _ NextEpoch (λ bytes. refl) (Again-done NextEpoch) refl
 
 -- What is spelled as a command is read, whatever follows.
-pub command_again : (longest : ℕ) (command : Command) (rest : List ℕ) → IsCommand longest command → command_at longest (command_text command ++ rest) ≡ Ok (command, rest)
-unfolding command_at
-command_again longest command rest is = (all_again longest command is).again rest
+pub path_command_again : (longest : ℕ) (command : Command) (rest : List ℕ) → IsPathCommand longest command → path_command_at longest (path_command_text command ++ rest) ≡ Ok (command, rest)
+unfolding path_command_at
+path_command_again longest command rest is = (all_again longest command is).again rest

@@ -15,7 +15,7 @@ use Rattle.record_text.proofs.FieldLaws.{field_ok, Ok-is}
 use Rattle.record_text.specs.Longest.{longest_blob}
 use Rattle.log_codec.specs.declared.command.Command.{Command}
 use Rattle.log_codec.specs.declared.command.Command.TheVariants.{AddM, EvictM, AddB, EvictB, EvictBM, Get, Put, NextEpoch}
-use Rattle.log_codec.specs.Command.{add_m_at, evict_m_at, add_b_at, evict_b_at, evict_bm_at, get_at, put_at, command_behind, command_at, command_text, IsCommand}
+use Rattle.log_codec.specs.Command.{add_m_at, evict_m_at, add_b_at, evict_b_at, evict_bm_at, get_at, put_at, path_command_behind, path_command_at, path_command_text, IsPathCommand}
 use Rattle.log_codec.proofs.CommandLaws.{path_grammar}
 use Rattle.log_codec.proofs.CommandKeepsOnLaws.{path_exact}
 use Rattle.log_codec.proofs.GrammarLaws.{Grammar, IsExact, tagged_at}
@@ -200,7 +200,7 @@ text_spans grammar exact n spans command is =
 
 -- ---- commands that name paths
 
-pub Spans-behind : (tag : ℕ) → Spans 103 (λ bytes. command_behind longest_blob tag bytes)
+pub Spans-behind : (tag : ℕ) → Spans 103 (λ bytes. path_command_behind longest_blob tag bytes)
 Spans-behind tag =
     Spans-if 103 (tag == 1) (λ bytes. add_m_at longest_blob bytes) _ (Spans-wider 102 103 _ (omega arith) (Spans-three 9 84 9 AddM path_at (value_at longest_blob) path_at Spans-path Spans-value Spans-path))
     (Spans-if 103 (tag == 2) (λ bytes. evict_m_at bytes) _ (Spans-wider 18 103 _ (omega arith) (Spans-two 9 9 EvictM path_at (λ p. path_at) Spans-path (λ p. Spans-path)))
@@ -211,18 +211,18 @@ Spans-behind tag =
     (Spans-if 103 (tag == 7) (λ bytes. put_at longest_blob bytes) _ (Spans-wider 93 103 _ (omega arith) (Spans-two 9 84 Put path_at (value_at longest_blob) Spans-path Spans-value))
     (Spans-if 103 (tag == 8) (λ bytes. Ok (NextEpoch, bytes)) (λ bytes. Err faults.Malformed) (Spans-done 103 NextEpoch) (Spans-malformed 103))))))))
 
-pub Spans-command : Spans 104 (λ bytes. command_at longest_blob bytes)
-unfolding command_at
-Spans-command = Spans-tagged 103 (λ tag left. command_behind longest_blob tag left) Spans-behind
+pub Spans-path_command : Spans 104 (λ bytes. path_command_at longest_blob bytes)
+unfolding path_command_at
+Spans-path_command = Spans-tagged 103 (λ tag left. path_command_behind longest_blob tag left) Spans-behind
 
 -- A command that was read takes at most 104 bytes.
-pub taken_within : (bytes : List ℕ) (command : Command) (rest : List ℕ) → command_at longest_blob bytes ≡ Ok (command, rest) → length bytes ≤ 104 + length rest
-taken_within bytes command rest e = Spans-command.takes bytes command rest e
+pub path_command_taken : (bytes : List ℕ) (command : Command) (rest : List ℕ) → path_command_at longest_blob bytes ≡ Ok (command, rest) → length bytes ≤ 104 + length rest
+path_command_taken bytes command rest e = Spans-path_command.takes bytes command rest e
 
 -- A command that is cut has fewer than 104 bytes.
-pub cut_is_short : (bytes : List ℕ) → command_at longest_blob bytes ≡ Err faults.Truncated → length bytes < 104
-cut_is_short bytes e = Spans-command.cut bytes e
+pub path_command_cut : (bytes : List ℕ) → path_command_at longest_blob bytes ≡ Err faults.Truncated → length bytes < 104
+path_command_cut bytes e = Spans-path_command.cut bytes e
 
 -- A command's text has at most 104 bytes.
-pub text_within : (command : Command) → IsCommand longest_blob command → length (command_text command) ≤ 104
-text_within command is = text_spans (path_grammar longest_blob) (path_exact longest_blob) 104 Spans-command command is
+pub path_text_within : (command : Command) → IsPathCommand longest_blob command → length (path_command_text command) ≤ 104
+path_text_within command is = text_spans (path_grammar longest_blob) (path_exact longest_blob) 104 Spans-path_command command is

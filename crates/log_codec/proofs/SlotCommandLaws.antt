@@ -188,7 +188,7 @@ Spans-behind tag =
     (Spans-if 105 (tag == 7) (λ bytes. put_at longest_blob bytes) _ (Spans-wider 68 105 _ (omega arith) (Spans-two 2 66 Put u16_at (λ s. blob_at longest_blob) Spans-u16 (λ s. Spans-blob)))
     (Spans-if 105 (tag == 8) (λ bytes. Ok (NextEpoch, bytes)) (λ bytes. Err Malformed) (Spans-done 105 NextEpoch) (Spans-malformed 105))))))))
 
-Spans-slot_command : Spans 106 (λ bytes. slot_command_at longest_blob bytes)
+pub Spans-slot_command : Spans 106 (λ bytes. slot_command_at longest_blob bytes)
 unfolding slot_command_at
 Spans-slot_command = Spans-tagged 105 (λ tag left. slot_command_behind longest_blob tag left) Spans-behind
 

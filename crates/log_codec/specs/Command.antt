@@ -1,4 +1,4 @@
--- The commands of a log and their one text: a tag and the fields.
+-- The commands of a log that names paths, and their one text: a tag and the fields.
 use Rattle.std.specs.Prelude.{ℕ, ◌==◌, ◌<◌, ◌^◌, List, [], ◌∷◌, ◌++◌, Ok, Err, if◌then◌else◌}
 use Rattle.std.specs.Int.{w16, to_be_bytes}
 use Rattle.tree_keys.specs.Path.{IsPath}
@@ -12,15 +12,15 @@ use Rattle.log_codec.specs.declared.command.Command.{Command}
 use Rattle.log_codec.specs.declared.command.Command.TheVariants.{AddM, EvictM, AddB, EvictB, EvictBM, Get, Put, NextEpoch}
 
 -- the tag of a command, and its fields
-abbrev pub command_text : Command → List ℕ
-command_text (AddM path value parent) = 1 ∷ path_text path ++ value_text value ++ path_text parent
-command_text (EvictM path parent) = 2 ∷ path_text path ++ path_text parent
-command_text (AddB path value stamp verifier) = 3 ∷ path_text path ++ value_text value ++ stamp_text stamp ++ to_be_bytes w16 verifier
-command_text (EvictB path stamp) = 4 ∷ path_text path ++ stamp_text stamp
-command_text (EvictBM path parent stamp) = 5 ∷ path_text path ++ path_text parent ++ stamp_text stamp
-command_text (Get path value) = 6 ∷ path_text path ++ value_text value
-command_text (Put path value) = 7 ∷ path_text path ++ value_text value
-command_text NextEpoch = 8 ∷ []
+abbrev pub path_command_text : Command → List ℕ
+path_command_text (AddM path value parent) = 1 ∷ path_text path ++ value_text value ++ path_text parent
+path_command_text (EvictM path parent) = 2 ∷ path_text path ++ path_text parent
+path_command_text (AddB path value stamp verifier) = 3 ∷ path_text path ++ value_text value ++ stamp_text stamp ++ to_be_bytes w16 verifier
+path_command_text (EvictB path stamp) = 4 ∷ path_text path ++ stamp_text stamp
+path_command_text (EvictBM path parent stamp) = 5 ∷ path_text path ++ path_text parent ++ stamp_text stamp
+path_command_text (Get path value) = 6 ∷ path_text path ++ value_text value
+path_command_text (Put path value) = 7 ∷ path_text path ++ value_text value
+path_command_text NextEpoch = 8 ∷ []
 
 -- ---- the fields of each command, behind its tag
 
@@ -78,8 +78,8 @@ put_at longest bytes = do
   Ok (Put path.0 value.0, value.1)
 
 -- behind a tag: the fields of its command; any other tag is malformed
-abbrev pub command_behind : ℕ → ℕ → List ℕ → Parsed Command
-command_behind longest tag bytes =
+abbrev pub path_command_behind : ℕ → ℕ → List ℕ → Parsed Command
+path_command_behind longest tag bytes =
     if tag == 1 then add_m_at longest bytes
     else if tag == 2 then evict_m_at bytes
     else if tag == 3 then add_b_at longest bytes
@@ -91,18 +91,18 @@ command_behind longest tag bytes =
     else Err Malformed
 
 -- the command that the bytes begin with, and the bytes behind it; or the first fault
-unfoldable pub command_at : ℕ → List ℕ → Parsed Command
-command_at longest bytes = do
+unfoldable pub path_command_at : ℕ → List ℕ → Parsed Command
+path_command_at longest bytes = do
   tag ← byte_at bytes
-  command_behind longest tag.0 tag.1
+  path_command_behind longest tag.0 tag.1
 
 -- what has a text: each value is of its path's kind, and each path, stamp and number is in its range
-abbrev pub IsCommand : ℕ → Command → Type 0
-IsCommand longest (AddM path value parent) = IsOf longest path value × IsPath parent
-IsCommand longest (EvictM path parent) = IsPath path × IsPath parent
-IsCommand longest (AddB path value stamp verifier) = IsOf longest path value × IsStamp stamp × (verifier < 2 ^ 16)
-IsCommand longest (EvictB path stamp) = IsPath path × IsStamp stamp
-IsCommand longest (EvictBM path parent stamp) = IsPath path × IsPath parent × IsStamp stamp
-IsCommand longest (Get path value) = IsOf longest path value
-IsCommand longest (Put path value) = IsOf longest path value
-IsCommand longest NextEpoch = Unit {0}
+abbrev pub IsPathCommand : ℕ → Command → Type 0
+IsPathCommand longest (AddM path value parent) = IsOf longest path value × IsPath parent
+IsPathCommand longest (EvictM path parent) = IsPath path × IsPath parent
+IsPathCommand longest (AddB path value stamp verifier) = IsOf longest path value × IsStamp stamp × (verifier < 2 ^ 16)
+IsPathCommand longest (EvictB path stamp) = IsPath path × IsStamp stamp
+IsPathCommand longest (EvictBM path parent stamp) = IsPath path × IsPath parent × IsStamp stamp
+IsPathCommand longest (Get path value) = IsOf longest path value
+IsPathCommand longest (Put path value) = IsOf longest path value
+IsPathCommand longest NextEpoch = Unit {0}

@@ -1,36 +1,45 @@
 //! The commands of a verifier's log, as bytes: each command has one text, and a log is the texts of its
 //! commands, joined.
 //!
-//! What bytes mean as a command and as a log is defined in `specs/Command.antt` and `specs/Log.antt`; the
-//! crate stands on `record_text` for paths, values and stamps, on `tree_keys` and on `lamport_clocks`. Begin
-//! with `Command` in `command.rt`, then `write` and `read`. `laws.rt` says how long a command is at most, and
-//! what follows for whole logs: one that is written is read, and bytes that come behind keep what was read.
-//! Commands of a later version name slots of a verifier's cache in place of paths: `SlotCommand` in
-//! `slot_command.rt` and `specs/SlotCommand.antt`, with the same laws in `slot_laws.rt`.
+//! A command names paths, as `Command` of `command.rt` in a bundle of version 1, or slots of a verifier's cache, as
+//! `SlotCommand` of `slot_command.rt` in one of version 2; `LogCommand` is one of either. What bytes mean as a command is
+//! defined in `specs/Command.antt` and `specs/SlotCommand.antt`, and for the format of a log in `specs/LogCommand.antt`;
+//! what they mean as a log in `specs/Log.antt`. The crate stands on `record_text` for paths, values and stamps, on
+//! `tree_keys` and on `lamport_clocks`. Begin with `read_command`, then `write_path_command` and `write_slot_command`.
+//! `laws.rt` says how long a command is at most, and what follows for whole logs: one that is written is read, and bytes
+//! that come behind keep what was read. `path_laws.rt` and `slot_laws.rt` have the laws of commands of each kind.
 #![tactic(auto)]
 
 mod command;
 mod decoded;
 mod laws;
+mod log_command;
+mod path_laws;
+mod path_reading;
+mod path_writing;
 mod reading;
 mod slot_command;
 mod slot_laws;
 mod slot_reading;
 mod slot_writing;
-mod writing;
 
 pub use command::Command;
 pub use decoded::Decoded;
 pub use laws::{
-    commands_are_read_as_spelled, commands_have_at_most_104_bytes, commands_keep_on,
-    logs_are_read_as_spelled, logs_go_by_commands, logs_keep_on, no_command_begins_another,
+    commands_are_read_as_spelled, commands_have_at_most_106_bytes, commands_keep_on,
+    logs_are_read_as_spelled, logs_by_path_are_read, logs_go_by_commands, logs_keep_on,
+    no_command_begins_another,
 };
-pub use reading::read;
+pub use log_command::LogCommand;
+pub use path_laws::{
+    no_path_command_begins_another, path_commands_are_read_as_spelled,
+    path_commands_have_at_most_104_bytes, path_commands_keep_on,
+};
+pub use path_writing::{LONGEST_PATH_COMMAND_TEXT, write_path_command};
+pub use reading::{LONGEST_COMMAND_TEXT, read_command};
 pub use slot_command::SlotCommand;
 pub use slot_laws::{
     no_slot_command_begins_another, slot_commands_are_read_as_spelled,
     slot_commands_have_at_most_106_bytes, slot_commands_keep_on,
 };
-pub use slot_reading::read_slot_command;
 pub use slot_writing::{LONGEST_SLOT_COMMAND_TEXT, write_slot_command};
-pub use writing::{LONGEST_COMMAND_TEXT, write};

@@ -1,5 +1,6 @@
 -- What the clauses on texts cite, in reading order.
 pub mod Longest
+pub mod Format
 pub mod Value
 pub mod Same
 pub mod Element

@@ -1,12 +1,10 @@
-use Rattle.record_text.specs.Longest.{longest_blob}
-use Rattle.log_codec.proofs.CommandKeepsOnLaws.{keeps_on-command, command_shorter, path_exact}
-use Rattle.log_codec.proofs.CommandLaws.{path_grammar}
 use Rattle.log_codec.proofs.GrammarLaws.{front_of}
+use Rattle.log_codec.proofs.LogCommandLaws.{log_grammar, log_exact, keeps_on-command, command_shorter}
 use Rattle.log_codec.proofs.laws.commands_keep_on.Goals as goal
 
 pub returns : goal.returns
 returns c = record {
-  more = keeps_on-command longest_blob;
-  shorter = command_shorter longest_blob;
-  front = front_of (path_grammar longest_blob) (path_exact longest_blob);
+  more = keeps_on-command;
+  shorter = command_shorter;
+  front = λ format. front_of (log_grammar format) (log_exact format);
 }

@@ -1,8 +1,6 @@
-use Rattle.record_text.specs.Longest.{longest_blob}
-use Rattle.log_codec.proofs.CommandLaws.{path_grammar}
-use Rattle.log_codec.proofs.CommandKeepsOnLaws.{path_exact}
 use Rattle.log_codec.proofs.GrammarLaws.{one_of}
+use Rattle.log_codec.proofs.LogCommandLaws.{log_grammar, log_exact}
 use Rattle.log_codec.proofs.laws.no_command_begins_another.Goals as goal
 
 pub returns : goal.returns
-returns c = record { one = one_of (path_grammar longest_blob) (path_exact longest_blob) }
+returns c = record { one = λ format. one_of (log_grammar format) (log_exact format) }

@@ -1,8 +1,8 @@
-//! Writes commands as they stand in a log.
+//! Writes commands that name paths, as they stand in a log.
 ghost use Rattle.std.specs.Prelude.{◌≡◌, ◌∷◌, [], ◌++◌, ◌≤◌};
 ghost use Rattle.arrayvec.specs.ArrayVec.{array_vec_len};
 ghost use Rattle.record_text.specs.Texts.{path_text, value_text};
-ghost use Rattle.log_codec.specs.Command.{command_text};
+ghost use Rattle.log_codec.specs.Command.{path_command_text};
 
 use crate::command::Command;
 use arrayvec::ArrayVec;
@@ -10,11 +10,11 @@ use record_text::{Value, push_path, push_stamp, push_u16, push_value};
 use tree_keys::Path;
 
 /// The most bytes of a command's text: an add of a node with two pointers, by its stamp.
-pub const LONGEST_COMMAND_TEXT: usize = 104;
+pub const LONGEST_PATH_COMMAND_TEXT: usize = 104;
 
 /// The text of a command: its tag, and its fields.
-pub fn write(command: &Command) -> ArrayVec<u8, LONGEST_COMMAND_TEXT>
-    ensures text { result.items ≡ command_text command.now }
+pub fn write_path_command(command: &Command) -> ArrayVec<u8, LONGEST_PATH_COMMAND_TEXT>
+    ensures text { result.items ≡ path_command_text command.now }
 {
     match command {
         Command::AddM {
@@ -59,7 +59,7 @@ pub fn write(command: &Command) -> ArrayVec<u8, LONGEST_COMMAND_TEXT>
 }
 
 // A tag with nothing behind it yet.
-fn tag_alone(tag: u8) -> ArrayVec<u8, LONGEST_COMMAND_TEXT>
+fn tag_alone(tag: u8) -> ArrayVec<u8, LONGEST_PATH_COMMAND_TEXT>
     ensures text { result.items ≡ tag ∷ [] }
     ensures len { array_vec_len result ≡ 1 }
 {
@@ -69,7 +69,7 @@ fn tag_alone(tag: u8) -> ArrayVec<u8, LONGEST_COMMAND_TEXT>
 }
 
 // A tag and a path.
-fn tagged(tag: u8, path: &Path) -> ArrayVec<u8, LONGEST_COMMAND_TEXT>
+fn tagged(tag: u8, path: &Path) -> ArrayVec<u8, LONGEST_PATH_COMMAND_TEXT>
     ensures text { result.items ≡ tag ∷ path_text path.now }
     ensures len { array_vec_len result ≡ 10 }
 {
@@ -79,7 +79,7 @@ fn tagged(tag: u8, path: &Path) -> ArrayVec<u8, LONGEST_COMMAND_TEXT>
 }
 
 // A tag, and the paths of a record and of its parent.
-fn with_parent(tag: u8, path: &Path, parent: &Path) -> ArrayVec<u8, LONGEST_COMMAND_TEXT>
+fn with_parent(tag: u8, path: &Path, parent: &Path) -> ArrayVec<u8, LONGEST_PATH_COMMAND_TEXT>
     ensures text { result.items
         ≡ tag ∷ path_text path.now ++ path_text parent.now }
     ensures len { array_vec_len result ≡ 19 }
@@ -90,7 +90,7 @@ fn with_parent(tag: u8, path: &Path, parent: &Path) -> ArrayVec<u8, LONGEST_COMM
 }
 
 // A tag, a path and its value.
-fn with_value(tag: u8, path: &Path, value: &Value) -> ArrayVec<u8, LONGEST_COMMAND_TEXT>
+fn with_value(tag: u8, path: &Path, value: &Value) -> ArrayVec<u8, LONGEST_PATH_COMMAND_TEXT>
     ensures text { result.items
         ≡ tag ∷ path_text path.now ++ value_text value.now }
     ensures len { array_vec_len result ≤ 94 }

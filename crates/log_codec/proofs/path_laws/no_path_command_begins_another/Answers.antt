@@ -1,0 +1,8 @@
+use Rattle.record_text.specs.Longest.{longest_blob}
+use Rattle.log_codec.proofs.CommandLaws.{path_grammar}
+use Rattle.log_codec.proofs.CommandKeepsOnLaws.{path_exact}
+use Rattle.log_codec.proofs.GrammarLaws.{one_of}
+use Rattle.log_codec.proofs.path_laws.no_path_command_begins_another.Goals as goal
+
+pub returns : goal.returns
+returns c = record { one = one_of (path_grammar longest_blob) (path_exact longest_blob) }
