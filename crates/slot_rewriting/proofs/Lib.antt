@@ -1,0 +1,4 @@
+-- Lemmas on slots.
+mod MarkLemmas
+pub mod SlotPathLaws
+mod IndexedLemmas

@@ -1,0 +1,4 @@
+-- What the clauses on slots cite, in reading order.
+pub mod Rewriting
+pub mod Indexed
+pub use Rattle.log_codec.specs

@@ -1,0 +1,222 @@
+//! Which path stands in each slot of a verifier's cache, and commands by slots.
+ghost use Rattle.std.specs.Prelude.{◌≡◌, ◌↔◌, ◌<◌, ◌≤◌, replicate, length, Some, None, IsTrue, IsFalse, IfOk};
+ghost use Rattle.lamport_clocks.specs.Header.{IsHeader};
+ghost use Rattle.slot_rewriting.specs.Rewriting.{slot_of, lowest_empty, with_path_at, data_of, rewritten, paths_after, opening_paths, HasSlot, HasNoSlot, HasEmpty, CanRewrite};
+
+use base_words::Memory;
+use free_numbers::FreeNumbers;
+use lamport_clocks::Header;
+use log_codec::{Command, SlotCommand};
+use path_index::{Index, Mark, search_uncounted};
+use record_text::{Blob, Value};
+use std::alloc::Global;
+use std::marker::Model;
+use tree_keys::Path;
+
+/// Which path stands in each slot, if any.
+#[derive(Debug, Drop)]
+pub struct Slots {
+    paths: Vec<Option<Path>>,
+    // the slot of each path that stands in one
+    index: Index,
+    // the numbers of the empty slots
+    free: FreeNumbers,
+}
+
+impl Model for Slots {
+    ghost use Rattle.slot_rewriting.specs.Rewriting.{SlotPaths};
+    ghost use Rattle.slot_rewriting.specs.Indexed.{IsIndexed};
+
+    ghost Value = { SlotPaths };
+
+    ghost view = { λ s. s.paths.items };
+
+    ghost invariant = { λ s. IsIndexed s.paths.items s.index s.free };
+}
+
+impl Slots {
+    /// The slots of a verifier before its first command: the root stands in slot 0 of verifier 0, and all other slots are
+    /// empty. It takes all of its memory here.
+    pub fn new(alloc: Global, number: u16, header: &Header) -> Result<Self, Memory>
+        requires header { IsHeader header.now }
+        ensures paths { IfOk result (λ slots. slots ≡ opening_paths number header.now) }
+    {
+        let mut slots = Slots::empty(alloc, header.cache)?;
+        if number == 0 {
+            slots.take(&Path::root());
+        }
+        Ok(slots)
+    }
+
+    // So many empty slots.
+    fn empty(alloc: Global, count: u32) -> Result<Self, Memory>
+        requires few { count ≤ 65536 }
+        ensures paths { IfOk result (λ slots. slots ≡ replicate count None) }
+    {
+        let mut paths = Vec::with_capacity(alloc, count as usize)?;
+        for _ in 0..count {
+            paths.push(None)?;
+        }
+        let index = Index::new(alloc, count)?;
+        let free = FreeNumbers::new(alloc, count)?;
+        Ok(Slots { paths, index, free })
+    }
+
+    // The slot of a path.
+    fn slot(&self, k: &Path) -> u16
+        requires there { HasSlot k.now self.now }
+        ensures value { result ≡ slot_of k.now self.now }
+    {
+        let rank = search_uncounted(&self.index, k).unwrap();
+        self.index.mark(rank).at as u16
+    }
+
+    // Whether a path stands in a slot.
+    fn has_slot(&self, k: &Path) -> bool
+        ensures there { IsTrue result → HasSlot k.now self.now }
+        ensures absent { IsFalse result → HasNoSlot k.now self.now }
+    {
+        search_uncounted(&self.index, k).is_ok()
+    }
+
+    // Whether a slot is empty.
+    fn has_empty(&self) -> bool
+        ensures value { IsTrue result ↔ HasEmpty self.now }
+    {
+        self.free.lowest().is_some()
+    }
+
+    /// Whether a command can be rewritten.
+    pub fn can_rewrite(&self, command: &Command) -> bool
+        ensures fits { IsTrue result ↔ CanRewrite self.now command.now }
+    {
+        match command {
+            Command::AddM { path, parent, .. } => {
+                !self.has_slot(path) && self.has_empty() && self.has_slot(parent)
+            }
+            Command::EvictM { path, parent } => self.has_slot(path) && self.has_slot(parent),
+            Command::AddB { path, .. } => !self.has_slot(path) && self.has_empty(),
+            Command::EvictB { path, .. } => self.has_slot(path),
+            Command::EvictBM { path, parent, .. } => self.has_slot(path) && self.has_slot(parent),
+            Command::Get { path, .. } => self.has_slot(path),
+            Command::Put { path, .. } => self.has_slot(path),
+            Command::NextEpoch => true,
+        }
+    }
+
+    // Lets a path stand in the lowest empty slot.
+    fn take(&mut self, k: &Path) -> u16
+        requires absent { HasNoSlot k.now self.old }
+        requires empty { HasEmpty self.old }
+        ensures slot { result ≡ lowest_empty self.old }
+        ensures paths { self.new ≡ with_path_at self.old (lowest_empty self.old) (Some k.now) }
+    {
+        let slot = self.free.lowest().unwrap();
+        let rank = search_uncounted(&self.index, k).unwrap_err();
+        let mark = Mark {
+            path: *k,
+            at: slot as usize,
+        };
+        self.free.take(slot);
+        self.index.insert(rank, mark);
+        self.paths[slot as usize] = Some(*k);
+        slot as u16
+    }
+
+    // Lets the slot of a path be empty.
+    fn leave(&mut self, k: &Path) -> u16
+        requires there { HasSlot k.now self.old }
+        ensures slot { result ≡ slot_of k.now self.old }
+        ensures paths { self.new ≡ with_path_at self.old (slot_of k.now self.old) None }
+    {
+        let rank = search_uncounted(&self.index, k).unwrap();
+        let slot = self.index.mark(rank).at;
+        self.free.give_back(slot as u32);
+        self.index.remove(rank);
+        self.paths[slot] = None;
+        slot as u16
+    }
+
+    /// A command by slots. What it adds stands in the lowest empty slot then, and the slot of what it evicts is empty.
+    pub fn rewrite(&mut self, command: &Command) -> SlotCommand
+        requires fits { CanRewrite self.old command.now }
+        ensures value { result ≡ rewritten self.old command.now }
+        ensures paths { self.new ≡ paths_after self.old command.now }
+    {
+        match command {
+            Command::AddM {
+                path,
+                value,
+                parent,
+            } => {
+                let parent = self.slot(parent);
+                let slot = self.take(path);
+                SlotCommand::AddM {
+                    slot,
+                    path: *path,
+                    value: value.copy(),
+                    parent,
+                }
+            }
+            Command::EvictM { path, parent } => {
+                let parent = self.slot(parent);
+                let slot = self.leave(path);
+                SlotCommand::EvictM { slot, parent }
+            }
+            Command::AddB {
+                path,
+                value,
+                stamp,
+                verifier,
+            } => {
+                let slot = self.take(path);
+                SlotCommand::AddB {
+                    slot,
+                    path: *path,
+                    value: value.copy(),
+                    stamp: *stamp,
+                    verifier: *verifier,
+                }
+            }
+            Command::EvictB { path, stamp } => {
+                let slot = self.leave(path);
+                SlotCommand::EvictB {
+                    slot,
+                    stamp: *stamp,
+                }
+            }
+            Command::EvictBM {
+                path,
+                parent,
+                stamp,
+            } => {
+                let parent = self.slot(parent);
+                let slot = self.leave(path);
+                SlotCommand::EvictBM {
+                    slot,
+                    parent,
+                    stamp: *stamp,
+                }
+            }
+            Command::Get { path, value } => SlotCommand::Get {
+                slot: self.slot(path),
+                value: data_of(value),
+            },
+            Command::Put { path, value } => SlotCommand::Put {
+                slot: self.slot(path),
+                value: data_of(value),
+            },
+            Command::NextEpoch => SlotCommand::NextEpoch,
+        }
+    }
+}
+
+// The data value that a value is, or none if it is a node's.
+fn data_of(value: &Value) -> Blob
+    ensures value { result ≡ data_of value.now }
+{
+    match value {
+        Value::Blob(blob) => blob.copy(),
+        Value::Node(_) => Blob::none(),
+    }
+}
