@@ -3,6 +3,7 @@ mod KeyLemmas
 pub mod BelowLaws
 mod CacheLemmas
 mod SlotLemmas
+mod EitherLemmas
 pub mod BoundLaws
 pub mod InvertLaws
 pub mod TickLaws

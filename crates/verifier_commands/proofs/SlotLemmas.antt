@@ -1,13 +1,13 @@
 -- Another slot stays as it was where an entry is put in the place of one that is there; and what tells that two data
 -- values are one is the test.
-use Rattle.std.proofs.Common.{◌≡◌, ◌≢◌, ◌↔◌, ℕ, Bool, true, List, [], Option, Some, None, IsSome, IsNone, is_some, sym, ap, subst, ◌∙◌}
+use Rattle.std.proofs.Common.{◌≡◌, ◌≢◌, ◌↔◌, ℕ, zero, suc, ◌-◌, ◌≤◌, Bool, true, List, [], ◌∷◌, Option, Some, None, IsSome, IsNone, is_some, sym, ap, subst, ◌∙◌, arith}
 use Rattle.std.proofs.lemmas.Bool.{false≢true}
 use Rattle.std.proofs.lemmas.List.{get_or-set_other}
 use Rattle.record_text.specs.declared.value.Value.TheVariants as values
 use Rattle.record_text.specs.Same.{same_blob}
 use Rattle.record_text.proofs.SameTestLaws.{tells_same_value}
 use Rattle.verifier_cache.specs.declared.entry.Entry.{Entry}
-use Rattle.verifier_cache.specs.Slots.{Slots, entry_at, with_slot}
+use Rattle.verifier_cache.specs.Slots.{Slots, entry_at, with_slot, empty_slots}
 use Rattle.verifier_commands.specs.Outcome.{blob_of}
 
 -- ---- slots
@@ -46,6 +46,16 @@ pub taken_stays : (slots : Slots) (slot other : ℕ) (child holder after : Entry
 taken_stays slots slot other child holder after own others same apart =
     other_stays slots slot other (Some after) (some_differ slots slot other child holder own others (λ is. apart (is ∙ sym same)))
     ∙ own
+
+-- the first of so many empty slots, with an entry in it
+pub first_taken : (count : ℕ) (entry : Entry) → 1 ≤ count
+    → with_slot (empty_slots count) 0 (Some entry) ≡ Some entry ∷ empty_slots (count - 1)
+first_taken zero entry some = absurd (omega (arith, some))
+first_taken (suc count) entry some =
+    let less : count ≡ suc count - 1 = omega arith in
+    ap (λ (n : ℕ). Some entry ∷ empty_slots n) less
+
+pub ruleset opening_view = (first_taken)
 
 pub ruleset slot_view = (empty_stays, taken_stays)
 

@@ -5,6 +5,7 @@ pub mod Changes
 pub mod Change
 pub mod Transition
 pub mod SlotTransition
+pub mod VerifierState
 pub mod Outcome
 pub mod Sums
 pub mod Machine

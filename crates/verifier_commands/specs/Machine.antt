@@ -6,16 +6,15 @@ use Rattle.lamport_clocks.specs.declared.stamp.Stamp.{Stamp}
 use Rattle.base_words.specs.Steps.{and_then}
 use Rattle.record_text.specs.declared.operation.Operation.{Operation}
 use Rattle.record_text.specs.declared.refusal.Refusal.{Refusal}
-use Rattle.log_codec.specs.declared.command.Command.{Command}
+use Rattle.log_codec.specs.declared.log_command.LogCommand.{LogCommand}
 use Rattle.merkle_records.specs.Scheme.{Scheme}
-use Rattle.verifier_commands.specs.declared.state.State.{State}
 use Rattle.verifier_commands.specs.declared.sums.Sums.{Sums}
 use Rattle.verifier_commands.specs.declared.outcome.Outcome.{Outcome}
 use Rattle.verifier_commands.specs.declared.outcome.Outcome.TheVariants.{AddM, EvictM, AddB, EvictB, EvictBM, Get, Put, NextEpoch}
 use Rattle.verifier_commands.specs.declared.effect.Effect.{Effect}
 use Rattle.verifier_commands.specs.declared.effect.Effect.TheVariants.{Plain, Did, Opened, Sealed}
-use Rattle.verifier_commands.specs.State.{opening}
-use Rattle.verifier_commands.specs.Transition.{Rules, transition}
+use Rattle.verifier_commands.specs.Transition.{Rules}
+use Rattle.verifier_commands.specs.VerifierState.{VerifierState, first_state, perform}
 use Rattle.verifier_commands.specs.Outcome.{told}
 use Rattle.verifier_commands.specs.Sums.{zero_sums, sums_after}
 
@@ -23,13 +22,13 @@ use Rattle.verifier_commands.specs.Sums.{zero_sums, sums_after}
 pub record Machine : Type 0 where
   pub number : ℕ
   pub header : Header
-  pub state : State
+  pub state : VerifierState
   pub sums : Sums
   pub accepted : ℕ
 
 -- a verifier before its first command
 abbrev pub opening_machine : ℕ → Header → Machine
-opening_machine number header = record { number = number; header = header; state = opening number header; sums = zero_sums; accepted = 0 }
+opening_machine number header = record { number = number; header = header; state = first_state number header; sums = zero_sums; accepted = 0 }
 
 -- an operation of this machine's next command, at this stamp
 abbrev pub operation_by : Machine → Stamp → Bool → ℕ → Option (List ℕ) → Operation
@@ -56,7 +55,7 @@ effect_of machine at (NextEpoch (Some epoch)) =
     Sealed (record { verifier = machine.number; epoch = epoch; added = machine.sums.added_before; evicted = machine.sums.evicted_before })
 
 -- the machine after a command with this outcome that left this state
-abbrev pub machine_after : Scheme → Machine → Outcome → State → Machine
+abbrev pub machine_after : Scheme → Machine → Outcome → VerifierState → Machine
 machine_after scheme machine outcome state = record machine {
   state = state;
   sums = sums_after scheme machine.state.clock.at.epoch machine.sums outcome;
@@ -64,7 +63,7 @@ machine_after scheme machine outcome state = record machine {
 }
 
 -- the answer and the machine after a step of its state
-abbrev pub concluded : Scheme → Machine → Result (Outcome × State) Refusal → Result (Effect × Machine) Refusal
+abbrev pub concluded : Scheme → Machine → Result (Outcome × VerifierState) Refusal → Result (Effect × Machine) Refusal
 concluded scheme machine step =
     and_then step (λ done. Ok (effect_of machine done.1.clock.at done.0, machine_after scheme machine done.0 done.1))
 
@@ -73,8 +72,8 @@ abbrev pub rules_for : Scheme → Machine → Rules
 rules_for scheme machine = record { scheme = scheme; number = machine.number; verifiers = machine.header.verifiers }
 
 -- One command: its answer and the machine after it, or the first refusal.
-abbrev pub stepped : Scheme → Machine → Command → Result (Effect × Machine) Refusal
-stepped scheme machine command = concluded scheme machine (told (transition (rules_for scheme machine) machine.state command))
+abbrev pub stepped : Scheme → Machine → LogCommand → Result (Effect × Machine) Refusal
+stepped scheme machine command = concluded scheme machine (told (perform (rules_for scheme machine) machine.state command))
 
 -- ---- why no sum grows too large
 

@@ -1,7 +1,7 @@
 -- The transition of a verifier whose commands name slots: what each command does, or the first refusal. What it does to
 -- entries is what a command that names paths does; only how they are looked up is another. The tests stand in the one
 -- order in which they are made.
-use Rattle.std.specs.Prelude.{ℕ, ◌==◌, nat_le, Bool, not, List, is_some, Some, None, Option, Result, Ok, if◌then◌else◌}
+use Rattle.std.specs.Prelude.{ℕ, ◌-◌, ◌==◌, nat_le, Bool, not, List, ◌∷◌, is_some, Some, None, Option, Result, Ok, if◌then◌else◌}
 use Rattle.tree_keys.specs.Path.{is_data}
 use Rattle.lamport_clocks.specs.declared.header.Header.{Header}
 use Rattle.lamport_clocks.specs.declared.stamp.Stamp.{Stamp}
@@ -136,7 +136,7 @@ slot_transition rules state NextEpoch = next_epoch state
 
 -- At the start the root stands in slot 0 of verifier 0, and all other slots are empty.
 abbrev pub opening_slots : ℕ → Header → Slots
-opening_slots number header = if number == 0 then with_slot (empty_slots header.cache) 0 (Some root_entry) else empty_slots header.cache
+opening_slots number header = if number == 0 then Some root_entry ∷ empty_slots (header.cache - 1) else empty_slots header.cache
 
 -- the slots of the start, and the clock at the first epoch
 abbrev pub slot_opening : ℕ → Header → SlotState

@@ -2,14 +2,13 @@
 use Rattle.std.specs.Prelude.{List, map, Result, Ok, Err}
 use Rattle.base_words.specs.Traced.{Traced, traced, traced_behind}
 use Rattle.record_text.specs.declared.refusal.Refusal.{Refusal}
-use Rattle.log_codec.specs.declared.command.Command.{Command}
+use Rattle.log_codec.specs.declared.log_command.LogCommand.{LogCommand}
 use Rattle.merkle_records.specs.Scheme.{Scheme}
 use Rattle.verifier_commands.specs.declared.effect.Effect.{Effect}
-use Rattle.verifier_commands.specs.declared.state.State.{State}
 use Rattle.verifier_commands.specs.Change.{Change}
 use Rattle.verifier_commands.specs.Event.{Event}
 use Rattle.verifier_commands.specs.Outcome.{outcome_of}
-use Rattle.verifier_commands.specs.Transition.{Step, transition}
+use Rattle.verifier_commands.specs.VerifierState.{VerifierState, VerifierStep, perform}
 use Rattle.verifier_commands.specs.Machine.{Machine, effect_of, machine_after, rules_for}
 
 -- an accepted command: what it did, and what it answered
@@ -18,27 +17,27 @@ pub record Done : Type 0 where
   pub effect : Effect
 
 -- what a verifier has done with a change that left this state
-abbrev pub done_with : Machine → Change → State → Done
+abbrev pub done_with : Machine → Change → VerifierState → Done
 done_with machine change after = record {
   event = record { verifier = machine.number; index = machine.accepted; at = after.clock.at; change = change };
   effect = effect_of machine after.clock.at (outcome_of change);
 }
 
 -- the verifier after a change that left this state
-abbrev pub changed : Scheme → Machine → Change × State → Machine
+abbrev pub changed : Scheme → Machine → Change × VerifierState → Machine
 changed scheme machine done = machine_after scheme machine (outcome_of done.0) done.1
 
 -- a step of a verifier's state, as one of the verifier
-abbrev pub done_by : Scheme → Machine → Step → Result (Done × Machine) Refusal
+abbrev pub done_by : Scheme → Machine → VerifierStep → Result (Done × Machine) Refusal
 done_by scheme machine (Ok done) = Ok (done_with machine done.0 done.1, changed scheme machine done)
 done_by scheme machine (Err refusal) = Err refusal
 
 -- One command: what was done and the verifier after it, or the first refusal.
-abbrev pub performed : Scheme → Machine → Command → Result (Done × Machine) Refusal
-performed scheme machine command = done_by scheme machine (transition (rules_for scheme machine) machine.state command)
+abbrev pub performed : Scheme → Machine → LogCommand → Result (Done × Machine) Refusal
+performed scheme machine command = done_by scheme machine (perform (rules_for scheme machine) machine.state command)
 
 -- what commands of a verifier come to, one after another
-abbrev pub trace : Scheme → Machine → List Command → Traced Done Machine Refusal
+abbrev pub trace : Scheme → Machine → List LogCommand → Traced Done Machine Refusal
 trace scheme machine commands = traced (performed scheme) machine commands
 
 -- the events of what commands came to
@@ -46,14 +45,14 @@ abbrev pub events_in : Traced Done Machine Refusal → List Event
 events_in trace = map (λ command. command.event) trace.done
 
 -- what a step and the commands behind it come to
-abbrev pub trace_behind : Scheme → Machine → List Command → Step → Traced Done Machine Refusal
+abbrev pub trace_behind : Scheme → Machine → List LogCommand → VerifierStep → Traced Done Machine Refusal
 trace_behind scheme machine commands step =
     traced_behind machine (done_by scheme machine step) (λ after. trace scheme after commands)
 
 -- the events of a step and of the commands behind it
-abbrev pub events_behind : Scheme → Machine → List Command → Step → List Event
+abbrev pub events_behind : Scheme → Machine → List LogCommand → VerifierStep → List Event
 events_behind scheme machine commands step = events_in (trace_behind scheme machine commands step)
 
 -- the events of a verifier's commands, from where it stands
-abbrev pub events_from : Scheme → Machine → List Command → List Event
+abbrev pub events_from : Scheme → Machine → List LogCommand → List Event
 events_from scheme machine commands = events_in (trace scheme machine commands)

@@ -1,17 +1,18 @@
 //! The verifier: it reads the commands of a host's log, and accepts those that keep its records right.
 //!
-//! What each command does, or why it is refused, is `transition` in `specs/Transition.antt`: tests in one
-//! order, over a state of cached entries and a clock. Beside it a verifier keeps sums of what it added and
-//! evicted in two epochs. The crate stands on `log_codec` for the commands, and on `merkle_records`,
-//! `verifier_cache`, `lamport_clocks` and `multiset_sum` for what they change. It has no laws of its own.
-//! Begin with `Verifier::step` in `verifier.rt`, beside `stepped` in `specs/Machine.antt`. Commands that name
-//! slots of the cache change a `SlotState`, as `slot_transition` in `specs/SlotTransition.antt` says.
+//! What each command does, or why it is refused, is `transition` in `specs/Transition.antt` where commands name paths,
+//! and `slot_transition` in `specs/SlotTransition.antt` where they name slots of the cache: tests in one order, over a
+//! `State` of cached entries, or a `SlotState`, and a clock. `perform` in `specs/VerifierState.antt` is both. Beside its
+//! state a verifier keeps sums of what it added and evicted in two epochs. The crate stands on `log_codec` for the
+//! commands, and on `merkle_records`, `verifier_cache`, `lamport_clocks` and `multiset_sum` for what they change. It has no
+//! laws of its own. Begin with `Verifier::step_any` in `verifier.rt`, beside `stepped` in `specs/Machine.antt`.
 #![tactic(auto)]
 
 mod applying;
 mod changes;
 mod deferred;
 mod effect;
+mod either_state;
 mod merkle;
 mod outcome;
 mod records;
@@ -24,6 +25,7 @@ mod sums;
 mod verifier;
 
 pub use effect::Effect;
+pub use either_state::EitherState;
 pub use outcome::Outcome;
 pub use slot_state::SlotState;
 pub use state::State;

@@ -25,7 +25,7 @@ pub struct SlotState {
 
 impl SlotState {
     /// The state of the verifier of this number before its first command.
-    #[tactic(auto, using(crate::proofs::SlotLemmas::slot_view))]
+    #[tactic(auto, using(crate::proofs::SlotLemmas::opening_view))]
     pub fn new(alloc: Global, number: u16, header: &Header) -> Result<Self, Memory>
         requires cache { 1 ≤ header.now.cache }
         ensures opening { IfOk result (λ state. state ≡ slot_opening number header.now) }

@@ -1,46 +1,47 @@
 //! A verifier: its state and its sums, stepped command by command.
 ghost use Rattle.std.specs.Prelude.{◌≡◌, ◌<◌, ◌^◌, IfOk};
-ghost use Rattle.record_text.specs.Longest.{longest_of};
+ghost use Rattle.std.specs.Option.{option_copied};
 ghost use Rattle.base_words.specs.Follows.{Follows};
 ghost use Rattle.lamport_clocks.specs.Header.{IsHeader};
-ghost use Rattle.log_codec.specs.Command.{IsCommand};
+ghost use Rattle.log_codec.specs.declared.log_command.LogCommand.TheVariants.{ByPath, BySlot};
 ghost use Rattle.merkle_records.specs.Scheme.{scheme_of};
-ghost use Rattle.verifier_commands.specs.State.{opening};
+ghost use Rattle.verifier_commands.specs.VerifierState.{state_of, first_state, path_entry, slot_entry};
 ghost use Rattle.verifier_commands.specs.Machine.{Machine, opening_machine, stepped, effect_of};
 
 use crate::effect::Effect;
+use crate::either_state::EitherState;
 use crate::outcome::Outcome;
-use crate::state::State;
 use crate::sums::Sums;
 use base_words::Memory;
 use lamport_clocks::{Clock, Header, Stamp};
-use log_codec::Command;
+use log_codec::{Command, LogCommand, SlotCommand};
 use multiset_sum::Part;
 use record_hash::Digests;
-use record_text::{Node, Operation, Refusal, Value};
+use record_text::{Operation, Refusal};
 use std::alloc::Global;
 use std::marker::Model;
 use tree_keys::Path;
-use verifier_cache::{Cache, Hold};
+use verifier_cache::Entry;
 
 /// One verifier: contracts see it as a `Machine`.
 #[derive(Drop)]
 pub struct Verifier {
     number: u16,
     header: Header,
-    state: State,
+    state: EitherState,
     sums: Sums,
     accepted: u64,
 }
 
 impl Model for Verifier {
     ghost use Rattle.verifier_commands.specs.Machine.{Machine, AreBounded};
+    ghost use Rattle.verifier_commands.specs.VerifierState.{state_of};
 
     ghost Value = { Machine };
 
-    ghost view = { λ v. record { number = v.number; header = v.header; state = v.state; sums = v.sums; accepted = v.accepted } };
+    ghost view = { λ v. record { number = v.number; header = v.header; state = state_of v.state; sums = v.sums; accepted = v.accepted } };
 
-    ghost invariant = { λ v. AreBounded v.sums v.state.clock };
+    ghost invariant = { λ v. AreBounded v.sums (state_of v.state).clock };
 }
 
 impl Verifier {
@@ -50,7 +51,7 @@ impl Verifier {
         requires number { number < header.now.verifiers }
         ensures opening { IfOk result (λ verifier. verifier ≡ opening_machine number header.now) }
     {
-        let state = State::new(alloc, number, header)?;
+        let state = EitherState::new(alloc, number, header)?;
         Ok(Verifier {
             number,
             header: *header,
@@ -60,19 +61,51 @@ impl Verifier {
         })
     }
 
-    /// Takes one command: it answers what that did, or the first refusal. After a refusal the verifier is as
-    /// before. No memory is taken.
-    pub fn step<D: Digests>(&mut self, d: &D, command: &Command) -> Result<Effect, Refusal>
-        requires kind { IsCommand (longest_of self.old.header) command.now }
+    /// Takes one command, whatever it names: it answers what that did, or the first refusal. After a refusal the
+    /// verifier is as before. No memory is taken.
+    pub fn step_any<D: Digests>(&mut self, d: &D, command: &LogCommand) -> Result<Effect, Refusal>
         requires room { self.old.accepted < 2 ^ 63 }
         ensures follows { Follows result self.old self.new
             (stepped (scheme_of (D.functions d.now) self.old.header) self.old command.now) }
     {
-        let before = self.state.clock;
+        match command {
+            LogCommand::ByPath(command) => self.step(d, command),
+            LogCommand::BySlot(command) => self.step_slots(d, command),
+        }
+    }
+
+    /// The same of a command that names paths. A verifier of slots refuses it.
+    pub fn step<D: Digests>(&mut self, d: &D, command: &Command) -> Result<Effect, Refusal>
+        requires room { self.old.accepted < 2 ^ 63 }
+        ensures follows { Follows result self.old self.new
+            (stepped (scheme_of (D.functions d.now) self.old.header) self.old (ByPath command.now)) }
+    {
+        let before = *self.state.clock();
         let outcome = self.state.apply(d, self.number, &self.header, command)?;
-        let at = self.state.clock.at();
+        let at = self.state.clock().at();
         let effect = effect_of(self.number, self.accepted, at, &self.sums, &outcome);
-        self.sums.apply(d, &before, &self.state.clock, &outcome);
+        self.sums.apply(d, &before, self.state.clock(), &outcome);
+        self.accepted += 1;
+        Ok(effect)
+    }
+
+    /// The same of a command that names slots. A verifier of entries by path refuses it.
+    pub fn step_slots<D: Digests>(
+        &mut self,
+        d: &D,
+        command: &SlotCommand,
+    ) -> Result<Effect, Refusal>
+        requires room { self.old.accepted < 2 ^ 63 }
+        ensures follows { Follows result self.old self.new
+            (stepped (scheme_of (D.functions d.now) self.old.header) self.old (BySlot command.now)) }
+    {
+        let before = *self.state.clock();
+        let outcome = self
+            .state
+            .apply_slots(d, self.number, &self.header, command)?;
+        let at = self.state.clock().at();
+        let effect = effect_of(self.number, self.accepted, at, &self.sums, &outcome);
+        self.sums.apply(d, &before, self.state.clock(), &outcome);
         self.accepted += 1;
         Ok(effect)
     }
@@ -82,6 +115,13 @@ impl Verifier {
         ensures value { result ≡ self.now.number }
     {
         self.number
+    }
+
+    /// The header of its bundle.
+    pub fn header(&self) -> &Header
+        ensures value { result.now ≡ self.now.header }
+    {
+        &self.header
     }
 
     /// How many commands it has accepted: the number of the next one in its log.
@@ -95,14 +135,28 @@ impl Verifier {
     pub fn clock(&self) -> Stamp
         ensures value { result ≡ self.now.state.clock.at }
     {
-        self.state.clock.at()
+        self.state.clock().at()
     }
 
-    /// The entries of its cache.
-    pub fn entries(&self) -> &Cache
-        ensures value { result.now ≡ self.now.state.cache }
+    /// Its cache and its clock, by what its commands name.
+    pub fn state(&self) -> &EitherState
+        ensures value { state_of result.now ≡ self.now.state }
     {
-        &self.state.cache
+        &self.state
+    }
+
+    /// The entry of a path in its cache, if commands name paths and it is there.
+    pub fn entry_of(&self, path: &Path) -> Option<&Entry>
+        ensures value { option_copied result ≡ path_entry self.now.state.cache path.now }
+    {
+        self.state.entry_of(path)
+    }
+
+    /// The entry in a slot of its cache, if commands name slots, there is such a slot and it isn't empty.
+    pub fn entry_at(&self, slot: u16) -> Option<&Entry>
+        ensures value { option_copied result ≡ slot_entry self.now.state.cache slot }
+    {
+        self.state.entry_at(slot)
     }
 }
 

@@ -1,26 +1,27 @@
 -- The commands of a piece, one after another.
-use Rattle.std.proofs.Common.{◌≡◌, ℕ, ◌+◌, ◌≤◌, Bool, true, false, not, is_some, List, length, take, drop, Option, Some, None, Err, sym, ap, ◌∙◌, arith}
+use Rattle.std.proofs.Common.{◌≡◌, ℕ, ◌+◌, ◌≤◌, Bool, true, false, not, is_some, List, length, take, drop, Option, Some, None, Err, refl, sym, ap, ◌∙◌, arith}
 use Rattle.std.proofs.lemmas.List.{take-append-drop}
 use Rattle.std.proofs.Math.Seq.{take-add, drop-length}
 use Rattle.record_text.specs.declared.refusal.Refusal.{Refusal}
 use Rattle.record_text.specs.declared.refusal.Refusal.TheVariants as refusals
 use Rattle.record_text.specs.declared.reader.TextFault.TheVariants as faults
-use Rattle.log_codec.specs.declared.command.Command.{Command}
-use Rattle.log_codec.specs.Command.{command_text, command_at, IsCommand}
+use Rattle.log_codec.specs.declared.log_command.LogCommand.{LogCommand}
+use Rattle.log_codec.specs.LogCommand.{command_text, command_at, IsCommand}
 use Rattle.merkle_records.specs.Scheme.{Scheme}
 use Rattle.verifier_commands.specs.Event.{Event}
 use Rattle.verifier_run.specs.Course.{Course, refuse, after_command}
 use Rattle.verifier_run.specs.Progress.{Progress, between_commands, progress_over, fed}
-use Rattle.verifier_run.proofs.CourseLemmas.{over-joined, over-empty, over-refused, over-malformed, over-cut, over-text}
+use Rattle.verifier_run.proofs.CourseLemmas.{over-joined, over-empty, over-refused, over-malformed, over-cut, over-text, header-one}
 
 -- so many bytes of a piece have brought a course here, with no cut command
 pub record HasRead {A : Type 0} (keeps : Event → List A) (scheme : Scheme) (start : Course A) (bytes : List ℕ) (taken : ℕ) (now : Course A) : Type 0 where
+  pub header : now.machine.header ≡ start.machine.header
   pub within : taken ≤ length bytes
   pub accepted : now.machine.accepted ≤ start.machine.accepted + taken
   pub done : progress_over keeps scheme start (take taken bytes) ≡ between_commands now
 
 pub none_taken : {A : Type 0} (keeps : Event → List A) (scheme : Scheme) (start : Course A) (bytes : List ℕ) → HasRead keeps scheme start bytes 0 start
-none_taken keeps scheme start bytes = record { within = omega arith; accepted = omega arith; done = over-empty keeps scheme start }
+none_taken keeps scheme start bytes = record { header = refl; within = omega arith; accepted = omega arith; done = over-empty keeps scheme start }
 
 -- what the rest of the bytes makes of the course is what all of them make
 pub rest_of_piece : {A : Type 0} (keeps : Event → List A) (scheme : Scheme) (start : Course A) (bytes : List ℕ) (taken : ℕ) (now : Course A) → HasRead keeps scheme start bytes taken now → progress_over keeps scheme start bytes ≡ progress_over keeps scheme now (drop taken bytes)
@@ -30,11 +31,12 @@ rest_of_piece {A = A} keeps scheme start bytes taken now so_far =
     ∙ ap (λ (progress : Progress A). fed keeps scheme progress (drop taken bytes)) so_far.done)
 
 -- a command more
-pub more_taken : {A : Type 0} (keeps : Event → List A) (scheme : Scheme) (start : Course A) (bytes : List ℕ) (taken len : ℕ) (now after : Course A) (command : Command)
-    → HasRead keeps scheme start bytes taken now → now.refused ≡ None → IsCommand scheme.longest command → take len (drop taken bytes) ≡ command_text command
+pub more_taken : {A : Type 0} (keeps : Event → List A) (scheme : Scheme) (start : Course A) (bytes : List ℕ) (taken len : ℕ) (now after : Course A) (command : LogCommand)
+    → HasRead keeps scheme start bytes taken now → now.refused ≡ None → IsCommand scheme.format command → take len (drop taken bytes) ≡ command_text command
     → taken + len ≤ length bytes → after ≡ after_command keeps scheme now command → after.machine.accepted ≤ start.machine.accepted + (taken + len)
     → HasRead keeps scheme start bytes (taken + len) after
 more_taken {A = A} keeps scheme start bytes taken len now after command so_far none is spelled within is_after accepted = record {
+  header = ap (λ (course : Course A). course.machine.header) is_after ∙ (header-one keeps scheme now command ∙ so_far.header);
   within = within;
   accepted = accepted;
   done = ap (progress_over keeps scheme start) (take-add taken len bytes)
@@ -57,7 +59,7 @@ refused_there keeps scheme start bytes taken now at so_far is =
     ∙ (over-refused keeps scheme now (drop taken bytes) at is ∙ all_taken now bytes)
 
 pub malformed_there : {A : Type 0} (keeps : Event → List A) (scheme : Scheme) (start : Course A) (bytes : List ℕ) (taken : ℕ) (now after : Course A)
-    → HasRead keeps scheme start bytes taken now → now.refused ≡ None → command_at scheme.longest (drop taken bytes) ≡ Err faults.Malformed → after ≡ refuse now refusals.Malformed
+    → HasRead keeps scheme start bytes taken now → now.refused ≡ None → command_at scheme.format (drop taken bytes) ≡ Err faults.Malformed → after ≡ refuse now refusals.Malformed
     → progress_over keeps scheme start bytes ≡ record { course = after; held = drop (length bytes) bytes }
 malformed_there keeps scheme start bytes taken now after so_far none is is_after =
     rest_of_piece keeps scheme start bytes taken now so_far
@@ -65,7 +67,7 @@ malformed_there keeps scheme start bytes taken now after so_far none is is_after
     ∙ (ap between_commands (sym is_after) ∙ all_taken after bytes))
 
 pub cut_there : {A : Type 0} (keeps : Event → List A) (scheme : Scheme) (start : Course A) (bytes : List ℕ) (taken : ℕ) (now : Course A)
-    → HasRead keeps scheme start bytes taken now → now.refused ≡ None → command_at scheme.longest (drop taken bytes) ≡ Err faults.Truncated
+    → HasRead keeps scheme start bytes taken now → now.refused ≡ None → command_at scheme.format (drop taken bytes) ≡ Err faults.Truncated
     → progress_over keeps scheme start bytes ≡ record { course = now; held = drop taken bytes }
 cut_there keeps scheme start bytes taken now so_far none is =
     rest_of_piece keeps scheme start bytes taken now so_far ∙ over-cut keeps scheme now (drop taken bytes) none is

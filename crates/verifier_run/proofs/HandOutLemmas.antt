@@ -12,18 +12,18 @@ use Rattle.lamport_clocks.proofs.ClockLaws.{received-epoch, sent-ok, sent-at, ad
 use Rattle.multiset_sum.specs.declared.part.Part.{Part}
 use Rattle.record_text.specs.declared.refusal.Refusal.{Refusal}
 use Rattle.record_text.specs.declared.refusal.Refusal.TheVariants as refusals
-use Rattle.log_codec.specs.declared.command.Command.{Command}
-use Rattle.log_codec.specs.Command.{command_at}
-use Rattle.log_codec.proofs.CommandKeepsOnLaws.{command_shorter}
+use Rattle.log_codec.specs.declared.log_command.LogCommand.{LogCommand}
+use Rattle.log_codec.specs.LogCommand.{command_at}
+use Rattle.log_codec.proofs.LogCommandLaws.{command_shorter}
 use Rattle.merkle_records.specs.Scheme.{Scheme}
 use Rattle.verifier_commands.specs.Event.{Event}
 use Rattle.verifier_commands.specs.Change.{Change, did_add_m, did_evict_m, did_add_b, did_evict_b, did_evict_bm, did_get, did_put, did_next_epoch}
 use Rattle.verifier_commands.specs.Outcome.{outcome_of}
-use Rattle.verifier_commands.specs.Transition.{Step, transition}
+use Rattle.verifier_commands.specs.VerifierState.{VerifierStep, perform}
 use Rattle.verifier_commands.specs.Machine.{Machine, effect_of, rules_for, opening_machine}
 use Rattle.verifier_commands.specs.Trace.{done_with, done_by, performed}
 use Rattle.verifier_commands.specs.Ticks.{Ticks}
-use Rattle.verifier_commands.proofs.TickLaws.{ticks_step, ticks-epoch, ticks-first}
+use Rattle.verifier_commands.proofs.TickLaws.{ticks_perform, ticks-epoch, ticks-first}
 use Rattle.verifier_run.specs.declared.kept.Yield.{Yield}
 use Rattle.verifier_run.specs.Kept.{part_in, Yields}
 use Rattle.verifier_run.specs.Course.{Course, opening_course, after_step, after_command}
@@ -189,11 +189,11 @@ module _ {A : Type 0} (epoch : A → ℕ) where
 module _ {A : Type 0} (keeps : Event → List A) (epoch : A → ℕ)
     (of_epoch : (event : Event) → AllByRecursion (λ item. epoch item ≡ event.at.epoch) (keeps event)) where
   -- What is handed out with a step of a machine.
-  unfoldable pub step_out : (scheme : Scheme) (course : Course A) (command : Command) (step : Step)
-      → transition (rules_for scheme course.machine) course.machine.state command ≡ step
+  unfoldable pub step_out : (scheme : Scheme) (course : Course A) (command : LogCommand) (step : VerifierStep)
+      → perform (rules_for scheme course.machine) course.machine.state command ≡ step
       → GoesOn epoch course (after_step keeps course (done_by scheme course.machine step))
   step_out scheme course command (Ok done) is =
-      let ticks = ticks_step (rules_for scheme course.machine) course.machine.state command done is in
+      let ticks = ticks_perform (rules_for scheme course.machine) course.machine.state command done is in
       let kept = done_with course.machine done.0 done.1 in
       let later = ticks-epoch (clock_of course) done.1.clock done.0 ticks in
       record {
@@ -212,10 +212,10 @@ module _ {A : Type 0} (keeps : Event → List A) (epoch : A → ℕ)
   step_out scheme course command (Err refusal) is = goes_on-refused epoch course (Some (course.machine.accepted, refusal))
 
   -- A course goes on with a command.
-  pub command_goes_on : (scheme : Scheme) (course : Course A) (command : Command) → GoesOn epoch course (after_command keeps scheme course command)
+  pub command_goes_on : (scheme : Scheme) (course : Course A) (command : LogCommand) → GoesOn epoch course (after_command keeps scheme course command)
   unfolding after_command
   command_goes_on scheme course command =
-      step_out scheme course command (transition (rules_for scheme course.machine) course.machine.state command) refl
+      step_out scheme course command (perform (rules_for scheme course.machine) course.machine.state command) refl
 
   -- ---- bytes
 
@@ -225,12 +225,12 @@ module _ {A : Type 0} (keeps : Event → List A) (epoch : A → ℕ)
       subst (λ (progress : Progress A). GoesOn epoch course progress.course) (sym (over-empty keeps scheme course)) (goes_on-refused epoch course course.refused)
   over_up_to zero scheme course (byte ∷ bytes) enough = absurd (omega arith)
   over_up_to (suc count) scheme course (byte ∷ bytes) enough =
-      by_cases (GoesOn epoch course (progress_over keeps scheme course (byte ∷ bytes)).course) course.refused (command_at scheme.longest (byte ∷ bytes))
+      by_cases (GoesOn epoch course (progress_over keeps scheme course (byte ∷ bytes)).course) course.refused (command_at scheme.format (byte ∷ bytes))
       (λ at e.
       subst (λ (progress : Progress A). GoesOn epoch course progress.course) (sym (over-refused keeps scheme course (byte ∷ bytes) at e))
       (goes_on-refused epoch course course.refused))
       (λ command rest none is.
-      let shorter : length rest < length (byte ∷ bytes) = command_shorter scheme.longest (byte ∷ bytes) command rest is in
+      let shorter : length rest < length (byte ∷ bytes) = command_shorter scheme.format (byte ∷ bytes) command rest is in
       let after = after_command keeps scheme course command in
       subst (λ (progress : Progress A). GoesOn epoch course progress.course) (sym (over-found keeps scheme course (byte ∷ bytes) command rest none is))
       (goes_on-then epoch course after (progress_over keeps scheme after rest).course (command_goes_on scheme course command)
@@ -276,7 +276,7 @@ module _ {A : Type 0} (keeps : Event → List A) (epoch : A → ℕ)
       (subst (λ (from : ℕ). OneOfEach from (sealed_next (clock_of course)) course.parts) (first_next header.first) out.parts) some
 
   -- What a command yields stands in order behind what was kept.
-  pub kept_in_order : (scheme : Scheme) (machine after : Machine) (command : Command) (yield : Yield A)
+  pub kept_in_order : (scheme : Scheme) (machine after : Machine) (command : LogCommand) (yield : Yield A)
       (items all : List A) (parts sealed : List Part)
       → StandsInOrder epoch machine.state.clock items parts → Yields keeps yield (performed scheme machine command) after
       → all ≡ items ++ option_to_list yield.item → sealed ≡ parts ++ option_to_list yield.part

@@ -1,11 +1,11 @@
 -- What a verifier answers to a command is what is kept of it.
 use Rattle.std.proofs.Common.{◌≡◌, Some, None, Ok, refl, ap, ◌∙◌}
 use Rattle.std.specs.Option.{option_to_list}
-use Rattle.log_codec.specs.declared.command.Command.{Command}
+use Rattle.log_codec.specs.declared.log_command.LogCommand.{LogCommand}
 use Rattle.merkle_records.specs.Scheme.{Scheme}
 use Rattle.record_text.specs.declared.operation.Operation.{Operation}
 use Rattle.verifier_commands.specs.declared.effect.Effect.{Effect}
-use Rattle.verifier_commands.specs.declared.state.State.{State}
+use Rattle.verifier_commands.specs.VerifierState.{VerifierState}
 use Rattle.verifier_commands.specs.Change.{Change, did_add_m, did_evict_m, did_add_b, did_evict_b, did_evict_bm, did_get, did_put, did_next_epoch}
 use Rattle.verifier_commands.specs.Machine.{Machine, stepped}
 use Rattle.verifier_commands.specs.Trace.{done_with, performed}
@@ -14,7 +14,7 @@ use Rattle.verifier_run.specs.declared.kept.Yield.{Yield}
 use Rattle.verifier_run.specs.Kept.{keeps_operations, operation_in, part_in, Yields}
 
 -- the operation that an effect is, is that of its change
-operation_told : (machine : Machine) (change : Change) (after : State)
+operation_told : (machine : Machine) (change : Change) (after : VerifierState)
     → operation_in (done_with machine change after).effect ≡ keeps_operations (done_with machine change after).event
 operation_told machine (did_add_m parent child holder) after = refl
 operation_told machine (did_evict_m parent child holder) after = refl
@@ -27,7 +27,7 @@ operation_told machine (did_next_epoch None) after = refl
 operation_told machine (did_next_epoch (Some sealed)) after = refl
 
 -- What a check keeps of a command is what the verifier's answer hands out.
-pub answer_yields : (scheme : Scheme) (machine : Machine) (command : Command) (effect : Effect) (after : Machine) (yield : Yield Operation)
+pub answer_yields : (scheme : Scheme) (machine : Machine) (command : LogCommand) (effect : Effect) (after : Machine) (yield : Yield Operation)
     → stepped scheme machine command ≡ Ok (effect, after) → option_to_list yield.item ≡ operation_in effect
     → option_to_list yield.part ≡ part_in effect → Yields keeps_operations yield (performed scheme machine command) after
 answer_yields scheme machine command effect after yield answers item part =

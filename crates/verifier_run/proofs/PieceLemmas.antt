@@ -9,21 +9,21 @@ use Rattle.record_text.specs.declared.refusal.Refusal.TheVariants as refusals
 use Rattle.record_text.specs.declared.reader.TextFault.TheVariants as faults
 use Rattle.lamport_clocks.specs.declared.header.Header.{Header}
 use Rattle.record_hash.specs.Functions.{DigestFunctions}
-use Rattle.record_text.specs.Longest.{longest_blob}
-use Rattle.log_codec.specs.declared.command.Command.{Command}
-use Rattle.log_codec.specs.Command.{command_text, command_at, IsCommand}
-use Rattle.log_codec.proofs.CommandLaws.{command_again}
+use Rattle.record_text.specs.Format.{LogFormat, format_of}
+use Rattle.log_codec.specs.declared.log_command.LogCommand.{LogCommand}
+use Rattle.log_codec.specs.LogCommand.{command_text, command_at, IsCommand}
+use Rattle.log_codec.proofs.LogCommandLaws.{command_again}
 use Rattle.verifier_commands.specs.Event.{Event}
 use Rattle.verifier_run.specs.Course.{Course, refuse, after_command}
 use Rattle.verifier_run.specs.Progress.{Progress, between_commands, progress_over, fed, weight, IsBetweenPieces}
-use Rattle.verifier_run.proofs.CourseLemmas.{fed-joined, fed-weight, over-refused, over-malformed, over-cut, over-text, over-between, between-commands}
-use Rattle.log_codec.proofs.LengthLaws.{cut_is_short}
+use Rattle.verifier_run.proofs.CourseLemmas.{fed-joined, fed-weight, over-refused, over-malformed, over-cut, over-text, over-between, between-commands, header_in, fed-header}
+use Rattle.log_codec.proofs.LogCommandLaws.{cut_is_short}
 use Rattle.merkle_records.specs.Scheme.{Scheme, scheme_of}
 
 -- ---- apart from what is kept
 
-pub between-held : {A : Type 0} (longest : ℕ) (course : Course A) (held : List ℕ) → held ≡ [] → IsBetweenPieces longest (record { course = course; held = held })
-between-held longest course held none = subst (λ (held : List ℕ). IsBetweenPieces longest (record { course = course; held = held })) (sym none) (between-commands longest course)
+pub between-held : {A : Type 0} (format : LogFormat) (course : Course A) (held : List ℕ) → held ≡ [] → IsBetweenPieces format (record { course = course; held = held })
+between-held format course held none = subst (λ (held : List ℕ). IsBetweenPieces format (record { course = course; held = held })) (sym none) (between-commands format course)
 
 none_refused : (refused : Option (ℕ × Refusal)) (held : List ℕ) → IfSome refused (λ at. held ≡ []) → 0 < length held → refused ≡ None
 none_refused None held idle some = refl
@@ -35,26 +35,26 @@ some_held n empty is e =
     let more : (n == 0) ≡ false = sym is ∙ e in omega (arith, eqb-false _ _ more)
 
 -- while bytes are held, no command was refused
-pub none_refused_yet : {A : Type 0} (longest : ℕ) (course : Course A) (held : List ℕ) → IsBetweenPieces longest (record { course = course; held = held }) → 0 < length held → course.refused ≡ None
-none_refused_yet longest course held between some = none_refused course.refused held between.idle some
+pub none_refused_yet : {A : Type 0} (format : LogFormat) (course : Course A) (held : List ℕ) → IsBetweenPieces format (record { course = course; held = held }) → 0 < length held → course.refused ≡ None
+none_refused_yet format course held between some = none_refused course.refused held between.idle some
 
 -- the text is longer than the held bytes, since these are cut
-pub longer_than_held : (longest : ℕ) (held more : List ℕ) (command : Command) (len : ℕ) → command_at longest held ≡ Err faults.Truncated → IsCommand longest command → take len (held ++ more) ≡ command_text command → length held < len
-longer_than_held longest held more command len cut is spelled =
+pub longer_than_held : (format : LogFormat) (held more : List ℕ) (command : LogCommand) (len : ℕ) → command_at format held ≡ Err faults.Truncated → IsCommand format command → take len (held ++ more) ≡ command_text command → length held < len
+longer_than_held format held more command len cut is spelled =
     elim (cases_lt (length held) len) [
       | inl longer ↦ longer
       | inr short ↦
           let front : take len held ≡ command_text command = sym (take-append-le len held more short) ∙ spelled in
           let whole : held ≡ command_text command ++ drop len held = sym (take-append-drop len held) ∙ ap (λ (text : List ℕ). text ++ drop len held) front in
-          let found : command_at longest held ≡ Ok (command, drop len held) = ap (command_at longest) whole ∙ command_again longest command (drop len held) is in
+          let found : command_at format held ≡ Ok (command, drop len held) = ap (command_at format) whole ∙ command_again format command (drop len held) is in
           absurd (cc)
     ]
 
 -- where a command is still cut though there was room for more of the piece, the piece has ended
-pub piece_ended : (held piece : List ℕ) (room : ℕ) → command_at longest_blob (held ++ take room piece) ≡ Err faults.Truncated
-    → length held + room ≡ 104 → length piece ≤ room
-piece_ended held piece room cut full =
-    let short : length (held ++ take room piece) < 104 = cut_is_short (held ++ take room piece) cut in
+pub piece_ended : (header : Header) (held piece : List ℕ) (room : ℕ) → command_at (format_of header) (held ++ take room piece) ≡ Err faults.Truncated
+    → length held + room ≡ 106 → length piece ≤ room
+piece_ended header held piece room cut full =
+    let short : length (held ++ take room piece) < 106 = cut_is_short header (held ++ take room piece) cut in
     omega (arith, short, length-append held (take room piece), length-take room piece)
 
 module _ {A : Type 0} (keeps : Event → List A) where
@@ -62,7 +62,7 @@ module _ {A : Type 0} (keeps : Event → List A) where
 
   -- ---- what a run that is between two pieces knows
 
-  nothing_by : (scheme : Scheme) (course : Course A) (held : List ℕ) (refused : Option (ℕ × Refusal)) → course.refused ≡ refused → IsBetweenPieces scheme.longest (record { course = course; held = held }) → fed keeps scheme (record { course = course; held = held }) [] ≡ record { course = course; held = held }
+  nothing_by : (scheme : Scheme) (course : Course A) (held : List ℕ) (refused : Option (ℕ × Refusal)) → course.refused ≡ refused → IsBetweenPieces scheme.format (record { course = course; held = held }) → fed keeps scheme (record { course = course; held = held }) [] ≡ record { course = course; held = held }
   nothing_by scheme course held None is between =
       ap (progress_over keeps scheme course) (append-nil held) ∙ over-cut keeps scheme course held is between.cut
   nothing_by scheme course held (Some at) is between =
@@ -71,17 +71,17 @@ module _ {A : Type 0} (keeps : Event → List A) where
       ∙ ap (λ (held : List ℕ). record { course = course; held = held }) (sym none)
 
   -- no bytes do nothing
-  pub fed-nothing : (scheme : Scheme) (course : Course A) (held : List ℕ) → IsBetweenPieces scheme.longest (record { course = course; held = held }) → fed keeps scheme (record { course = course; held = held }) [] ≡ record { course = course; held = held }
+  pub fed-nothing : (scheme : Scheme) (course : Course A) (held : List ℕ) → IsBetweenPieces scheme.format (record { course = course; held = held }) → fed keeps scheme (record { course = course; held = held }) [] ≡ record { course = course; held = held }
   fed-nothing scheme course held between = nothing_by scheme course held course.refused refl between
 
   -- ---- a piece that begins with a command
 
-  pub left_is_short : (functions : DigestFunctions) (header : Header) (course after : Course A) (piece left : List ℕ) → progress_over keeps (scheme_of functions header) course piece ≡ record { course = after; held = left } → length left < 104
+  pub left_is_short : (functions : DigestFunctions) (header : Header) (course after : Course A) (piece left : List ℕ) → progress_over keeps (scheme_of functions header) course piece ≡ record { course = after; held = left } → length left < 106
   left_is_short functions header course after piece left is =
-      cut_is_short left (subst (IsBetweenPieces longest_blob) is (over-between keeps (scheme_of functions header) course piece)).cut
+      cut_is_short header left (subst (IsBetweenPieces (format_of header)) is (over-between keeps (scheme_of functions header) course piece)).cut
 
-  pub left_between : (scheme : Scheme) (course after : Course A) (piece left : List ℕ) → progress_over keeps scheme course piece ≡ record { course = after; held = left } → IsBetweenPieces scheme.longest (record { course = after; held = left })
-  left_between scheme course after piece left is = subst (IsBetweenPieces scheme.longest) is (over-between keeps scheme course piece)
+  pub left_between : (scheme : Scheme) (course after : Course A) (piece left : List ℕ) → progress_over keeps scheme course piece ≡ record { course = after; held = left } → IsBetweenPieces scheme.format (record { course = after; held = left })
+  left_between scheme course after piece left is = subst (IsBetweenPieces scheme.format) is (over-between keeps scheme course piece)
 
   -- behind no held bytes a piece is all that there is
   pub alone : (scheme : Scheme) (course : Course A) (held piece : List ℕ) → held ≡ [] → fed keeps scheme (record { course = course; held = held }) piece ≡ progress_over keeps scheme course piece
@@ -96,8 +96,8 @@ module _ {A : Type 0} (keeps : Event → List A) where
 
   -- ---- the rest of a command that was cut
 
-  pub completed : (scheme : Scheme) (course after : Course A) (held piece nothing : List ℕ) (room len : ℕ) (command : Command)
-      → course.refused ≡ None → IsCommand scheme.longest command → take len (held ++ take room piece) ≡ command_text command
+  pub completed : (scheme : Scheme) (course after : Course A) (held piece nothing : List ℕ) (room len : ℕ) (command : LogCommand)
+      → course.refused ≡ None → IsCommand scheme.format command → take len (held ++ take room piece) ≡ command_text command
       → length held < len → len ≤ length held + room → after ≡ after_command keeps scheme course command → nothing ≡ []
       → record { course = after; held = nothing } ≡ fed keeps scheme (record { course = course; held = held }) (take (len - length held) piece)
   completed scheme course after held piece nothing room len command none is spelled longer within is_after empty =
@@ -112,21 +112,21 @@ module _ {A : Type 0} (keeps : Event → List A) where
       ∙ (sym (over-text keeps scheme course command none is) ∙ ap (progress_over keeps scheme course) joined))
 
   pub malformed_behind : (scheme : Scheme) (course after : Course A) (held piece nothing : List ℕ)
-      → course.refused ≡ None → command_at scheme.longest (held ++ piece) ≡ Err faults.Malformed → after ≡ refuse course refusals.Malformed → nothing ≡ []
+      → course.refused ≡ None → command_at scheme.format (held ++ piece) ≡ Err faults.Malformed → after ≡ refuse course refusals.Malformed → nothing ≡ []
       → record { course = after; held = nothing } ≡ fed keeps scheme (record { course = course; held = held }) piece
   malformed_behind scheme course after held piece nothing none is is_after empty =
       ap (λ (held : List ℕ). record { course = after; held = held }) empty
       ∙ (ap between_commands is_after ∙ sym (over-malformed keeps scheme course (held ++ piece) none is))
 
   pub cut_behind : (scheme : Scheme) (course : Course A) (held piece longer : List ℕ)
-      → course.refused ≡ None → command_at scheme.longest (held ++ piece) ≡ Err faults.Truncated
+      → course.refused ≡ None → command_at scheme.format (held ++ piece) ≡ Err faults.Truncated
       → longer ≡ held ++ piece → record { course = course; held = longer } ≡ fed keeps scheme (record { course = course; held = held }) piece
   cut_behind scheme course held piece longer none is is_longer =
       ap (λ (held : List ℕ). record { course = course; held = held }) is_longer ∙ sym (over-cut keeps scheme course (held ++ piece) none is)
 
   -- where memory was wanting, all is as it was
   pub restored : (scheme : Scheme) (course after : Course A) (held kept more : List ℕ) (n : ℕ)
-      → IsBetweenPieces scheme.longest (record { course = course; held = held }) → after ≡ course → n ≡ length held → kept ≡ take n (held ++ more)
+      → IsBetweenPieces scheme.format (record { course = course; held = held }) → after ≡ course → n ≡ length held → kept ≡ take n (held ++ more)
       → record { course = after; held = kept } ≡ fed keeps scheme (record { course = course; held = held }) []
   restored scheme course after held kept more n between is_after len is =
       let same : kept ≡ held = is ∙ (ap (λ (n : ℕ). take n (held ++ more)) len ∙ take-append_seam held more) in
@@ -136,7 +136,7 @@ module _ {A : Type 0} (keeps : Event → List A) where
 
   -- once a command was refused, what is fed does nothing
   pub refused_stays : (scheme : Scheme) (course : Course A) (held piece : List ℕ) (at : ℕ × Refusal)
-      → IsBetweenPieces scheme.longest (record { course = course; held = held }) → course.refused ≡ Some at
+      → IsBetweenPieces scheme.format (record { course = course; held = held }) → course.refused ≡ Some at
       → record { course = course; held = held } ≡ fed keeps scheme (record { course = course; held = held }) piece
   refused_stays scheme course held piece at between is =
       let none : held ≡ [] = subst (λ (refused : Option (ℕ × Refusal)). IfSome refused (λ at. held ≡ [])) is between.idle in
@@ -145,20 +145,30 @@ module _ {A : Type 0} (keeps : Event → List A) where
 
   -- ---- both, one after the other
 
-  pub fed_both : (scheme : Scheme) (old mid new : Progress A) (piece : List ℕ) (from : ℕ)
-      → mid ≡ fed keeps scheme old (take from piece) → new ≡ fed keeps scheme mid (drop from piece)
-      → new ≡ fed keeps scheme old piece
-  fed_both scheme old mid new piece from first second =
+  -- the scheme is that of the header, which stays
+  same_scheme : (scheme_by : Header → Scheme) (old mid : Progress A) (front more : List ℕ)
+      → mid ≡ fed keeps (scheme_by (header_in old)) old front → fed keeps (scheme_by (header_in mid)) mid more ≡ fed keeps (scheme_by (header_in old)) mid more
+  same_scheme scheme_by old mid front more first =
+      ap (λ (header : Header). fed keeps (scheme_by header) mid more) (ap header_in first ∙ fed-header keeps (scheme_by (header_in old)) old front)
+
+  pub fed_both : (scheme_by : Header → Scheme) (old mid new : Progress A) (piece : List ℕ) (from : ℕ)
+      → mid ≡ fed keeps (scheme_by (header_in old)) old (take from piece) → new ≡ fed keeps (scheme_by (header_in mid)) mid (drop from piece)
+      → new ≡ fed keeps (scheme_by (header_in old)) old piece
+  fed_both scheme_by old mid new piece from first second =
+      let scheme = scheme_by (header_in old) in
       second
+      ∙ same_scheme scheme_by old mid (take from piece) (drop from piece) first
       ∙ (ap (λ (progress : Progress A). fed keeps scheme progress (drop from piece)) first
       ∙ (fed-joined keeps scheme old (take from piece) (drop from piece)
       ∙ ap (fed keeps scheme old) (take-append-drop from piece)))
 
-  pub fed_front : (scheme : Scheme) (old mid new : Progress A) (piece : List ℕ) (from more : ℕ)
-      → mid ≡ fed keeps scheme old (take from piece) → new ≡ fed keeps scheme mid (take more (drop from piece))
-      → new ≡ fed keeps scheme old (take (from + more) piece)
-  fed_front scheme old mid new piece from more first second =
+  pub fed_front : (scheme_by : Header → Scheme) (old mid new : Progress A) (piece : List ℕ) (from more : ℕ)
+      → mid ≡ fed keeps (scheme_by (header_in old)) old (take from piece) → new ≡ fed keeps (scheme_by (header_in mid)) mid (take more (drop from piece))
+      → new ≡ fed keeps (scheme_by (header_in old)) old (take (from + more) piece)
+  fed_front scheme_by old mid new piece from more first second =
+      let scheme = scheme_by (header_in old) in
       second
+      ∙ same_scheme scheme_by old mid (take from piece) (take more (drop from piece)) first
       ∙ (ap (λ (progress : Progress A). fed keeps scheme progress (take more (drop from piece))) first
       ∙ (fed-joined keeps scheme old (take from piece) (take more (drop from piece))
       ∙ ap (fed keeps scheme old) (sym (take-add from more piece))))

@@ -6,11 +6,12 @@ use Rattle.lamport_clocks.specs.Reading.{Reading}
 use Rattle.multiset_sum.specs.declared.part.Part.{Part}
 use Rattle.record_text.specs.declared.operation.Operation.{Operation}
 use Rattle.record_text.specs.declared.refusal.Refusal.{Refusal}
-use Rattle.log_codec.specs.declared.command.Command.{Command}
-use Rattle.log_codec.specs.Command.{command_at}
-use Rattle.log_codec.proofs.CommandKeepsOnLaws.{command_shorter}
+use Rattle.record_text.specs.Format.{LogFormat}
+use Rattle.log_codec.specs.declared.log_command.LogCommand.{LogCommand}
+use Rattle.log_codec.specs.LogCommand.{command_at}
+use Rattle.log_codec.proofs.LogCommandLaws.{command_shorter}
 use Rattle.merkle_records.specs.Scheme.{Scheme}
-use Rattle.verifier_commands.specs.Transition.{Step, transition}
+use Rattle.verifier_commands.specs.VerifierState.{VerifierStep, perform}
 use Rattle.verifier_commands.specs.Machine.{rules_for}
 use Rattle.verifier_commands.specs.Trace.{done_by}
 use Rattle.verifier_run.specs.Kept.{keeps_operations}
@@ -58,8 +59,8 @@ more_left through old new past on =
         (one_of_each-never_falls (sealed_next (clock_of old)) (sealed_next (clock_of new)) on.parts on.hands_out.parts))
 
 -- a step of a course without what was taken
-left_step : (through : ℕ) (scheme : Scheme) (course : Course Operation) (command : Command) (step : Step) → IsPast through course
-    → transition (rules_for scheme course.machine) course.machine.state command ≡ step
+left_step : (through : ℕ) (scheme : Scheme) (course : Course Operation) (command : LogCommand) (step : VerifierStep) → IsPast through course
+    → perform (rules_for scheme course.machine) course.machine.state command ≡ step
     → after_step keeps_operations (left_behind through course) (done_by scheme course.machine step)
     ≡ left_behind through (after_step keeps_operations course (done_by scheme course.machine step))
 unfolding step_out
@@ -68,11 +69,11 @@ left_step through scheme course command (Ok done) past is =
     (step_out keeps_operations operation_epoch operations-of_epoch scheme course command (Ok done) is))
 left_step through scheme course command (Err refusal) past is = refl
 
-command_left : (through : ℕ) (scheme : Scheme) (course : Course Operation) (command : Command) → IsPast through course
+command_left : (through : ℕ) (scheme : Scheme) (course : Course Operation) (command : LogCommand) → IsPast through course
     → after_command keeps_operations scheme (left_behind through course) command ≡ left_behind through (after_command keeps_operations scheme course command)
 unfolding after_command
 command_left through scheme course command past =
-    left_step through scheme course command (transition (rules_for scheme course.machine) course.machine.state command) past refl
+    left_step through scheme course command (perform (rules_for scheme course.machine) course.machine.state command) past refl
 
 over_left_up_to : (count through : ℕ) (scheme : Scheme) (course : Course Operation) (bytes : List ℕ) → length bytes ≤ count → IsPast through course
     → progress_over keeps_operations scheme (left_behind through course) bytes ≡ left_of through (progress_over keeps_operations scheme course bytes)
@@ -81,12 +82,12 @@ over_left_up_to count through scheme course [] enough past =
 over_left_up_to zero through scheme course (byte ∷ bytes) enough past = absurd (omega arith)
 over_left_up_to (suc count) through scheme course (byte ∷ bytes) enough past =
     by_cases (progress_over keeps_operations scheme (left_behind through course) (byte ∷ bytes) ≡ left_of through (progress_over keeps_operations scheme course (byte ∷ bytes)))
-    course.refused (command_at scheme.longest (byte ∷ bytes))
+    course.refused (command_at scheme.format (byte ∷ bytes))
     (λ at e.
     over-refused keeps_operations scheme (left_behind through course) (byte ∷ bytes) at e
     ∙ sym (ap (left_of through) (over-refused keeps_operations scheme course (byte ∷ bytes) at e)))
     (λ command rest none is.
-    let shorter : length rest < length (byte ∷ bytes) = command_shorter scheme.longest (byte ∷ bytes) command rest is in
+    let shorter : length rest < length (byte ∷ bytes) = command_shorter scheme.format (byte ∷ bytes) command rest is in
     let after = after_command keeps_operations scheme course command in
     over-found keeps_operations scheme (left_behind through course) (byte ∷ bytes) command rest none is
     ∙ (ap (λ (c : Course Operation). progress_over keeps_operations scheme c rest) (command_left through scheme course command past)
@@ -143,9 +144,9 @@ in_order-dropped clock some others operations parts stands = record {
 }
 
 -- a run is between two pieces as it was
-pub between-same : (longest : ℕ) (course new : Course Operation) (held : List ℕ) → new.refused ≡ course.refused
-    → IsBetweenPieces longest (record { course = course; held = held }) → IsBetweenPieces longest (record { course = new; held = held })
-between-same longest course new held same between = record {
+pub between-same : (format : LogFormat) (course new : Course Operation) (held : List ℕ) → new.refused ≡ course.refused
+    → IsBetweenPieces format (record { course = course; held = held }) → IsBetweenPieces format (record { course = new; held = held })
+between-same format course new held same between = record {
   cut = between.cut;
   idle = subst (λ (refused : Option (ℕ × Refusal)). IfSome refused (λ at. held ≡ [])) (sym same) between.idle;
 }

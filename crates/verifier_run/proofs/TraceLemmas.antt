@@ -4,10 +4,10 @@ use Rattle.base_words.specs.Traced.{traced, traced_behind}
 use Rattle.multiset_sum.specs.declared.part.Part.{Part}
 use Rattle.record_text.specs.declared.refusal.Refusal.{Refusal}
 use Rattle.record_text.specs.declared.reader.TextFault.TheVariants as faults
-use Rattle.log_codec.specs.declared.command.Command.{Command}
-use Rattle.log_codec.specs.Command.{command_at}
+use Rattle.log_codec.specs.declared.log_command.LogCommand.{LogCommand}
+use Rattle.log_codec.specs.LogCommand.{command_at}
 use Rattle.log_codec.specs.Log.{Log, LogEnd, whole, faulty, with_command, read_log}
-use Rattle.log_codec.proofs.CommandKeepsOnLaws.{command_shorter}
+use Rattle.log_codec.proofs.LogCommandLaws.{command_shorter}
 use Rattle.log_codec.proofs.LogLaws.{read_log-empty, read_log-step, read_log-fault}
 use Rattle.merkle_records.specs.Scheme.{Scheme}
 use Rattle.verifier_commands.specs.Event.{Event}
@@ -64,7 +64,7 @@ module _ {A : Type 0} (keeps : Event → List A) where
       ap ended (over-refused keeps scheme (refuse course refusal) rest (course.machine.accepted, refusal) refl)
       ∙ ap between_commands (stays course (Some (course.machine.accepted, refusal)))
 
-  behind_command : (scheme : Scheme) (course : Course A) (command : Command) (rest : List ℕ) (log : Log)
+  behind_command : (scheme : Scheme) (course : Course A) (command : LogCommand) (rest : List ℕ) (log : Log)
       → ((done : Done × Machine) → ended (progress_over keeps scheme (after_step keeps course (Ok done)) rest) ≡ between_commands (log_further scheme (after_step keeps course (Ok done)) log))
       → ended (progress_over keeps scheme (after_command keeps scheme course command) rest) ≡ between_commands (log_further scheme course (with_command command log))
   unfolding traced after_command
@@ -72,30 +72,30 @@ module _ {A : Type 0} (keeps : Event → List A) where
       behind_step scheme course rest log (performed scheme course.machine command) later
 
   further_up_to : (count : ℕ) (scheme : Scheme) (course : Course A) (bytes : List ℕ) → length bytes ≤ count → course.refused ≡ None
-      → ended (progress_over keeps scheme course bytes) ≡ between_commands (log_further scheme course (read_log scheme.longest bytes))
+      → ended (progress_over keeps scheme course bytes) ≡ between_commands (log_further scheme course (read_log scheme.format bytes))
   further_up_to count scheme course [] enough none =
       ap ended (over-empty keeps scheme course)
       ∙ (ap between_commands (as_open course none ∙ sym (no_commands scheme course whole))
-      ∙ ap (λ (log : Log). between_commands (log_further scheme course log)) (sym (read_log-empty scheme.longest)))
+      ∙ ap (λ (log : Log). between_commands (log_further scheme course log)) (sym (read_log-empty scheme.format)))
   further_up_to zero scheme course (byte ∷ bytes) enough none = absurd (omega arith)
   further_up_to (suc count) scheme course (byte ∷ bytes) enough none =
-      by_cases (ended (progress_over keeps scheme course (byte ∷ bytes)) ≡ between_commands (log_further scheme course (read_log scheme.longest (byte ∷ bytes))))
-      course.refused (command_at scheme.longest (byte ∷ bytes))
+      by_cases (ended (progress_over keeps scheme course (byte ∷ bytes)) ≡ between_commands (log_further scheme course (read_log scheme.format (byte ∷ bytes))))
+      course.refused (command_at scheme.format (byte ∷ bytes))
       (λ at e. absurd (cc))
       (λ command rest none is.
-      let shorter : length rest < length (byte ∷ bytes) = command_shorter scheme.longest (byte ∷ bytes) command rest is in
+      let shorter : length rest < length (byte ∷ bytes) = command_shorter scheme.format (byte ∷ bytes) command rest is in
       ap ended (over-found keeps scheme course (byte ∷ bytes) command rest none is)
-      ∙ (behind_command scheme course command rest (read_log scheme.longest rest)
+      ∙ (behind_command scheme course command rest (read_log scheme.format rest)
       (λ done. further_up_to count scheme (after_step keeps course (Ok done)) rest (omega arith) none)
-      ∙ ap (λ (log : Log). between_commands (log_further scheme course log)) (sym (read_log-step scheme.longest (byte ∷ bytes) command rest is))))
+      ∙ ap (λ (log : Log). between_commands (log_further scheme course log)) (sym (read_log-step scheme.format (byte ∷ bytes) command rest is))))
       (λ none is.
       ap ended (over-malformed keeps scheme course (byte ∷ bytes) none is)
       ∙ (ap between_commands (sym (no_commands scheme course (faulty faults.Malformed)))
-      ∙ ap (λ (log : Log). between_commands (log_further scheme course log)) (sym (read_log-fault scheme.longest (byte ∷ bytes) faults.Malformed (omega arith) is))))
+      ∙ ap (λ (log : Log). between_commands (log_further scheme course log)) (sym (read_log-fault scheme.format (byte ∷ bytes) faults.Malformed (omega arith) is))))
       (λ none is.
       ap ended (over-cut keeps scheme course (byte ∷ bytes) none is)
       ∙ (ap between_commands (sym (no_commands scheme course (faulty faults.Truncated)))
-      ∙ ap (λ (log : Log). between_commands (log_further scheme course log)) (sym (read_log-fault scheme.longest (byte ∷ bytes) faults.Truncated (omega arith) is))))
+      ∙ ap (λ (log : Log). between_commands (log_further scheme course log)) (sym (read_log-fault scheme.format (byte ∷ bytes) faults.Truncated (omega arith) is))))
 
   -- A whole log, from the opening on, comes to the course of its trace.
   pub log_comes_to_its_course : (scheme : Scheme) (machine : Machine) (log : List ℕ) → ended (fed keeps scheme (between_commands (opening_course machine)) log) ≡ between_commands (log_course keeps scheme machine log)

@@ -3,7 +3,7 @@
 use Rattle.std.specs.Prelude.{ℕ, List, [], ◌++◌, Option, Some, None, Result, Ok, Err}
 use Rattle.multiset_sum.specs.declared.part.Part.{Part}
 use Rattle.record_text.specs.declared.refusal.Refusal.{Refusal}
-use Rattle.log_codec.specs.declared.command.Command.{Command}
+use Rattle.log_codec.specs.declared.log_command.LogCommand.{LogCommand}
 use Rattle.merkle_records.specs.Scheme.{Scheme}
 use Rattle.verifier_commands.specs.Event.{Event}
 use Rattle.verifier_commands.specs.Machine.{Machine}
@@ -36,5 +36,5 @@ after_step keeps course (Ok done) = record course {
 after_step keeps course (Err refusal) = refuse course refusal
 
 -- The course after one command more.
-unfoldable pub after_command : {A : Type 0} → (Event → List A) → Scheme → Course A → Command → Course A
+unfoldable pub after_command : {A : Type 0} → (Event → List A) → Scheme → Course A → LogCommand → Course A
 after_command keeps scheme course command = after_step keeps course (performed scheme course.machine command)

@@ -42,7 +42,7 @@ course_of keeps trace end = record {
 -- What the bytes of a log come to, from this verifier on.
 abbrev pub log_course : {A : Type 0} → (Event → List A) → Scheme → Machine → List ℕ → Course A
 log_course keeps scheme machine bytes =
-    course_of keeps (trace scheme machine (read_log scheme.longest bytes).commands) (read_log scheme.longest bytes).end
+    course_of keeps (trace scheme machine (read_log scheme.format bytes).commands) (read_log scheme.format bytes).end
 
 -- what the logs of verifiers come to, the first of which has this number
 abbrev pub courses_keeping : {A : Type 0} → (Event → List A) → Scheme → Header → ℕ → List (List ℕ) → List (Course A)

@@ -6,8 +6,9 @@ use Rattle.record_text.specs.declared.refusal.Refusal.{Refusal}
 use Rattle.record_text.specs.declared.refusal.Refusal.TheVariants as refusals
 use Rattle.record_text.specs.declared.reader.TextFault.TheVariants as faults
 use Rattle.record_text.specs.Fields.{Parsed}
-use Rattle.log_codec.specs.declared.command.Command.{Command}
-use Rattle.log_codec.specs.Command.{command_at}
+use Rattle.record_text.specs.Format.{LogFormat}
+use Rattle.log_codec.specs.declared.log_command.LogCommand.{LogCommand}
+use Rattle.log_codec.specs.LogCommand.{command_at}
 use Rattle.merkle_records.specs.Scheme.{Scheme}
 use Rattle.verifier_commands.specs.Event.{Event}
 use Rattle.verifier_commands.specs.Machine.{opening_machine}
@@ -27,7 +28,7 @@ abbrev pub opening_progress : {A : Type 0} → ℕ → Header → Progress A
 opening_progress number header = between_commands (opening_course (opening_machine number header))
 
 -- what bytes do by what they begin with: a command and more, bytes that are none, or a command that is cut
-abbrev pub progress_behind : {A : Type 0} → Course A → List ℕ → Parsed Command → (Command → List ℕ → Progress A) → Progress A
+abbrev pub progress_behind : {A : Type 0} → Course A → List ℕ → Parsed LogCommand → (LogCommand → List ℕ → Progress A) → Progress A
 progress_behind course bytes (Ok found) more = more found.0 found.1
 progress_behind course bytes (Err faults.Malformed) more = between_commands (refuse course refusals.Malformed)
 progress_behind course bytes (Err faults.Truncated) more = record { course = course; held = bytes }
@@ -43,7 +44,7 @@ unfoldable pub read_up_to : {A : Type 0} → (Event → List A) → ℕ → Sche
 read_up_to keeps zero scheme course bytes = record { course = course; held = bytes }
 read_up_to keeps (suc count) scheme course bytes =
     unless_refused course.refused course
-    (progress_behind course bytes (command_at scheme.longest bytes)
+    (progress_behind course bytes (command_at scheme.format bytes)
     (λ command rest. read_up_to keeps count scheme (after_command keeps scheme course command) rest))
 
 -- the same, of as many commands as the bytes may hold
@@ -68,6 +69,6 @@ abbrev pub weight : {A : Type 0} → Progress A → ℕ
 weight progress = progress.course.machine.accepted + length progress.held
 
 -- Between two pieces the bytes held begin a command that is cut, and a refused course holds none.
-pub record IsBetweenPieces {A : Type 0} (longest : ℕ) (progress : Progress A) : Type 0 where
-  pub cut : command_at longest progress.held ≡ Err faults.Truncated
+pub record IsBetweenPieces {A : Type 0} (format : LogFormat) (progress : Progress A) : Type 0 where
+  pub cut : command_at format progress.held ≡ Err faults.Truncated
   pub idle : IfSome progress.course.refused (λ refused. progress.held ≡ [])

@@ -2,14 +2,12 @@
 ghost use Rattle.std.specs.Prelude.{◌≡◌, ◌<◌, ◌^◌, ℕ, List, IfOk, IfErr, Err};
 ghost use Rattle.std.specs.List.{AllByRecursion};
 ghost use Rattle.std.specs.Option.{option_to_list};
-ghost use Rattle.record_text.specs.Longest.{longest_of};
-ghost use Rattle.log_codec.specs.Command.{IsCommand};
 ghost use Rattle.merkle_records.specs.Scheme.{scheme_of};
 ghost use Rattle.verifier_commands.specs.Event.{Event};
 ghost use Rattle.verifier_commands.specs.Trace.{performed};
 ghost use Rattle.verifier_run.specs.Kept.{operation_in, part_in, Yields};
 
-use log_codec::Command;
+use log_codec::LogCommand;
 use multiset_sum::Part;
 use record_hash::Digests;
 use record_text::{Operation, Refusal};
@@ -34,9 +32,8 @@ pub trait Kept: Drop {
     fn perform<D: Digests>(
         verifier: &mut Verifier,
         d: &D,
-        command: &Command,
+        command: &LogCommand,
     ) -> Result<Yield<Self>, Refusal>
-        requires kind { IsCommand (longest_of verifier.old.header) command.now }
         requires room { verifier.old.accepted < 2 ^ 63 }
         ensures yields { IfOk result (λ yield. Yields keeps yield
             (performed (scheme_of (D.functions d.now) verifier.old.header) verifier.old command.now) verifier.new) }
@@ -63,10 +60,12 @@ impl Kept for Operation {
     fn perform<D: Digests>(
         verifier: &mut Verifier,
         d: &D,
-        command: &Command,
+        command: &LogCommand,
     ) -> Result<Yield<Operation>, Refusal> {
-        let effect = verifier.step(d, command)?;
-        Ok(operation_or_part(effect))
+        match verifier.step_any(d, command) {
+            Ok(effect) => Ok(operation_or_part(effect)),
+            Err(refusal) => Err(refusal),
+        }
     }
 }
 

@@ -12,7 +12,7 @@ use crate::tracer::Tracer;
 use arrayvec::ArrayVec;
 use base_words::Memory;
 use lamport_clocks::Header;
-use log_codec::{Decoded, LONGEST_COMMAND_TEXT, read};
+use log_codec::{Decoded, LONGEST_COMMAND_TEXT, read_command};
 use multiset_sum::Part;
 use record_hash::Digests;
 use record_text::{Operation, Refusal};
@@ -33,14 +33,14 @@ pub struct Run<T: Kept = Operation> {
 }
 
 impl<T: Kept> Model for Run<T> {
-    ghost use Rattle.record_text.specs.Longest.{longest_of};
+    ghost use Rattle.record_text.specs.Format.{format_of};
     ghost use Rattle.verifier_run.specs.Progress.{Progress, IsBetweenPieces};
 
     ghost Value = { Progress T };
 
     ghost view = { λ r. record { course = r.tracer; held = r.held.items } };
 
-    ghost invariant = { λ r. IsBetweenPieces (longest_of r.tracer.machine.header) (record { course = r.tracer; held = r.held.items }) };
+    ghost invariant = { λ r. IsBetweenPieces (format_of r.tracer.machine.header) (record { course = r.tracer; held = r.held.items }) };
 }
 
 impl<T: Kept> Run<T> {
@@ -108,7 +108,7 @@ impl<T: Kept> Run<T> {
         let held = self.held.len();
         let room = self.held.remaining_capacity().min(piece.len());
         append(&mut self.held, front(piece, room));
-        match read(self.held.as_slice()) {
+        match read_command(self.tracer.header(), self.held.as_slice()) {
             Decoded::Read(command, len) => {
                 let Ok(()) = self.tracer.apply(d, &command) else {
                     self.held.truncate(held);
@@ -231,7 +231,7 @@ fn follow<T: Kept, D: Digests>(
 {
     let mut taken = 0;
     while tracer.refused().is_none() {
-        match read(behind(bytes, taken)) {
+        match read_command(tracer.header(), behind(bytes, taken)) {
             Decoded::Read(command, len) => match tracer.apply(d, &command) {
                 Ok(()) => taken += len,
                 Err(Memory) => return Err(FeedStop { taken }),

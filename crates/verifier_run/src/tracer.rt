@@ -2,8 +2,6 @@
 ghost use Rattle.std.specs.Option.{option_to_list};
 ghost use Rattle.std.specs.Prelude.{◌≡◌, ◌+◌, ◌<◌, ◌≤◌, ◌^◌, ◌++◌, length, take, vec_len, vec_capacity, take_while, nat_le, IfOk, OnOk, OnErr};
 ghost use Rattle.lamport_clocks.specs.Header.{IsHeader};
-ghost use Rattle.record_text.specs.Longest.{longest_of};
-ghost use Rattle.log_codec.specs.Command.{IsCommand};
 ghost use Rattle.merkle_records.specs.Scheme.{scheme_of};
 ghost use Rattle.verifier_commands.specs.Machine.{opening_machine};
 ghost use Rattle.verifier_run.specs.Course.{Course, opening_course, refuse, after_command};
@@ -14,7 +12,7 @@ use crate::kept::Kept;
 use crate::queue::Queue;
 use base_words::Memory;
 use lamport_clocks::Header;
-use log_codec::Command;
+use log_codec::LogCommand;
 use multiset_sum::Part;
 use record_hash::Digests;
 use record_text::{Operation, Refusal};
@@ -65,6 +63,13 @@ impl<T: Kept> Tracer<T> {
         self.items.allocator()
     }
 
+    /// The header of its bundle.
+    pub(crate) fn header(&self) -> &Header
+        ensures value { result.now ≡ self.now.machine.header }
+    {
+        self.verifier.header()
+    }
+
     /// The number of the refused command, from 0, and why.
     pub(crate) fn refused(&self) -> Option<(u64, Refusal)>
         ensures value { result ≡ self.now.refused }
@@ -106,8 +111,7 @@ impl<T: Kept> Tracer<T> {
 
     /// Takes one command. For want of memory nothing of it is done.
     #[tactic(auto, unfolding(crate::specs::Course::after_command))]
-    pub(crate) fn apply<D: Digests>(&mut self, d: &D, command: &Command) -> Result<(), Memory>
-        requires kind { IsCommand (longest_of self.old.machine.header) command.now }
+    pub(crate) fn apply<D: Digests>(&mut self, d: &D, command: &LogCommand) -> Result<(), Memory>
         requires room { self.old.machine.accepted < 2 ^ 63 }
         ensures ok { OnOk result (self.new ≡ after_command T.keeps (scheme_of (D.functions d.now) self.old.machine.header) self.old command.now) }
         ensures err { OnErr result (self.new ≡ self.old) }

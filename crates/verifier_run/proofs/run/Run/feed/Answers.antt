@@ -9,8 +9,8 @@ pub returns-then-is_some-clause-ok : goal.returns-then-is_some-clause-ok
 returns-then-is_some-clause-ok g c =
     let told = refused_told c.self.inside.tracer.refused c.refused.result c.is_some.result c.refused.ensures.value c.is_some.ensures c.if-is_some.true in
     sym c.self.view_is
-    ∙ (refused_stays g.T.Kept.keeps (scheme_of (g.D.Digests.functions c.args.d.now) c.args.self.now.course.machine.header) c.self.inside.tracer c.self.inside.held.items c.args.piece.now told.0 c.self.invariant told.1
-    ∙ ap (λ (progress : Progress g.row.T.Denot). fed g.T.Kept.keeps (scheme_of (g.D.Digests.functions c.args.d.now) c.args.self.now.course.machine.header) progress c.args.piece.now) c.self.view_is)
+    ∙ (refused_stays g.T.Kept.keeps (scheme_of (g.D.Digests.functions c.args.d.now) c.self.inside.tracer.machine.header) c.self.inside.tracer c.self.inside.held.items c.args.piece.now told.0 c.self.invariant told.1
+    ∙ ap (λ (progress : Progress g.row.T.Denot). fed g.T.Kept.keeps (scheme_of (g.D.Digests.functions c.args.d.now) progress.course.machine.header) progress c.args.piece.now) c.self.view_is)
 
 pub returns-in_err-from-clause-weight : goal.returns-in_err-from-clause-weight
 returns-in_err-from-clause-weight g c =
@@ -30,23 +30,23 @@ go_on-requires-clause-room g c =
 
 pub returns-in-Ok-clause-ok : goal.returns-in-Ok-clause-ok
 returns-in-Ok-clause-ok g c =
-    fed_both g.T.Kept.keeps (scheme_of (g.D.Digests.functions c.args.d.now) c.args.self.now.course.machine.header) c.args.self.now c.complete.new.self c.go_on.new.self c.args.piece.now c.in_ok-from.from c.in_ok-from.ensures.ok
-    (c.in-Ok.ensures.ok ∙ ap (fed g.T.Kept.keeps (scheme_of (g.D.Digests.functions c.args.d.now) c.args.self.now.course.machine.header) c.complete.new.self) c.behind.ensures.value)
+    fed_both g.T.Kept.keeps (scheme_of (g.D.Digests.functions c.args.d.now)) c.args.self.now c.complete.new.self c.go_on.new.self c.args.piece.now c.in_ok-from.from c.in_ok-from.ensures.ok
+    (c.in-Ok.ensures.ok ∙ ap (fed g.T.Kept.keeps (scheme_of (g.D.Digests.functions c.args.d.now) c.complete.new.self.course.machine.header) c.complete.new.self) c.behind.ensures.value)
 
 pub returns-in-Ok-clause-weight : goal.returns-in-Ok-clause-weight
 returns-in-Ok-clause-weight g c =
     weight_all g.T.Kept.keeps (scheme_of (g.D.Digests.functions c.args.d.now) c.args.self.now.course.machine.header) c.args.self.now c.go_on.new.self c.args.piece.now
-    (fed_both g.T.Kept.keeps (scheme_of (g.D.Digests.functions c.args.d.now) c.args.self.now.course.machine.header) c.args.self.now c.complete.new.self c.go_on.new.self c.args.piece.now c.in_ok-from.from c.in_ok-from.ensures.ok
-    (c.in-Ok.ensures.ok ∙ ap (fed g.T.Kept.keeps (scheme_of (g.D.Digests.functions c.args.d.now) c.args.self.now.course.machine.header) c.complete.new.self) c.behind.ensures.value))
+    (fed_both g.T.Kept.keeps (scheme_of (g.D.Digests.functions c.args.d.now)) c.args.self.now c.complete.new.self c.go_on.new.self c.args.piece.now c.in_ok-from.from c.in_ok-from.ensures.ok
+    (c.in-Ok.ensures.ok ∙ ap (fed g.T.Kept.keeps (scheme_of (g.D.Digests.functions c.args.d.now) c.complete.new.self.course.machine.header) c.complete.new.self) c.behind.ensures.value))
 
 pub returns-in-Err-clause-stop : goal.returns-in-Err-clause-stop
 returns-in-Err-clause-stop g c =
-    fed_front g.T.Kept.keeps (scheme_of (g.D.Digests.functions c.args.d.now) c.args.self.now.course.machine.header) c.args.self.now c.complete.new.self c.go_on.new.self c.args.piece.now c.in_ok-from.from c.in-Err.stop.taken c.in_ok-from.ensures.ok
-    (c.in-Err.ensures.stop ∙ ap (λ (bytes : List ℕ). fed g.T.Kept.keeps (scheme_of (g.D.Digests.functions c.args.d.now) c.args.self.now.course.machine.header) c.complete.new.self (take c.in-Err.stop.taken bytes)) c.behind.ensures.value)
+    fed_front g.T.Kept.keeps (scheme_of (g.D.Digests.functions c.args.d.now)) c.args.self.now c.complete.new.self c.go_on.new.self c.args.piece.now c.in_ok-from.from c.in-Err.stop.taken c.in_ok-from.ensures.ok
+    (c.in-Err.ensures.stop ∙ ap (λ (bytes : List ℕ). fed g.T.Kept.keeps (scheme_of (g.D.Digests.functions c.args.d.now) c.complete.new.self.course.machine.header) c.complete.new.self (take c.in-Err.stop.taken bytes)) c.behind.ensures.value)
 
 pub returns-in-Err-clause-weight : goal.returns-in-Err-clause-weight
 returns-in-Err-clause-weight g c =
     let most = weight_front g.T.Kept.keeps (scheme_of (g.D.Digests.functions c.args.d.now) c.args.self.now.course.machine.header) c.args.self.now c.go_on.new.self c.args.piece.now (c.in_ok-from.from + c.in-Err.stop.taken)
-    (fed_front g.T.Kept.keeps (scheme_of (g.D.Digests.functions c.args.d.now) c.args.self.now.course.machine.header) c.args.self.now c.complete.new.self c.go_on.new.self c.args.piece.now c.in_ok-from.from c.in-Err.stop.taken c.in_ok-from.ensures.ok
-    (c.in-Err.ensures.stop ∙ ap (λ (bytes : List ℕ). fed g.T.Kept.keeps (scheme_of (g.D.Digests.functions c.args.d.now) c.args.self.now.course.machine.header) c.complete.new.self (take c.in-Err.stop.taken bytes)) c.behind.ensures.value)) in
+    (fed_front g.T.Kept.keeps (scheme_of (g.D.Digests.functions c.args.d.now)) c.args.self.now c.complete.new.self c.go_on.new.self c.args.piece.now c.in_ok-from.from c.in-Err.stop.taken c.in_ok-from.ensures.ok
+    (c.in-Err.ensures.stop ∙ ap (λ (bytes : List ℕ). fed g.T.Kept.keeps (scheme_of (g.D.Digests.functions c.args.d.now) c.complete.new.self.course.machine.header) c.complete.new.self (take c.in-Err.stop.taken bytes)) c.behind.ensures.value)) in
     omega (arith, most)

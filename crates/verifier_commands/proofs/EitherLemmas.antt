@@ -1,0 +1,47 @@
+-- What a state of one kind follows, the verifier's state of either kind does.
+use Rattle.std.proofs.Common.{◌≡◌, Result, Ok, Err, refl, sym, ap, subst}
+use Rattle.base_words.specs.Follows.{Follows}
+use Rattle.record_text.specs.declared.refusal.Refusal.{Refusal}
+use Rattle.log_codec.specs.declared.command.Command.{Command}
+use Rattle.log_codec.specs.declared.slot_command.SlotCommand.{SlotCommand}
+use Rattle.log_codec.specs.declared.log_command.LogCommand.TheVariants.{ByPath, BySlot}
+use Rattle.verifier_commands.specs.declared.state.State.{State}
+use Rattle.verifier_commands.specs.declared.slot_state.SlotState.{SlotState}
+use Rattle.verifier_commands.specs.declared.either_state.EitherState.{EitherState}
+use Rattle.verifier_commands.specs.declared.either_state.EitherState.TheVariants as states
+use Rattle.verifier_commands.specs.declared.outcome.Outcome.{Outcome}
+use Rattle.verifier_commands.specs.Outcome.{told}
+use Rattle.verifier_commands.specs.Transition.{Rules, Step, transition}
+use Rattle.verifier_commands.specs.SlotTransition.{SlotStep, slot_transition}
+use Rattle.verifier_commands.specs.VerifierState.{path_state, slot_state, state_of, path_step, slot_step, perform}
+
+-- a step with its state seen as one of another kind
+abbrev seen_as : {A E S T : Type 0} → (S → T) → Result (A × S) E → Result (A × T) E
+seen_as f (Ok done) = Ok (done.0, f done.1)
+seen_as f (Err refusal) = Err refusal
+
+follows_as : {A E S T : Type 0} (f : S → T) (result : Result A E) (old new : S) (step : Result (A × S) E) → Follows result old new step → Follows result (f old) (f new) (seen_as f step)
+follows_as f (Ok effect) old new step is = ap (seen_as f) is
+follows_as f (Err refusal) old new step is = (ap (seen_as f) is.0, ap f is.1)
+
+told_path : (step : Step) → seen_as path_state (told step) ≡ told (path_step step)
+told_path (Ok done) = refl
+told_path (Err refusal) = refl
+
+told_slot : (step : SlotStep) → seen_as slot_state (told step) ≡ told (slot_step step)
+told_slot (Ok done) = refl
+told_slot (Err refusal) = refl
+
+pub follows_path : (rules : Rules) (command : Command) (whole : EitherState) (old new : State) (result : Result Outcome Refusal) → whole ≡ states.ByPath old → Follows result old new (told (transition rules old command))
+    → Follows result (state_of whole) (path_state new) (told (perform rules (state_of whole) (ByPath command)))
+follows_path rules command whole old new result is follows =
+    subst (λ (w : EitherState). Follows result (state_of w) (path_state new) (told (perform rules (state_of w) (ByPath command)))) (sym is)
+    (subst (Follows result (path_state old) (path_state new)) (told_path (transition rules old command))
+    (follows_as path_state result old new (told (transition rules old command)) follows))
+
+pub follows_slot : (rules : Rules) (command : SlotCommand) (whole : EitherState) (old new : SlotState) (result : Result Outcome Refusal) → whole ≡ states.BySlot old → Follows result old new (told (slot_transition rules old command))
+    → Follows result (state_of whole) (slot_state new) (told (perform rules (state_of whole) (BySlot command)))
+follows_slot rules command whole old new result is follows =
+    subst (λ (w : EitherState). Follows result (state_of w) (slot_state new) (told (perform rules (state_of w) (BySlot command)))) (sym is)
+    (subst (Follows result (slot_state old) (slot_state new)) (told_slot (slot_transition rules old command))
+    (follows_as slot_state result old new (told (slot_transition rules old command)) follows))

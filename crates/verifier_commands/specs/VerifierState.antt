@@ -1,0 +1,92 @@
+-- The state of a verifier of any version: it keeps entries by path, where commands name paths, or slots.
+use Rattle.std.specs.Prelude.{ℕ, Bool, true, false, List, Option, None, Result, Ok, Err}
+use Rattle.lamport_clocks.specs.declared.header.Header.{Header}
+use Rattle.lamport_clocks.specs.Header.{names_paths}
+use Rattle.lamport_clocks.specs.Reading.{Reading}
+use Rattle.lamport_clocks.specs.Clock.{opening_reading}
+use Rattle.record_text.specs.declared.refusal.Refusal.{Refusal}
+use Rattle.record_text.specs.declared.refusal.Refusal.TheVariants as refusals
+use Rattle.log_codec.specs.declared.log_command.LogCommand.{LogCommand}
+use Rattle.log_codec.specs.declared.log_command.LogCommand.TheVariants.{ByPath, BySlot}
+use Rattle.verifier_cache.specs.declared.entry.Entry.{Entry}
+use Rattle.verifier_cache.specs.Cache.{Held, entry_of}
+use Rattle.verifier_cache.specs.Slots.{Slots, entry_at}
+use Rattle.verifier_commands.specs.declared.state.State.{State}
+use Rattle.verifier_commands.specs.declared.slot_state.SlotState.{SlotState}
+use Rattle.verifier_commands.specs.declared.either_state.EitherState.{EitherState}
+use Rattle.verifier_commands.specs.declared.either_state.EitherState.TheVariants as states
+use Rattle.verifier_commands.specs.Change.{Change}
+use Rattle.verifier_commands.specs.State.{opening}
+use Rattle.verifier_commands.specs.Transition.{Rules, Step, transition}
+use Rattle.verifier_commands.specs.SlotTransition.{SlotStep, slot_transition, slot_opening}
+
+-- a cache of entries by path, or of slots
+pub data AnyCache : Type 0 where
+  by_path : Held → AnyCache
+  by_slot : Slots → AnyCache
+
+-- a cache of either kind, and the clock
+pub record VerifierState : Type 0 where
+  pub cache : AnyCache
+  pub clock : Reading
+
+-- a state with entries by path, and one with slots
+abbrev pub path_state : State → VerifierState
+path_state state = record { cache = by_path state.cache; clock = state.clock }
+
+abbrev pub slot_state : SlotState → VerifierState
+slot_state state = record { cache = by_slot state.slots; clock = state.clock }
+
+-- the state of the code, which is of either kind
+abbrev pub state_of : EitherState → VerifierState
+state_of (states.ByPath state) = path_state state
+state_of (states.BySlot state) = slot_state state
+
+-- the entry of a path, where entries are by path; and that of a slot, where there are slots
+abbrev pub path_entry : AnyCache → List Bool → Option Entry
+path_entry (by_path held) path = entry_of path held.entries
+path_entry (by_slot slots) path = None
+
+abbrev pub slot_entry : AnyCache → ℕ → Option Entry
+slot_entry (by_path held) slot = None
+slot_entry (by_slot slots) slot = entry_at slots slot
+
+-- ---- one command
+
+-- what was done and the state after it, or why nothing was
+abbrev pub VerifierStep : Type 0
+VerifierStep = Result (Change × VerifierState) Refusal
+
+-- a step of a state with entries by path, and of one with slots
+abbrev pub path_step : Step → VerifierStep
+path_step (Ok done) = Ok (done.0, path_state done.1)
+path_step (Err refusal) = Err refusal
+
+abbrev pub slot_step : SlotStep → VerifierStep
+slot_step (Ok done) = Ok (done.0, slot_state done.1)
+slot_step (Err refusal) = Err refusal
+
+-- what a command does to a cache of its kind; to one of the other kind it is no command
+abbrev pub perform_on : Rules → AnyCache → Reading → LogCommand → VerifierStep
+perform_on rules (by_path held) clock (ByPath command) = path_step (transition rules (record { cache = held; clock = clock }) command)
+perform_on rules (by_path held) clock (BySlot command) = Err refusals.Malformed
+perform_on rules (by_slot slots) clock (ByPath command) = Err refusals.Malformed
+perform_on rules (by_slot slots) clock (BySlot command) = slot_step (slot_transition rules (record { slots = slots; clock = clock }) command)
+
+-- What each command does, or the first refusal.
+abbrev pub perform : Rules → VerifierState → LogCommand → VerifierStep
+perform rules state command = perform_on rules state.cache state.clock command
+
+-- ---- before the first command
+
+-- what is cached at the start, where commands name paths and where they name slots
+abbrev pub opening_cache : Bool → ℕ → Header → AnyCache
+opening_cache true number header = by_path (opening number header).cache
+opening_cache false number header = by_slot (slot_opening number header).slots
+
+-- the state of the verifier of this number before its first command: its kind is that of the header's commands
+abbrev pub first_state : ℕ → Header → VerifierState
+first_state number header = record {
+  cache = opening_cache (names_paths header) number header;
+  clock = opening_reading header.first header.end;
+}
