@@ -1,37 +1,28 @@
--- What an accepted command did for an audit is what its verifier's cache told before it.
-use Rattle.std.proofs.Common.{◌≡◌, ℕ, Bool, true, false, not, nat_le, if◌then◌else◌, List, [], ◌∷◌, Option, Some, None, is_some, Result, Ok, refl, sym, ◌∙◌, ap}
+-- What an add, an evict or a deferral did for an audit is what the entries told before it.
+use Rattle.std.proofs.Common.{◌≡◌, ℕ, Bool, true, false, if◌then◌else◌, List, [], ◌∷◌, Option, Some, None, Result, Ok, refl, sym, ◌∙◌, ap}
 use Rattle.std.specs.Option.{option_map, option_to_list}
 use Rattle.std.proofs.lemmas.Bool.{true≢false}
-use Rattle.std.proofs.lemmas.Result.{IfOk-at_ok}
-use Rattle.tree_keys.specs.Path.{side, is_data}
+use Rattle.tree_keys.specs.Path.{side}
 use Rattle.tree_keys.proofs.PathLaws.{same_path-apart}
-use Rattle.lamport_clocks.specs.Clock.{received, sent, advanced}
 use Rattle.base_words.specs.Steps.{need}
-use Rattle.base_words.proofs.StepLaws.{test-ok}
 use Rattle.record_text.specs.declared.value.Node.{Node}
 use Rattle.record_text.specs.declared.value.Pointer.{Pointer}
 use Rattle.record_text.specs.declared.value.Value.{Value}
 use Rattle.record_text.specs.declared.refusal.Refusal.{Refusal}
-use Rattle.record_text.specs.Same.{same_value}
 use Rattle.record_text.specs.Value.{node_side}
-use Rattle.log_codec.specs.declared.command.Command.{Command}
-use Rattle.log_codec.specs.declared.command.Command.TheVariants.{AddM, EvictM, AddB, EvictB, EvictBM, Get, Put, NextEpoch}
 use Rattle.verifier_cache.specs.declared.entry.Entry.{Entry}
-use Rattle.verifier_cache.specs.Entry.{has_kid}
-use Rattle.verifier_cache.specs.Cache.{entry_of}
 use Rattle.verifier_commands.specs.declared.changes.Family.{Family}
-use Rattle.verifier_commands.specs.declared.state.State.{State}
 use Rattle.verifier_commands.specs.Change.{Change, did_add_m}
-use Rattle.verifier_commands.specs.Changes.{node_of, above, above_on, leads_to, add_under, evict_under, defer_under, is_by_stamp}
-use Rattle.verifier_commands.specs.Transition.{Rules, is_root, is_full, transition}
+use Rattle.verifier_commands.specs.Changes.{node_of, above, above_on, leads_to, add_under}
+use Rattle.verifier_commands.specs.Transition.{Rules}
 use Rattle.soundness.specs.Clash.{is_known}
 use Rattle.soundness.proofs.FamilyLaws.{IsAdd, on_empty, on_same, on_split, IsAdded, added_how}
-use Rattle.verifier_commands.proofs.InvertLaws.{need-ok, and_then-ok, timed-ok}
+use Rattle.verifier_commands.proofs.InvertLaws.{need-ok}
 use Rattle.tree_keys.proofs.SideLaws.{above_apart}
 use Rattle.collision_exhibit.specs.declared.audit_event.AuditChange.{AuditChange}
 use Rattle.collision_exhibit.specs.declared.audit_event.AuditChange.TheVariants as audits
 use Rattle.collision_exhibit.specs.AuditEvent.{audit_changes_by}
-use Rattle.collision_exhibit.specs.AuditChange.{added_under, evicted_m, evicted_with, audit_change_of}
+use Rattle.collision_exhibit.specs.AuditChange.{added_under}
 
 -- ---- a child that joins
 
@@ -78,24 +69,24 @@ joined_told path value child true kept at_path =
     ap (λ (k : List Bool). audits.AddM k child.value ∷ []) at_path ∙ ap (λ (v : Value). audits.AddM path v ∷ []) (kept refl)
 joined_told path value child false kept at_path = refl
 
--- ---- a command
+-- ---- what was told
 
 -- what was done is what was told
-abbrev DidAsTold : Option AuditChange → Change × State → Type 0
+abbrev pub DidAsTold : {S : Type 0} → Option AuditChange → Change × S → Type 0
 DidAsTold told done = audit_changes_by done.0 ≡ option_to_list told
 
 -- a fact of an accepted step that needed an option: of the value that was there
-with_needed : {A X : Type 0} (P : Type 0) (option : Option A) (refusal : Refusal) (next : A → Result X Refusal) (answer : X)
+pub with_needed : {A X : Type 0} (P : Type 0) (option : Option A) (refusal : Refusal) (next : A → Result X Refusal) (answer : X)
     → need option refusal next ≡ Ok answer → ((value : A) → option ≡ Some value → next value ≡ Ok answer → P) → P
 with_needed P option refusal next answer is go =
     let found = need-ok option refusal next answer is in go found.0 found.1 found.2
 
 -- the entry of a path is there, and this is told of it
-told_of : (make : Entry → AuditChange) (found : Option Entry) (entry : Entry) → found ≡ Some entry → make entry ∷ [] ≡ option_to_list (option_map make found)
+pub told_of : (make : Entry → AuditChange) (found : Option Entry) (entry : Entry) → found ≡ Some entry → make entry ∷ [] ≡ option_to_list (option_map make found)
 told_of make found entry is = sym (ap (λ (o : Option Entry). option_to_list (option_map make o)) is)
 
 -- a family that is an add of a path under its holder is told
-family_told : (rules : Rules) (path : List Bool) (value : Value) (found : Option Entry) (holder : Entry) (family : Family) → found ≡ Some holder
+pub family_told : (rules : Rules) (path : List Bool) (value : Value) (found : Option Entry) (holder : Entry) (family : Family) → found ≡ Some holder
     → add_under rules.scheme.digest holder path value ≡ Ok family
     → audit_changes_by (did_add_m holder family.parent family.child) ≡ option_to_list (added_under found path value)
 family_told rules path value found holder family there is =
@@ -103,57 +94,3 @@ family_told rules path value found holder family there is =
     ap (λ (k : List Bool). if is_known (above holder k) k then audits.AddM family.child.path family.child.value ∷ [] else []) added.at_path
     ∙ joined_told path value family.child (is_known (above holder path) path) added.kept added.at_path
     ∙ sym (ap (λ (o : Option Entry). option_to_list (added_under o path value)) there)
-
--- An accepted command did for an audit what the cache told before it.
-pub deed_told : (rules : Rules) (state : State) (command : Command) (done : Change × State)
-    → transition rules state command ≡ Ok done → audit_changes_by done.0 ≡ option_to_list (audit_change_of rules.number state.cache.entries command)
-deed_told rules state (AddM path value parent) done is =
-    let inner = test-ok (is_root path) _ _ done is in
-    let fresh = test-ok (is_some (entry_of path state.cache.entries)) _ _ done inner.1 in
-    let room = test-ok (is_full state) _ _ done fresh.1 in
-    let told = audit_change_of rules.number state.cache.entries (AddM path value parent) in
-    with_needed (DidAsTold told done) (entry_of parent state.cache.entries) _ _ done room.1 (λ holder there next.
-    let family = and_then-ok (add_under rules.scheme.digest holder path value) _ done next in
-    IfOk-at_ok (DidAsTold told) family.2 (family_told rules path value (entry_of parent state.cache.entries) holder family.0 there family.1))
-deed_told rules state (EvictM path parent) done is =
-    let inner = test-ok (is_root path) _ _ done is in
-    let told = audit_change_of rules.number state.cache.entries (EvictM path parent) in
-    with_needed (DidAsTold told done) (entry_of path state.cache.entries) _ _ done inner.1 (λ child there next.
-    with_needed (DidAsTold told done) (entry_of parent state.cache.entries) _ _ done next (λ holder here last.
-    let after = and_then-ok (evict_under rules.scheme.digest holder child) _ done last in
-    IfOk-at_ok (DidAsTold told) after.2 (told_of evicted_m (entry_of path state.cache.entries) child there)))
-deed_told rules state (AddB path value stamp verifier) done is =
-    let inner = test-ok (is_root path) _ _ done is in
-    let fresh = test-ok (is_some (entry_of path state.cache.entries)) _ _ done inner.1 in
-    let room = test-ok (is_full state) _ _ done fresh.1 in
-    let known = test-ok (nat_le rules.verifiers verifier) _ _ done room.1 in
-    let clock = timed-ok (received state.clock stamp) _ done known.1 in
-    IfOk-at_ok (DidAsTold (audit_change_of rules.number state.cache.entries (AddB path value stamp verifier))) clock.2 refl
-deed_told rules state (EvictB path stamp) done is =
-    let inner = test-ok (is_root path) _ _ done is in
-    let told = audit_change_of rules.number state.cache.entries (EvictB path stamp) in
-    with_needed (DidAsTold told done) (entry_of path state.cache.entries) _ _ done inner.1 (λ child there next.
-    let lone = test-ok (has_kid child) _ _ done next in
-    let held = test-ok (not (is_by_stamp child.hold)) _ _ done lone.1 in
-    let clock = timed-ok (sent state.clock stamp) _ done held.1 in
-    IfOk-at_ok (DidAsTold told) clock.2 (told_of (evicted_with rules.number stamp) (entry_of path state.cache.entries) child there))
-deed_told rules state (EvictBM path parent stamp) done is =
-    let inner = test-ok (is_root path) _ _ done is in
-    let told = audit_change_of rules.number state.cache.entries (EvictBM path parent stamp) in
-    with_needed (DidAsTold told done) (entry_of path state.cache.entries) _ _ done inner.1 (λ child there next.
-    with_needed (DidAsTold told done) (entry_of parent state.cache.entries) _ _ done next (λ holder here last.
-    let after = and_then-ok (defer_under holder child) _ done last in
-    let clock = timed-ok (sent state.clock stamp) _ done after.2 in
-    IfOk-at_ok (DidAsTold told) clock.2 (told_of (evicted_with rules.number stamp) (entry_of path state.cache.entries) child there)))
-deed_told rules state (Get path value) done is =
-    with_needed (DidAsTold None done) (entry_of path state.cache.entries) _ _ done is (λ entry there next.
-    let data_path = test-ok (not (is_data path)) _ _ done next in
-    let same = test-ok (not (same_value entry.value value)) _ _ done data_path.1 in
-    IfOk-at_ok (DidAsTold None) same.1 refl)
-deed_told rules state (Put path value) done is =
-    with_needed (DidAsTold None done) (entry_of path state.cache.entries) _ _ done is (λ entry there next.
-    let data_path = test-ok (not (is_data path)) _ _ done next in
-    IfOk-at_ok (DidAsTold None) data_path.1 refl)
-deed_told rules state NextEpoch done is =
-    let turn = timed-ok (advanced state.clock) _ done is in
-    IfOk-at_ok (DidAsTold None) turn.2 refl

@@ -1,6 +1,7 @@
 -- How what an audit shows is proved, in reading order.
 mod AuditEventLemmas
 mod AuditChangeLemmas
+mod CommandLemmas
 mod PerformLemmas
 mod OrderedLemmas
 mod ElementLemmas

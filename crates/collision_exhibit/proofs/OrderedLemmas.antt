@@ -21,22 +21,22 @@ use Rattle.collision_exhibit.specs.Audited.{audited_courses, audit_events_among}
 module _ (scheme : Scheme) (header : Header) where
   -- the audit events of logs, the first of which is of the verifier of this number
   abbrev pub audit_events_behind : ℕ → List (List ℕ) → List AuditEvent
-  audit_events_behind number logs = audit_events_in (all_events (histories_from scheme header number (commands_of scheme.longest logs)))
+  audit_events_behind number logs = audit_events_in (all_events (histories_from scheme header number (commands_of scheme.format logs)))
 
   -- the audit events of one log and of those behind it
   one_log : (number : ℕ) (log : List ℕ) (logs : List (List ℕ))
       → audit_events_behind number (log ∷ logs)
-      ≡ audit_events_in (log_events scheme header number (read_log scheme.longest log).commands) ++ audit_events_behind (suc number) logs
+      ≡ audit_events_in (log_events scheme header number (read_log scheme.format log).commands) ++ audit_events_behind (suc number) logs
   one_log number log logs =
-      flat_map-append audit_events_by (log_events scheme header number (read_log scheme.longest log).commands)
-      (all_events (histories_from scheme header (suc number) (commands_of scheme.longest logs)))
+      flat_map-append audit_events_by (log_events scheme header number (read_log scheme.format log).commands)
+      (all_events (histories_from scheme header (suc number) (commands_of scheme.format logs)))
 
   -- What runs of all logs have kept are the audit events of the histories.
   events_kept : (number : ℕ) (logs : List (List ℕ))
       → audit_events_among (courses_keeping audit_events_by scheme header number logs) ≡ audit_events_behind number logs
   events_kept number [] = refl
   events_kept number (log ∷ logs) =
-      ap (λ (more : List AuditEvent). audit_events_in (log_events scheme header number (read_log scheme.longest log).commands) ++ more)
+      ap (λ (more : List AuditEvent). audit_events_in (log_events scheme header number (read_log scheme.format log).commands) ++ more)
       (events_kept (suc number) logs)
       ∙ sym (one_log number log logs)
 

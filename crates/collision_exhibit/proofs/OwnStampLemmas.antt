@@ -12,7 +12,7 @@ use Rattle.std.proofs.lemmas.Map.Keys.{IsDistinct-head, IsDistinct-tail, IsDisti
 use Rattle.lamport_clocks.specs.declared.header.Header.{Header}
 use Rattle.lamport_clocks.specs.Stamp.{stamp_cmp}
 use Rattle.record_text.specs.declared.element.Element.{Element}
-use Rattle.log_codec.specs.declared.command.Command.{Command}
+use Rattle.log_codec.specs.declared.log_command.LogCommand.{LogCommand}
 use Rattle.stamp_order.specs.InOrder.{put_in_order, in_order}
 use Rattle.stamp_order.specs.Merged.{comes_before}
 use Rattle.stamp_order.proofs.InOrderLaws.{every-weaker, every-append}
@@ -68,21 +68,21 @@ verifiers_apart x y number own later =
 
 module _ (scheme : Scheme) (header : Header) where
   -- the elements that a log evicts
-  abbrev log_evicts : ℕ → List Command → List Element
+  abbrev log_evicts : ℕ → List LogCommand → List Element
   log_evicts number log = evicted_among (log_events scheme header number log)
 
   -- the elements that the logs evict, one log after another
-  abbrev all_evicts : ℕ → List (List Command) → List Element
+  abbrev all_evicts : ℕ → List (List LogCommand) → List Element
   all_evicts number logs = evicted_among (all_events (histories_from scheme header number logs))
 
-  split_evicts : (number : ℕ) (log : List Command) (logs : List (List Command))
+  split_evicts : (number : ℕ) (log : List LogCommand) (logs : List (List LogCommand))
       → all_evicts number (log ∷ logs) ≡ log_evicts number log ++ all_evicts (suc number) logs
   split_evicts number log logs =
       flat_map-append (λ (event : Event). evicted_by event.change) (log_events scheme header number log)
       (all_events (histories_from scheme header (suc number) logs))
 
   -- the logs from one number on evict elements of verifiers from it on
-  verifiers_from : (number : ℕ) (logs : List (List Command))
+  verifiers_from : (number : ℕ) (logs : List (List LogCommand))
       → AllByRecursion (λ element. number ≤ element.verifier) (all_evicts number logs)
   verifiers_from number [] = tt
   verifiers_from number (log ∷ logs) =
@@ -94,7 +94,7 @@ module _ (scheme : Scheme) (header : Header) where
       (all_evicts (suc number) logs) (verifiers_from (suc number) logs)))
 
   -- no verifier evicts two elements with one stamp
-  all_apart : (number : ℕ) (logs : List (List Command)) → HaveOwnStamps (all_evicts number logs)
+  all_apart : (number : ℕ) (logs : List (List LogCommand)) → HaveOwnStamps (all_evicts number logs)
   unfolding IsDistinct
   all_apart number [] = tt
   all_apart number (log ∷ logs) =
@@ -137,7 +137,7 @@ module _ {X Y : Type 0} (lt : X → X → Bool) (block : X → List Y) where
       (put-blocks x (in_order lt xs))
 
 -- Of all logs' audit events in their order, no verifier evicted two elements with one stamp.
-pub distinct_evicts : (scheme : Scheme) (header : Header) (logs : List (List Command))
+pub distinct_evicts : (scheme : Scheme) (header : Header) (logs : List (List LogCommand))
     → HaveOwnStamps (evicted_elements (audit_events_in (order_of (histories_of scheme header logs))))
 distinct_evicts scheme header logs =
     let histories = histories_of scheme header logs in

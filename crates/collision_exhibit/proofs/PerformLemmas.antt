@@ -2,10 +2,9 @@
 use Rattle.std.proofs.Common.{◌≡◌, ℕ, map, Option, Some, None, Ok, refl, sym, ◌∙◌, ap}
 use Rattle.std.specs.Option.{option_map, option_to_list}
 use Rattle.lamport_clocks.specs.declared.stamp.Stamp.{Stamp}
-use Rattle.log_codec.specs.declared.command.Command.{Command}
+use Rattle.log_codec.specs.declared.log_command.LogCommand.{LogCommand}
 use Rattle.merkle_records.specs.Scheme.{Scheme}
 use Rattle.stamp_order.specs.declared.moment.Moment.{Moment}
-use Rattle.verifier_cache.specs.Cache.{Held}
 use Rattle.verifier_commands.specs.declared.effect.Effect.{Effect}
 use Rattle.verifier_commands.specs.Machine.{Machine, rules_for, stepped}
 use Rattle.verifier_commands.specs.Trace.{done_with, performed}
@@ -16,7 +15,7 @@ use Rattle.collision_exhibit.specs.declared.audit_event.AuditEvent.{AuditEvent}
 use Rattle.collision_exhibit.specs.declared.audit_event.AuditChange.{AuditChange}
 use Rattle.collision_exhibit.specs.AuditEvent.{audit_events_by}
 use Rattle.collision_exhibit.specs.AuditChange.{audit_change_of}
-use Rattle.collision_exhibit.proofs.AuditChangeLemmas.{deed_told}
+use Rattle.collision_exhibit.proofs.CommandLemmas.{deed_told}
 
 -- a change of this moment
 abbrev at_moment : Moment → AuditChange → AuditEvent
@@ -31,29 +30,21 @@ moment_told machine at now number index at_is number_is index_is =
     ∙ ap (λ (n : ℕ). record { at = now; verifier = n; index = index }) number_is
     ∙ ap (λ (i : ℕ). record { at = now; verifier = machine.number; index = i }) index_is
 
--- the change of a machine's next command, by its parts
-change_told : (machine : Machine) (number : ℕ) (cache : Held) (command : Command)
-    → number ≡ machine.number → cache ≡ machine.state.cache
-    → audit_change_of number cache.entries command ≡ audit_change_of machine.number machine.state.cache.entries command
-change_told machine number cache command number_is cache_is =
-    ap (λ (n : ℕ). audit_change_of n cache.entries command) number_is
-    ∙ ap (λ (held : Held). audit_change_of machine.number held.entries command) cache_is
-
 -- a list of what was made of an option
 listed : {A B : Type 0} (f : A → B) (option : Option A) → option_to_list (option_map f option) ≡ map f (option_to_list option)
 listed f None = refl
 listed f (Some value) = refl
 
 -- What the cache tells of a command before it is what is kept of the command.
-pub told_yields : (scheme : Scheme) (machine : Machine) (command : Command) (effect : Effect) (after : Machine)
-    (at : Stamp) (number index : ℕ) (cache : Held) (change : Option AuditChange) (yield : Yield AuditEvent)
+pub told_yields : (scheme : Scheme) (machine : Machine) (command : LogCommand) (effect : Effect) (after : Machine)
+    (at : Stamp) (number index : ℕ) (change : Option AuditChange) (yield : Yield AuditEvent)
     → stepped scheme machine command ≡ Ok (effect, after)
-    → at ≡ after.state.clock.at → number ≡ machine.number → index ≡ machine.accepted → cache ≡ machine.state.cache
-    → change ≡ audit_change_of number cache.entries command
+    → at ≡ after.state.clock.at → number ≡ machine.number → index ≡ machine.accepted
+    → change ≡ audit_change_of number machine.state.cache command
     → yield.item ≡ option_map (at_moment (record { at = at; verifier = number; index = index })) change
     → option_to_list yield.part ≡ part_in effect
     → Yields audit_events_by yield (performed scheme machine command) after
-told_yields scheme machine command effect after at number index cache change yield answers at_is number_is index_is cache_is change_is item part =
+told_yields scheme machine command effect after at number index change yield answers at_is number_is index_is change_is item part =
     let was = was_performed scheme machine command effect after answers in
     let now = ap (λ (m : Machine). m.state.clock.at) was.after_is in
     let changes = deed_told (rules_for scheme machine) machine.state command (was.change, was.state) was.accepted in (
@@ -65,7 +56,7 @@ told_yields scheme machine command effect after at number index cache change yie
           (moment_told machine at was.state.clock.at number index (at_is ∙ now) number_is index_is)
           ∙ ap (λ (told : Option AuditChange).
           map (at_moment (record { at = was.state.clock.at; verifier = machine.number; index = machine.accepted })) (option_to_list told))
-          (change_is ∙ change_told machine number cache command number_is cache_is)
+          (change_is ∙ ap (λ (n : ℕ). audit_change_of n machine.state.cache command) number_is)
           ∙ ap (map (at_moment (record { at = was.state.clock.at; verifier = machine.number; index = machine.accepted }))) (sym changes),
       part ∙ ap part_in was.effect_is,
     )

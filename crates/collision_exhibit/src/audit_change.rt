@@ -1,55 +1,95 @@
 //! What a command does for an audit, told from the cache that its verifier has before it.
-ghost use Rattle.std.specs.Prelude.{◌≡◌};
-ghost use Rattle.std.specs.Option.{option_map};
-ghost use Rattle.verifier_cache.specs.Cache.{entry_of};
+ghost use Rattle.std.specs.Prelude.{◌≡◌, Some};
+ghost use Rattle.std.specs.Option.{option_map, option_copied};
 ghost use Rattle.verifier_commands.specs.Changes.{above};
+ghost use Rattle.verifier_commands.specs.VerifierState.{path_entry, slot_entry};
 ghost use Rattle.soundness.specs.Clash.{is_known};
-ghost use Rattle.collision_exhibit.specs.AuditChange.{audit_change_of, added_under, evicted_m, evicted_with};
+ghost use Rattle.collision_exhibit.specs.declared.audit_event.AuditChange.TheVariants as audits;
+ghost use Rattle.collision_exhibit.specs.AuditChange.{audit_change_of, path_audit_change, slot_audit_change, added_under, evicted_m, evicted_with};
 
 use crate::audit_event::AuditChange;
 use lamport_clocks::Stamp;
-use log_codec::Command;
+use log_codec::{Command, LogCommand, SlotCommand};
 use record_text::{Element, Value};
 use tree_keys::Path;
-use verifier_cache::{Cache, Entry};
+use verifier_cache::Entry;
+use verifier_commands::Verifier;
 
-/// What a command of the verifier of this number does for an audit, if it is accepted.
-pub(crate) fn audit_change_of(number: u16, cache: &Cache, command: &Command) -> Option<AuditChange>
-    ensures value { result ≡ audit_change_of number cache.now.entries command.now }
+/// What the next command of a verifier, which has this number, does for an audit, if it is accepted.
+pub(crate) fn audit_change_of(
+    number: u16,
+    verifier: &Verifier,
+    command: &LogCommand,
+) -> Option<AuditChange>
+    ensures value { result ≡ audit_change_of number verifier.now.state.cache command.now }
+{
+    match command {
+        LogCommand::ByPath(command) => path_change(number, verifier, command),
+        LogCommand::BySlot(command) => slot_change(number, verifier, command),
+    }
+}
+
+// The same of a command that names paths.
+fn path_change(number: u16, verifier: &Verifier, command: &Command) -> Option<AuditChange>
+    ensures value { result ≡ path_audit_change number (path_entry verifier.now.state.cache) command.now }
 {
     match command {
         Command::AddM {
             path,
             value,
             parent,
-        } => joined(cache, path, value, parent),
-        Command::EvictM { path, parent: _ } => left(cache, path),
+        } => joined(verifier.entry_of(parent), path, value),
+        Command::EvictM { path, parent: _ } => left(verifier.entry_of(path)),
         Command::AddB {
             path,
             value,
             stamp,
             verifier,
-        } => Some(AuditChange::AddB(Element {
-            path: *path,
-            value: value.copy(),
-            stamp: *stamp,
-            verifier: *verifier,
-        })),
-        Command::EvictB { path, stamp } => went(number, cache, path, *stamp),
+        } => came(path, value, *stamp, *verifier),
+        Command::EvictB { path, stamp } => went(number, verifier.entry_of(path), *stamp),
         Command::EvictBM {
             path,
             parent: _,
             stamp,
-        } => went(number, cache, path, *stamp),
+        } => went(number, verifier.entry_of(path), *stamp),
         Command::Get { .. } | Command::Put { .. } | Command::NextEpoch => None,
     }
 }
 
-// A record comes in by its digest. Nothing is told of it where it is new under its parent.
-fn joined(cache: &Cache, path: &Path, value: &Value, parent: &Path) -> Option<AuditChange>
-    ensures value { result ≡ added_under (entry_of parent.now cache.now.entries) path.now value.now }
+// The same of a command that names slots.
+fn slot_change(number: u16, verifier: &Verifier, command: &SlotCommand) -> Option<AuditChange>
+    ensures value { result ≡ slot_audit_change number (slot_entry verifier.now.state.cache) command.now }
 {
-    let holder = cache.entry(parent)?;
+    match command {
+        SlotCommand::AddM {
+            slot: _,
+            path,
+            value,
+            parent,
+        } => joined(verifier.entry_at(*parent), path, value),
+        SlotCommand::EvictM { slot, parent: _ } => left(verifier.entry_at(*slot)),
+        SlotCommand::AddB {
+            slot: _,
+            path,
+            value,
+            stamp,
+            verifier,
+        } => came(path, value, *stamp, *verifier),
+        SlotCommand::EvictB { slot, stamp } => went(number, verifier.entry_at(*slot), *stamp),
+        SlotCommand::EvictBM {
+            slot,
+            parent: _,
+            stamp,
+        } => went(number, verifier.entry_at(*slot), *stamp),
+        SlotCommand::Get { .. } | SlotCommand::Put { .. } | SlotCommand::NextEpoch => None,
+    }
+}
+
+// A record comes in by its digest, under the holder, if there is one. Nothing is told of it where it is new under it.
+fn joined(holder: Option<&Entry>, path: &Path, value: &Value) -> Option<AuditChange>
+    ensures value { result ≡ added_under (option_copied holder.entry) path.now value.now }
+{
+    let holder = holder?;
     if is_known(holder, path) {
         Some(AuditChange::AddM(*path, value.copy()))
     } else {
@@ -58,18 +98,30 @@ fn joined(cache: &Cache, path: &Path, value: &Value, parent: &Path) -> Option<Au
 }
 
 // A record goes out into its parent.
-fn left(cache: &Cache, path: &Path) -> Option<AuditChange>
-    ensures value { result ≡ option_map evicted_m (entry_of path.now cache.now.entries) }
+fn left(found: Option<&Entry>) -> Option<AuditChange>
+    ensures value { result ≡ option_map evicted_m (option_copied found.entry) }
 {
-    let entry = cache.entry(path)?;
+    let entry = found?;
     Some(AuditChange::EvictM(entry.path, entry.value.copy()))
 }
 
-// A record goes out with a stamp.
-fn went(number: u16, cache: &Cache, path: &Path, stamp: Stamp) -> Option<AuditChange>
-    ensures value { result ≡ option_map (evicted_with number stamp) (entry_of path.now cache.now.entries) }
+// A record comes in with the stamp that it went out with.
+fn came(path: &Path, value: &Value, stamp: Stamp, verifier: u16) -> Option<AuditChange>
+    ensures value { result ≡ Some (audits.AddB (record { path = path.now; value = value.now; stamp = stamp; verifier = verifier })) }
 {
-    let entry = cache.entry(path)?;
+    Some(AuditChange::AddB(Element {
+        path: *path,
+        value: value.copy(),
+        stamp,
+        verifier,
+    }))
+}
+
+// A record goes out with a stamp.
+fn went(number: u16, found: Option<&Entry>, stamp: Stamp) -> Option<AuditChange>
+    ensures value { result ≡ option_map (evicted_with number stamp) (option_copied found.entry) }
+{
+    let entry = found?;
     Some(AuditChange::EvictB(Element {
         path: entry.path,
         value: entry.value.copy(),

@@ -4,7 +4,7 @@ ghost use Rattle.std.specs.Option.{option_map, option_to_list};
 ghost use Rattle.verifier_run.specs.Kept.{part_in};
 
 use crate::audit_change::audit_change_of;
-use log_codec::Command;
+use log_codec::LogCommand;
 use multiset_sum::Part;
 use record_hash::Digests;
 use record_text::{Element, Refusal, Value};
@@ -47,21 +47,25 @@ impl Kept for AuditEvent {
     fn perform<D: Digests>(
         verifier: &mut Verifier,
         d: &D,
-        command: &Command,
+        command: &LogCommand,
     ) -> Result<Yield<AuditEvent>, Refusal> {
         let number = verifier.number();
         let index = verifier.accepted();
-        let change = audit_change_of(number, verifier.entries(), command);
-        let effect = verifier.step(d, command)?;
-        let moment = Moment {
-            at: verifier.clock(),
-            verifier: number,
-            index,
-        };
-        Ok(Yield {
-            item: at_moment(moment, change),
-            part: part_of(effect),
-        })
+        let change = audit_change_of(number, verifier, command);
+        match verifier.step_any(d, command) {
+            Ok(effect) => {
+                let moment = Moment {
+                    at: verifier.clock(),
+                    verifier: number,
+                    index,
+                };
+                Ok(Yield {
+                    item: at_moment(moment, change),
+                    part: part_of(effect),
+                })
+            }
+            Err(refusal) => Err(refusal),
+        }
     }
 }
 

@@ -1,7 +1,6 @@
 -- The events of one log: how the clock moves with each, that they stand in the order of their moments, and that each
 -- is of the log's verifier and of an epoch from the header's first on.
-use Rattle.std.proofs.Common.{◌≡◌, ℕ, suc, ◌≤◌, inl, inr, false, List, [], ◌∷◌, Ok, Err, refl, sym, ◌∙◌, ap, subst, append-nil, add-one, arith}
-use Rattle.base_words.specs.Traced.{traced}
+use Rattle.std.proofs.Common.{◌≡◌, ℕ, suc, ◌≤◌, inl, inr, false, List, [], ◌∷◌, refl, sym, ◌∙◌, ap, subst, append-nil, arith}
 use Rattle.merkle_records.specs.Scheme.{Scheme}
 use Rattle.std.specs.List.{AllByRecursion}
 use Rattle.std.proofs.lemmas.Bool.Decides.{nat_tests}
@@ -10,46 +9,34 @@ use Rattle.lamport_clocks.specs.declared.stamp.Stamp.{Stamp}
 use Rattle.lamport_clocks.specs.Reading.{Reading}
 use Rattle.lamport_clocks.specs.Clock.{opening_reading}
 use Rattle.log_codec.specs.declared.command.Command.{Command}
+use Rattle.log_codec.specs.declared.log_command.LogCommand.{LogCommand}
 use Rattle.stamp_order.specs.declared.moment.Moment.{Moment}
 use Rattle.stamp_order.specs.Moment.{is_before}
 use Rattle.stamp_order.specs.Merged.{comes_before, merged, IsMerged}
 use Rattle.stamp_order.proofs.InOrderLaws.{every-weaker}
 use Rattle.stamp_order.proofs.MergedLaws.{merged-fixed}
-use Rattle.verifier_commands.specs.State.{opening}
-use Rattle.verifier_commands.specs.Transition.{Step, transition}
-use Rattle.verifier_commands.specs.Machine.{Machine, rules_for, opening_machine}
-use Rattle.verifier_commands.specs.Trace.{events_from, events_behind, changed}
-use Rattle.verifier_commands.proofs.TickLaws.{ticks_step, IsUpTo, up_to-trans, up_to-epoch, ticks-up_to}
+use Rattle.verifier_commands.specs.Machine.{Machine, rules_for}
+use Rattle.verifier_commands.specs.Trace.{events_from}
+use Rattle.verifier_commands.proofs.TickLaws.{IsUpTo, up_to-trans, up_to-epoch, ticks-up_to}
 use Rattle.soundness.specs.History.{Event, log_events}
 use Rattle.soundness.specs.Certified.{event_moment, order_of}
+use Rattle.soundness.specs.StateHistory.{machinery_under}
+use Rattle.soundness.specs.PathHistory.{path_log_events}
 use Rattle.soundness.specs.IsHistory.{IsTicking, IsTimely}
+use Rattle.soundness.proofs.MachineryLemmas.{machinery_ticks}
+use Rattle.soundness.proofs.PathHistoryLaws.{path_log_timely}
+use Rattle.soundness.proofs.StateHistoryLemmas.{events-from_state}
+use Rattle.soundness.proofs.LogHistoryLemmas.{timely, log_timely}
 
 -- ---- the events of a log
 
--- what a step did, and what was done behind it
-ticking_behind : (scheme : Scheme) (machine : Machine) (command : Command) (commands : List Command) (step : Step)
-    → transition (rules_for scheme machine) machine.state command ≡ step
-    → ((after : Machine) → IsTicking after.number after.accepted after.state.clock (events_from scheme after commands))
-    → IsTicking machine.number machine.accepted machine.state.clock (events_behind scheme machine commands step)
-ticking_behind scheme machine command commands (Ok done) is further = (
-  done.1.clock,
-  refl,
-  refl,
-  refl,
-  ticks_step (rules_for scheme machine) machine.state command done is,
-  subst (λ (index : ℕ). IsTicking machine.number index done.1.clock (events_from scheme (changed scheme machine done) commands))
-      (add-one machine.accepted) (further (changed scheme machine done)),
-)
-ticking_behind scheme machine command commands (Err refusal) is further = tt
-
--- So it is from any verifier on.
-pub events-tick : (scheme : Scheme) (machine : Machine) (commands : List Command)
+-- So the events of a verifier's commands tick, from where it stands.
+pub events-tick : (scheme : Scheme) (machine : Machine) (commands : List LogCommand)
     → IsTicking machine.number machine.accepted machine.state.clock (events_from scheme machine commands)
-unfolding traced
-events-tick scheme machine [] = tt
-events-tick scheme machine (command ∷ commands) =
-    ticking_behind scheme machine command commands (transition (rules_for scheme machine) machine.state command) refl
-    (λ after. events-tick scheme after commands)
+events-tick scheme machine commands =
+    subst (IsTicking machine.number machine.accepted machine.state.clock) (sym (events-from_state scheme machine commands))
+    (machinery_ticks (machinery_under (rules_for scheme machine)) machine.number (λ state. state.clock) machine.accepted machine.state commands
+    (λ state. refl) (timely (rules_for scheme machine)))
 
 -- an event is of the verifier, of this index or a later one, and not before the stamp
 abbrev pub IsBehind : ℕ → ℕ → Stamp → Event → Type 0
@@ -123,24 +110,34 @@ timely-whose header number events timely =
     every-weaker (IsOfLog number header) (λ event. event.verifier ≡ number) (λ event is. is.0) events
     (timely-epochs header number events timely)
 
+-- The merged order of one such list is its own.
+timely-order : (header : Header) (number : ℕ) (events : List Event) → IsTimely header number events → order_of (events ∷ []) ≡ events
+timely-order header number events timely =
+    ap (λ (all : List Event). merged event_moment all) (append-nil events)
+    ∙ merged-fixed event_moment events (timely-merged header number events timely)
+
 -- ---- a whole log
 
 -- how the events of a log tick
-pub log-ticks : (scheme : Scheme) (header : Header) (number : ℕ) (commands : List Command)
-    → IsTicking number 0 (opening number header).clock (log_events scheme header number commands)
-log-ticks scheme header number commands =
-    events-tick scheme (opening_machine number header) commands
+pub log-ticks : (scheme : Scheme) (header : Header) (number : ℕ) (commands : List LogCommand)
+    → IsTicking number 0 (opening_reading header.first header.end) (log_events scheme header number commands)
+log-ticks scheme header number commands = (log_timely scheme header number commands).ticks
+
+pub path_log-ticks : (scheme : Scheme) (header : Header) (number : ℕ) (commands : List Command)
+    → IsTicking number 0 (opening_reading header.first header.end) (path_log_events scheme header number commands)
+path_log-ticks scheme header number commands = (path_log_timely scheme header number commands).ticks
 
 -- The events of a log stand in the order of their moments.
-pub log-merged : (scheme : Scheme) (header : Header) (number : ℕ) (commands : List Command)
+pub log-merged : (scheme : Scheme) (header : Header) (number : ℕ) (commands : List LogCommand)
     → IsMerged event_moment (log_events scheme header number commands)
-log-merged scheme header number commands =
-    events-merged number 0 (opening number header).clock _ (log-ticks scheme header number commands)
+log-merged scheme header number commands = timely-merged header number _ (log_timely scheme header number commands)
+
+pub path_log-merged : (scheme : Scheme) (header : Header) (number : ℕ) (commands : List Command)
+    → IsMerged event_moment (path_log_events scheme header number commands)
+path_log-merged scheme header number commands = timely-merged header number _ (path_log_timely scheme header number commands)
 
 -- The merged order of one log is the log's own.
-pub order_of-one : (scheme : Scheme) (header : Header) (number : ℕ) (commands : List Command)
+pub order_of-one : (scheme : Scheme) (header : Header) (number : ℕ) (commands : List LogCommand)
     → order_of (log_events scheme header number commands ∷ []) ≡ log_events scheme header number commands
 order_of-one scheme header number commands =
-    let events = log_events scheme header number commands in
-    ap (λ (all : List Event). merged event_moment all) (append-nil events)
-    ∙ merged-fixed event_moment events (log-merged scheme header number commands)
+    timely-order header number (log_events scheme header number commands) (log_timely scheme header number commands)

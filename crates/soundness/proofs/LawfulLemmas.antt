@@ -1,6 +1,5 @@
 -- Each accepted command did what its change tells, and left the entries of the cache distinct.
-use Rattle.std.proofs.Common.{◌≡◌, ◌≢◌, ℕ, ◌==◌, Bool, true, false, not, ◌||◌, nat_le, List, [], ◌∷◌, length, if◌then◌else◌, Option, Some, None, is_some, IsNone, Ok, Err, refl, sym, ◌∙◌, ap, subst}
-use Rattle.std.specs.List.{AllByRecursion}
+use Rattle.std.proofs.Common.{◌≡◌, ◌≢◌, ℕ, ◌==◌, Bool, true, false, not, ◌||◌, nat_le, List, [], ◌∷◌, length, if◌then◌else◌, Option, Some, None, is_some, IsNone, Ok, refl, sym, ◌∙◌, ap, subst}
 use Rattle.std.proofs.lemmas.Bool.{true≢false, not-false, eqb-true, ne_eqb}
 use Rattle.std.proofs.lemmas.Result.{IfOk-at_ok}
 use Rattle.tree_keys.specs.Path.{IsData, is_data}
@@ -13,7 +12,7 @@ use Rattle.record_text.specs.Texts.{value_text}
 use Rattle.record_text.specs.Value.{IsOf, node_side, initial_value}
 use Rattle.log_codec.specs.declared.command.Command.{Command}
 use Rattle.log_codec.specs.declared.command.Command.TheVariants.{AddM, EvictM, AddB, EvictB, EvictBM, Get, Put, NextEpoch}
-use Rattle.soundness.specs.Typed.{IsTyped}
+use Rattle.soundness.specs.Typed.{IsPathTyped}
 use Rattle.merkle_records.specs.declared.cases.AddCase.{AddCase}
 use Rattle.merkle_records.specs.declared.cases.AddCase.TheVariants as cases
 use Rattle.merkle_records.specs.Merkle.{Digest, case_of}
@@ -23,8 +22,6 @@ use Rattle.verifier_cache.specs.declared.entry.Hold.TheVariants.{Root, M, B}
 use Rattle.verifier_cache.specs.Entry.{kid_of, has_kid, new_entry, with_value}
 use Rattle.verifier_cache.specs.Cache.{entry_of, AreDistinct}
 use Rattle.verifier_cache.proofs.EntriesLaws.{entry_of-path, AreDistinct-without, AreDistinct-append}
-use Rattle.base_words.specs.Traced.{traced}
-use Rattle.merkle_records.specs.Scheme.{Scheme}
 use Rattle.verifier_commands.specs.declared.changes.Parent.{Parent}
 use Rattle.verifier_commands.specs.declared.changes.Family.{Family}
 use Rattle.verifier_commands.specs.declared.state.State.{State}
@@ -32,13 +29,12 @@ use Rattle.verifier_commands.specs.State.{opening, root_entry}
 use Rattle.verifier_commands.specs.Change.{Change}
 use Rattle.verifier_commands.specs.Changes.{above, leads_to, is_deferred, has_digest, holds_wrong, is_by_digest, set_kid_on, add_by, add_under, evict_under, defer_under, is_by_stamp}
 use Rattle.record_text.specs.Same.{same_value}
-use Rattle.verifier_commands.specs.Transition.{Rules, Step, is_root, is_full, transition, add_m, evict_m, add_b, evict_b, evict_bm, get, put, next_epoch}
-use Rattle.verifier_commands.specs.Machine.{Machine, rules_for}
-use Rattle.verifier_commands.specs.Trace.{events_from, events_behind, changed}
-use Rattle.soundness.specs.Showing.{Shown, HasDone, shown_by, showing, ShowSame, shown_after}
-use Rattle.soundness.specs.IsHistory.{IsChain}
+use Rattle.verifier_commands.specs.Transition.{Rules, is_root, is_full, transition, add_m, evict_m, add_b, evict_b, evict_bm, get, put, next_epoch}
+use Rattle.soundness.specs.Showing.{HasDone, shown_by, showing, ShowSame}
 use Rattle.verifier_commands.proofs.InvertLaws.{need-ok, and_then-ok, timed-ok}
+use Rattle.verifier_commands.proofs.TickLaws.{ticks_step}
 use Rattle.soundness.proofs.ToldLemmas.{did_shown, retold}
+use Rattle.soundness.proofs.MachineryLemmas.{EvictsItsOwn, IsTimelyDone, IsLawful}
 use Rattle.soundness.proofs.ShownLemmas.{found_own, shown-replaced, shown-without, shown-append, distinct-replaced, shown-joined, distinct-joined, shown-left, distinct-left}
 
 -- ---- each keeps its path
@@ -102,12 +98,12 @@ defer_under-path parent child after is =
 -- ---- each command
 
 -- what was done is lawful, and the entries are distinct after it
-abbrev pub IsLawful : Rules → State → Change × State → Type 0
-IsLawful rules state done =
-    HasDone rules.scheme.longest rules.scheme.digest (shown_by state) (shown_by done.1) done.0 × AreDistinct done.1.cache.entries
+abbrev pub LeavesDistinct : Rules → State → Change × State → Type 0
+LeavesDistinct rules state done =
+    HasDone rules.scheme.format.longest rules.scheme.digest (shown_by state) (shown_by done.1) done.0 × AreDistinct done.1.cache.entries
 
 -- an entry that came in deferred
-by_stamp : (hold : Hold) → not (is_by_stamp hold) ≡ false → hold ≡ B
+pub by_stamp : (hold : Hold) → not (is_by_stamp hold) ≡ false → hold ≡ B
 by_stamp Root is = absurd (true≢false is)
 by_stamp M is = absurd (true≢false is)
 by_stamp B is = refl
@@ -119,8 +115,8 @@ found_at p k xs e path found = ap (λ (q : List Bool). entry_of q xs) path ∙ f
 
 lawful_add_m : (rules : Rules) (state : State) (path : List Bool) (value : Value) (parent : List Bool)
     (done : Change × State)
-    → IsOf rules.scheme.longest path value → AreDistinct state.cache.entries
-    → add_m rules.scheme.digest state path value parent ≡ Ok done → IsLawful rules state done
+    → IsOf rules.scheme.format.longest path value → AreDistinct state.cache.entries
+    → add_m rules.scheme.digest state path value parent ≡ Ok done → LeavesDistinct rules state done
 lawful_add_m rules state path value parent done kind distinct is =
     let xs = state.cache.entries in
     let inner = test-ok (is_root path) _ _ done is in
@@ -132,11 +128,11 @@ lawful_add_m rules state path value parent done kind distinct is =
     let child_path : path ≡ family.0.child.path = sym paths.1 in
     let found = found_at family.0.parent.path parent xs holder.0 paths.0 holder.1 in
     let none : IsNone (entry_of family.0.child.path xs) = subst (λ p. IsNone (entry_of p xs)) child_path fresh.0 in
-    IfOk-at_ok (IsLawful rules state) family.2 (
+    IfOk-at_ok (LeavesDistinct rules state) family.2 (
       record {
         value = value;
         had_parent = found_own parent xs holder.0 holder.1;
-        kind = subst (λ (p : List Bool). IsOf rules.scheme.longest p value) child_path kind;
+        kind = subst (λ (p : List Bool). IsOf rules.scheme.format.longest p value) child_path kind;
         added = ap (λ (p : List Bool). add_under rules.scheme.digest holder.0 p value) paths.1 ∙ family.1;
         shown = λ j. shown-joined j xs family.0.parent holder.0 family.0.child found none;
       },
@@ -145,7 +141,7 @@ lawful_add_m rules state path value parent done kind distinct is =
 
 lawful_evict_m : (rules : Rules) (state : State) (path parent : List Bool) (done : Change × State)
     → AreDistinct state.cache.entries
-    → evict_m rules.scheme.digest state path parent ≡ Ok done → IsLawful rules state done
+    → evict_m rules.scheme.digest state path parent ≡ Ok done → LeavesDistinct rules state done
 lawful_evict_m rules state path parent done distinct is =
     let xs = state.cache.entries in
     let inner = test-ok (is_root path) _ _ done is in
@@ -155,7 +151,7 @@ lawful_evict_m rules state path parent done distinct is =
     let child_path : path ≡ child.0.path = sym (entry_of-path path xs child.0 child.1) in
     let kept = evict_under-path rules.scheme.digest holder.0 child.0 after.0 after.1 in
     let found = found_at after.0.path parent xs holder.0 kept holder.1 in
-    IfOk-at_ok (IsLawful rules state) after.2 (
+    IfOk-at_ok (LeavesDistinct rules state) after.2 (
       record {
         had_parent = found_own parent xs holder.0 holder.1;
         had_child = found_own path xs child.0 child.1;
@@ -167,8 +163,8 @@ lawful_evict_m rules state path parent done distinct is =
 
 lawful_add_b : (rules : Rules) (state : State) (path : List Bool) (value : Value) (stamp : Stamp) (verifier : ℕ)
     (done : Change × State)
-    → IsOf rules.scheme.longest path value → AreDistinct state.cache.entries
-    → add_b rules.verifiers state path value stamp verifier ≡ Ok done → IsLawful rules state done
+    → IsOf rules.scheme.format.longest path value → AreDistinct state.cache.entries
+    → add_b rules.verifiers state path value stamp verifier ≡ Ok done → LeavesDistinct rules state done
 lawful_add_b rules state path value stamp verifier done kind distinct is =
     let xs = state.cache.entries in
     let inner = test-ok (is_root path) _ _ done is in
@@ -176,7 +172,7 @@ lawful_add_b rules state path value stamp verifier done kind distinct is =
     let room = test-ok (is_full state) _ _ done fresh.1 in
     let known = test-ok (nat_le rules.verifiers verifier) _ _ done room.1 in
     let clock = timed-ok (received state.clock stamp) _ done known.1 in
-    IfOk-at_ok (IsLawful rules state) clock.2 (
+    IfOk-at_ok (LeavesDistinct rules state) clock.2 (
       record {
         came_as = refl;
         kind = kind;
@@ -186,7 +182,7 @@ lawful_add_b rules state path value stamp verifier done kind distinct is =
     )
 
 lawful_evict_b : (rules : Rules) (state : State) (path : List Bool) (stamp : Stamp) (done : Change × State)
-    → AreDistinct state.cache.entries → evict_b rules.number state path stamp ≡ Ok done → IsLawful rules state done
+    → AreDistinct state.cache.entries → evict_b rules.number state path stamp ≡ Ok done → LeavesDistinct rules state done
 lawful_evict_b rules state path stamp done distinct is =
     let xs = state.cache.entries in
     let inner = test-ok (is_root path) _ _ done is in
@@ -195,7 +191,7 @@ lawful_evict_b rules state path stamp done distinct is =
     let held = test-ok (not (is_by_stamp child.0.hold)) _ _ done lone.1 in
     let clock = timed-ok (sent state.clock stamp) _ done held.1 in
     let child_path : path ≡ child.0.path = sym (entry_of-path path xs child.0 child.1) in
-    IfOk-at_ok (IsLawful rules state) clock.2 (
+    IfOk-at_ok (LeavesDistinct rules state) clock.2 (
       record {
         had_child = found_own path xs child.0 child.1;
         kids = lone.0;
@@ -209,7 +205,7 @@ lawful_evict_b rules state path stamp done distinct is =
 
 lawful_evict_bm : (rules : Rules) (state : State) (path parent : List Bool) (stamp : Stamp) (done : Change × State)
     → AreDistinct state.cache.entries
-    → evict_bm rules.number state path parent stamp ≡ Ok done → IsLawful rules state done
+    → evict_bm rules.number state path parent stamp ≡ Ok done → LeavesDistinct rules state done
 lawful_evict_bm rules state path parent stamp done distinct is =
     let xs = state.cache.entries in
     let inner = test-ok (is_root path) _ _ done is in
@@ -220,7 +216,7 @@ lawful_evict_bm rules state path parent stamp done distinct is =
     let child_path : path ≡ child.0.path = sym (entry_of-path path xs child.0 child.1) in
     let kept = defer_under-path holder.0 child.0 after.0 after.1 in
     let found = found_at after.0.path parent xs holder.0 kept holder.1 in
-    IfOk-at_ok (IsLawful rules state) clock.2 (
+    IfOk-at_ok (LeavesDistinct rules state) clock.2 (
       record {
         had_parent = found_own parent xs holder.0 holder.1;
         had_child = found_own path xs child.0 child.1;
@@ -238,13 +234,13 @@ data_length : (path own : List Bool) → own ≡ path → not (is_data path) ≡
 data_length path own same is = ap (λ (p : List Bool). length p) same ∙ eqb-true _ _ (not-false _ is)
 
 lawful_get : (rules : Rules) (state : State) (path : List Bool) (value : Value) (done : Change × State)
-    → AreDistinct state.cache.entries → get state path value ≡ Ok done → IsLawful rules state done
+    → AreDistinct state.cache.entries → get state path value ≡ Ok done → LeavesDistinct rules state done
 lawful_get rules state path value done distinct is =
     let xs = state.cache.entries in
     let entry = need-ok (entry_of path xs) _ _ done is in
     let data_path = test-ok (not (is_data path)) _ _ done entry.2 in
     let same = test-ok (not (same_value entry.0.value value)) _ _ done data_path.1 in
-    IfOk-at_ok (IsLawful rules state) same.1 (
+    IfOk-at_ok (LeavesDistinct rules state) same.1 (
       record {
         had = found_own path xs entry.0 entry.1;
         at_data = data_length path entry.0.path (entry_of-path path xs entry.0 entry.1) data_path.0;
@@ -254,20 +250,20 @@ lawful_get rules state path value done distinct is =
     )
 
 lawful_put : (rules : Rules) (state : State) (path : List Bool) (value : Value) (done : Change × State)
-    → IsOf rules.scheme.longest path value → AreDistinct state.cache.entries
-    → put state path value ≡ Ok done → IsLawful rules state done
+    → IsOf rules.scheme.format.longest path value → AreDistinct state.cache.entries
+    → put state path value ≡ Ok done → LeavesDistinct rules state done
 lawful_put rules state path value done kind distinct is =
     let xs = state.cache.entries in
     let entry = need-ok (entry_of path xs) _ _ done is in
     let data_path = test-ok (not (is_data path)) _ _ done entry.2 in
     let own : entry.0.path ≡ path = entry_of-path path xs entry.0 entry.1 in
     let found = found_own path xs entry.0 entry.1 in
-    IfOk-at_ok (IsLawful rules state) data_path.1 (
+    IfOk-at_ok (LeavesDistinct rules state) data_path.1 (
       record {
         value = value;
         had = found;
         at_data = data_length path entry.0.path own data_path.0;
-        kind = subst (λ (p : List Bool). IsOf rules.scheme.longest p value) (sym own) kind;
+        kind = subst (λ (p : List Bool). IsOf rules.scheme.format.longest p value) (sym own) kind;
         wrote = refl;
         shown = λ j. shown-replaced j xs (with_value entry.0 value) entry.0 found;
       },
@@ -275,16 +271,16 @@ lawful_put rules state path value done kind distinct is =
     )
 
 lawful_next_epoch : (rules : Rules) (state : State) (done : Change × State)
-    → AreDistinct state.cache.entries → next_epoch state ≡ Ok done → IsLawful rules state done
+    → AreDistinct state.cache.entries → next_epoch state ≡ Ok done → LeavesDistinct rules state done
 lawful_next_epoch rules state done distinct is =
     let turn = timed-ok (advanced state.clock) _ done is in
-    IfOk-at_ok (IsLawful rules state) turn.2 (λ j. refl, distinct)
+    IfOk-at_ok (LeavesDistinct rules state) turn.2 (λ j. refl, distinct)
 
 -- ---- any command
 
 lawful_step : (rules : Rules) (state : State) (command : Command) (done : Change × State)
-    → IsTyped rules.scheme.longest command → AreDistinct state.cache.entries
-    → transition rules state command ≡ Ok done → IsLawful rules state done
+    → IsPathTyped rules.scheme.format.longest command → AreDistinct state.cache.entries
+    → transition rules state command ≡ Ok done → LeavesDistinct rules state done
 lawful_step rules state (AddM path value parent) done ranges distinct is =
     lawful_add_m rules state path value parent done ranges distinct is
 lawful_step rules state (EvictM path parent) done ranges distinct is =
@@ -302,41 +298,79 @@ lawful_step rules state (Put path value) done ranges distinct is =
 lawful_step rules state NextEpoch done ranges distinct is =
     lawful_next_epoch rules state done distinct is
 
--- An accepted command did what its change tells, and left the entries distinct.
-pub lawful : (rules : Rules) (state : State) (command : Command) (change : Change) (after : State)
-    → IsTyped rules.scheme.longest command → AreDistinct state.cache.entries
-    → transition rules state command ≡ Ok (change, after)
-    → HasDone rules.scheme.longest rules.scheme.digest (shown_by state) (shown_by after) change × AreDistinct after.cache.entries
-lawful rules state command change after ranges distinct is =
-    lawful_step rules state command (change, after) ranges distinct is
+-- An accepted command is lawful.
+pub path_lawful : (rules : Rules) (state : State) (command : Command) (done : Change × State)
+    → IsPathTyped rules.scheme.format.longest command → AreDistinct state.cache.entries → transition rules state command ≡ Ok done
+    → IsLawful rules.scheme.format.longest rules.scheme.digest shown_by (λ state. AreDistinct state.cache.entries) state done
+path_lawful rules state command done typed distinct is =
+    let longest = rules.scheme.format.longest in
+    let digest = rules.scheme.digest in
+    let same : ShowSame (shown_by state) (shown_by state) = λ path. refl in
+    let law = lawful_step rules state command done typed distinct is in
+    record {
+      did = retold longest digest (shown_by state) (shown_by state) (shown_by done.1) same done.0 law.0;
+      leaves = λ fresh. (did_shown longest digest (shown_by state) (shown_by state) (shown_by done.1) same done.0 law.0, law.1);
+    }
 
--- ---- a log
+-- ---- whose elements it evicts
 
--- what a step did, and a chain behind it
-chain_behind : (scheme : Scheme) (machine : Machine) (shown : Shown) (command : Command) (commands : List Command) (step : Step)
-    → ShowSame (shown_by machine.state) shown → IsTyped scheme.longest command → AreDistinct machine.state.cache.entries
-    → transition (rules_for scheme machine) machine.state command ≡ step
-    → ((after : Machine) (told : Shown) → ShowSame (shown_by after.state) told → AreDistinct after.state.cache.entries
-    → IsChain scheme.longest scheme.digest told (events_from scheme after commands))
-    → IsChain scheme.longest scheme.digest shown (events_behind scheme machine commands step)
-chain_behind scheme machine shown command commands (Ok done) same range distinct is further =
-    let law = lawful_step (rules_for scheme machine) machine.state command done range distinct is in (
-      retold scheme.longest scheme.digest (shown_by machine.state) shown (shown_by done.1) same done.0 law.0,
-      λ fresh. further (changed scheme machine done) (shown_after shown done.0)
-          (did_shown scheme.longest scheme.digest (shown_by machine.state) shown (shown_by done.1) same done.0 law.0) law.1,
-    )
-chain_behind scheme machine shown command commands (Err refusal) same range distinct is further = tt
+-- what was done evicts none but the verifier's own
+abbrev EvictsOwn : ℕ → Change × State → Type 0
+EvictsOwn number done = EvictsItsOwn number done.0
 
--- The events of a log are a chain from what the verifier with which it begins shows.
-pub log_run : (scheme : Scheme) (machine : Machine) (shown : Shown) (commands : List Command)
-    → ShowSame (shown_by machine.state) shown
-    → AllByRecursion (IsTyped scheme.longest) commands → AreDistinct machine.state.cache.entries
-    → IsChain scheme.longest scheme.digest shown (events_from scheme machine commands)
-unfolding traced
-log_run scheme machine shown [] same ranges distinct = tt
-log_run scheme machine shown (command ∷ commands) same ranges distinct =
-    chain_behind scheme machine shown command commands (transition (rules_for scheme machine) machine.state command) same ranges.0 distinct refl
-    (λ after told alike fresh. log_run scheme after told commands alike ranges.1 fresh)
+own_step : (rules : Rules) (state : State) (command : Command) (done : Change × State)
+    → transition rules state command ≡ Ok done → EvictsOwn rules.number done
+own_step rules state (AddM path value parent) done is =
+    let inner = test-ok (is_root path) _ _ done is in
+    let fresh = test-ok (is_some (entry_of path state.cache.entries)) _ _ done inner.1 in
+    let room = test-ok (is_full state) _ _ done fresh.1 in
+    let holder = need-ok (entry_of parent state.cache.entries) _ _ done room.1 in
+    let family = and_then-ok (add_under rules.scheme.digest holder.0 path value) _ done holder.2 in
+    IfOk-at_ok (EvictsOwn rules.number) family.2 tt
+own_step rules state (EvictM path parent) done is =
+    let inner = test-ok (is_root path) _ _ done is in
+    let child = need-ok (entry_of path state.cache.entries) _ _ done inner.1 in
+    let holder = need-ok (entry_of parent state.cache.entries) _ _ done child.2 in
+    let after = and_then-ok (evict_under rules.scheme.digest holder.0 child.0) _ done holder.2 in
+    IfOk-at_ok (EvictsOwn rules.number) after.2 tt
+own_step rules state (AddB path value stamp verifier) done is =
+    let inner = test-ok (is_root path) _ _ done is in
+    let fresh = test-ok (is_some (entry_of path state.cache.entries)) _ _ done inner.1 in
+    let room = test-ok (is_full state) _ _ done fresh.1 in
+    let known = test-ok (nat_le rules.verifiers verifier) _ _ done room.1 in
+    let clock = timed-ok (received state.clock stamp) _ done known.1 in
+    IfOk-at_ok (EvictsOwn rules.number) clock.2 tt
+own_step rules state (EvictB path stamp) done is =
+    let inner = test-ok (is_root path) _ _ done is in
+    let child = need-ok (entry_of path state.cache.entries) _ _ done inner.1 in
+    let lone = test-ok (has_kid child.0) _ _ done child.2 in
+    let held = test-ok (not (is_by_stamp child.0.hold)) _ _ done lone.1 in
+    let clock = timed-ok (sent state.clock stamp) _ done held.1 in
+    IfOk-at_ok (EvictsOwn rules.number) clock.2 (refl, tt)
+own_step rules state (EvictBM path parent stamp) done is =
+    let inner = test-ok (is_root path) _ _ done is in
+    let child = need-ok (entry_of path state.cache.entries) _ _ done inner.1 in
+    let holder = need-ok (entry_of parent state.cache.entries) _ _ done child.2 in
+    let after = and_then-ok (defer_under holder.0 child.0) _ done holder.2 in
+    let clock = timed-ok (sent state.clock stamp) _ done after.2 in
+    IfOk-at_ok (EvictsOwn rules.number) clock.2 (refl, tt)
+own_step rules state (Get path value) done is =
+    let entry = need-ok (entry_of path state.cache.entries) _ _ done is in
+    let data_path = test-ok (not (is_data path)) _ _ done entry.2 in
+    let same = test-ok (not (same_value entry.0.value value)) _ _ done data_path.1 in
+    IfOk-at_ok (EvictsOwn rules.number) same.1 tt
+own_step rules state (Put path value) done is =
+    let entry = need-ok (entry_of path state.cache.entries) _ _ done is in
+    let data_path = test-ok (not (is_data path)) _ _ done entry.2 in
+    IfOk-at_ok (EvictsOwn rules.number) data_path.1 tt
+own_step rules state NextEpoch done is =
+    let turn = timed-ok (advanced state.clock) _ done is in
+    IfOk-at_ok (EvictsOwn rules.number) turn.2 tt
+
+-- It moves the clock with its change, and evicts elements of the verifier's number.
+pub path_timely : (rules : Rules) (state : State) (command : Command) (done : Change × State) → transition rules state command ≡ Ok done
+    → IsTimelyDone rules.number (λ (state : State). state.clock) state done
+path_timely rules state command done is = (ticks_step rules state command done is, own_step rules state command done is)
 
 -- ---- the start
 

@@ -28,12 +28,12 @@ chain_front longest digest shown (event ∷ front) back chain =
     (chain.0, λ fresh. chain_front longest digest (shown_after shown event.change) front back (chain.1 fresh))
 
 -- the first event and those of its verifier behind it are its verifier's part
-own_part : (event : Event) (events : List Event)
+pub own_part : (event : Event) (events : List Event)
     → of_verifier event_moment event.verifier (event ∷ events) ≡ event ∷ of_verifier event_moment event.verifier events
 own_part event events = cond-true (eqb event.verifier event.verifier) _ _ (eq-eqb event.verifier event.verifier refl)
 
 -- another verifier's part is without the first event
-other_part : (event : Event) (events : List Event) (v : ℕ) → v ≢ event.verifier
+pub other_part : (event : Event) (events : List Event) (v : ℕ) → v ≢ event.verifier
     → of_verifier event_moment v (event ∷ events) ≡ of_verifier event_moment v events
 other_part event events v apart =
     cond-false (eqb event.verifier v) _ _ (ne_eqb event.verifier v (λ same. apart (sym same)))

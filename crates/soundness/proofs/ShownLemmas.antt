@@ -72,7 +72,7 @@ pub distinct-replaced : (xs : List Entry) (new : Entry) → AreDistinct xs → A
 distinct-replaced xs new distinct = AreDistinct-changed new.path (λ old. new) xs (λ old is. refl) distinct
 
 -- a path that isn't there isn't there then either
-absent-replaced : (j : List Bool) (xs : List Entry) (new : Entry) → IsNone (entry_of j xs)
+pub absent-replaced : (j : List Bool) (xs : List Entry) (new : Entry) → IsNone (entry_of j xs)
     → IsNone (entry_of j (replaced new xs))
 absent-replaced j xs new none = absent-changed j new.path (λ old. new) xs (λ old is. refl) none
 

@@ -8,6 +8,7 @@ use Rattle.record_text.specs.declared.element.Element.{Element}
 use Rattle.record_text.proofs.OneTextLaws.{one_value}
 use Rattle.record_text.specs.Longest.{longest_blob}
 use Rattle.log_codec.specs.declared.command.Command.{Command}
+use Rattle.log_codec.specs.declared.log_command.LogCommand.{LogCommand}
 use Rattle.record_hash.specs.Functions.{DigestFunctions}
 use Rattle.merkle_records.specs.Merkle.{GivesDigests}
 use Rattle.merkle_records.specs.Scheme.{scheme_of}
@@ -19,7 +20,8 @@ use Rattle.soundness.specs.Clash.{Strings, none_evicted, first_clash}
 use Rattle.soundness.specs.Collision.{Collides}
 use Rattle.soundness.specs.Exhibit.{first_uneven, exhibit_by, exhibit_of}
 use Rattle.soundness.specs.Timed.{IsTimed}
-use Rattle.soundness.specs.Typed.{IsTyped}
+use Rattle.soundness.specs.Typed.{AreTyped, ArePathsTyped}
+use Rattle.soundness.specs.PathHistory.{path_histories_of}
 use Rattle.soundness.specs.IsHistory.{AreHistories}
 use Rattle.soundness.specs.Sound.{AreBalanced, IsSerialOrCollides}
 use Rattle.soundness.specs.Permutation.{count_of}
@@ -31,6 +33,7 @@ use Rattle.soundness.proofs.KnownLemmas.{HasOneText}
 use Rattle.soundness.proofs.PermutationLaws.{count_permuted}
 use Rattle.soundness.proofs.SerialLemmas.{run_keeps, Collides as CollidesAt, IsSound}
 use Rattle.soundness.proofs.ScheduleLemmas.{AreEven, scheduled}
+use Rattle.soundness.proofs.PathHistoryLaws.{path_logs_histories}
 use Rattle.soundness.proofs.LogHistoryLemmas.{logs_histories}
 use Rattle.soundness.proofs.OrderLemmas.{are_timely, order_run, order_timed, order_sorted, order_splits}
 use Rattle.soundness.proofs.OpeningLemmas.{opening_spots, opening_world}
@@ -117,11 +120,21 @@ histories_sound functions header histories count digests are balanced = by (firs
         (uneven.2, same_sum-true (sum_over (scheme_of functions header) (added_in epoch order)) (sum_over (scheme_of functions header) (evicted_in epoch order)) (balanced epoch uneven.0 uneven.1)))
 
 -- And so of those of logs.
-pub sound : (functions : DigestFunctions) (header : Header) (logs : List (List Command)) (count : ℕ)
-    → GivesDigests functions.digest → AllByRecursion (AllByRecursion (IsTyped longest_blob)) logs
+pub sound : (functions : DigestFunctions) (header : Header) (logs : List (List LogCommand)) (count : ℕ)
+    → GivesDigests functions.digest → AreTyped longest_blob logs
     → AreBalanced (scheme_of functions header) (order_of (histories_of (scheme_of functions header) header logs)) header.first count
     → IsSerialOrCollides (scheme_of functions header) (exhibit_of header.first count (histories_of (scheme_of functions header) header logs))
     (operations_in (order_within header.first count (histories_of (scheme_of functions header) header logs)))
 sound functions header logs count digests typed balanced =
     histories_sound functions header (histories_of (scheme_of functions header) header logs) count digests
     (logs_histories (scheme_of functions header) header 0 logs typed) balanced
+
+-- Also where all of their commands name paths.
+pub path_sound : (functions : DigestFunctions) (header : Header) (logs : List (List Command)) (count : ℕ)
+    → GivesDigests functions.digest → ArePathsTyped longest_blob logs
+    → AreBalanced (scheme_of functions header) (order_of (path_histories_of (scheme_of functions header) header logs)) header.first count
+    → IsSerialOrCollides (scheme_of functions header) (exhibit_of header.first count (path_histories_of (scheme_of functions header) header logs))
+    (operations_in (order_within header.first count (path_histories_of (scheme_of functions header) header logs)))
+path_sound functions header logs count digests typed balanced =
+    histories_sound functions header (path_histories_of (scheme_of functions header) header logs) count digests
+    (path_logs_histories (scheme_of functions header) header 0 logs typed) balanced

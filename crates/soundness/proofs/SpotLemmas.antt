@@ -140,10 +140,25 @@ record Stand (longest : ℕ) (digest : Digest) (told : AllShown) (last : LastEvi
   scheduled : IsScheduled pending back
 
 -- what the caches are told to show behind an event
-abbrev told_behind : AllShown → Event → AllShown
+abbrev pub told_behind : AllShown → Event → AllShown
 told_behind told event = with_shown told event.verifier (shown_after (told event.verifier) event.change)
 
+-- what each of these events adds isn't shown before it
+abbrev pub AreFresh : AllShown → List Event → Type 0
+AreFresh told [] = Unit {0}
+AreFresh told (event ∷ events) = IsFresh (told event.verifier) event.change × AreFresh (told_behind told event) events
+
 module _ (longest : ℕ) (digest : Digest) (one : HasOneText longest) (digests : GivesDigests digest) where
+  -- what the next event adds isn't shown
+  fresh_next : (event : Event) (back : List Event) (told : AllShown) (last : LastEvicted) (stored : Stored)
+      (pending : List Element)
+      → Stand longest digest told last stored pending (event ∷ back) → clash_of last event.change ≡ None
+      → IsFresh (told event.verifier) event.change
+  fresh_next event back told last stored pending stand free =
+      fresh_there longest digest told last stored stand.spots event.verifier stand.world event.change
+      (takes_there longest digest one event.verifier told (shown_after (told event.verifier) event.change) last stored stand.spots pending
+      (λ after. IsScheduled after back) stand.world stand.waits event.change stand.run.0 stand.scheduled free)
+
   -- One event on.
   stand_on : (event : Event) (back : List Event) (told : AllShown) (last : LastEvicted) (stored : Stored)
       (pending : List Element)
@@ -154,18 +169,12 @@ module _ (longest : ℕ) (digest : Digest) (one : HasOneText longest) (digests :
     spots = now.0;
     world = now.1;
     waits = now.2;
-    run = stand.run.1 fresh;
+    run = stand.run.1 (fresh_next event back told last stored pending stand free);
     scheduled = now.3;
   }
     where
       next : Shown
       next = shown_after (told event.verifier) event.change
-
-      fresh : IsFresh (told event.verifier) event.change
-      fresh =
-          fresh_there longest digest told last stored stand.spots event.verifier stand.world event.change
-          (takes_there longest digest one event.verifier told next last stored stand.spots pending
-          (λ after. IsScheduled after back) stand.world stand.waits event.change stand.run.0 stand.scheduled free)
 
       now : Moved longest digest (told_behind told event) (last_evicted_after last event.change)
           (stored_behind stored (operations_by event event.change)) (pending_after pending event.change)
@@ -199,6 +208,18 @@ module _ (longest : ℕ) (digest : Digest) (one : HasOneText longest) (digests :
 
       parts : (clash_of last event.change ≡ None) × (first_clash now_taken (changes_in front) ≡ None)
       parts = no_first (clash_of last event.change) (first_clash now_taken (changes_in front)) free
+
+  -- What the events of a front add isn't shown before them.
+  fresh_behind : (front back : List Event) (told : AllShown) (last : LastEvicted) (stored : Stored) (pending : List Element)
+      → Stand longest digest told last stored pending (front ++ back) → first_clash last (changes_in front) ≡ None
+      → AreFresh told front
+  fresh_behind [] back told last stored pending stand free = tt
+  fresh_behind (event ∷ front) back told last stored pending stand free =
+      let parts = no_first (clash_of last event.change) (first_clash (last_evicted_after last event.change) (changes_in front)) free in (
+        fresh_next event (front ++ back) told last stored pending stand parts.0,
+        fresh_behind front back (told_behind told event) (last_evicted_after last event.change) (stored_behind stored (operations_by event event.change))
+            (pending_after pending event.change) (stand_on event (front ++ back) told last stored pending stand parts.0) parts.1,
+      )
 
 -- ---- the laws
 
@@ -248,6 +269,17 @@ module _ (functions : DigestFunctions) (header : Header) (histories : List (List
   one_spot front back digests are permuted is free =
       let stand = stand_at front back digests are permuted is free in
       (stand.spots, placed front back stand)
+
+  -- What the events of a front add isn't shown before them.
+  pub all_fresh : (front back : List Event) → GivesDigests functions.digest
+      → AreHistories longest_blob functions.digest header 0 histories
+      → ArePermuted header.first last (order_of histories)
+      → order_up_to last histories ≡ front ++ back
+      → first_clash none_evicted (changes_in front) ≡ None
+      → AreFresh (opening_shown header) front
+  all_fresh front back digests are permuted is free =
+      fresh_behind longest_blob functions.digest one_text digests front back (opening_shown header) none_evicted none_everywhere []
+      (subst (λ (l : List Event). StandBehind functions.digest header [] l) is (at_opening are permuted)) free
 
   -- The next event takes what is there.
   pub takes_next : (front : List Event) (event : Event) (back : List Event) → GivesDigests functions.digest

@@ -1,10 +1,10 @@
 -- What a step does to a cache is told by its change, of any cache that shows the same.
-use Rattle.std.proofs.Common.{ℕ, Bool, List, Option, Some, None, if◌then◌else◌, refl, sym, ◌∙◌, ap}
+use Rattle.std.proofs.Common.{ℕ, Bool, List, Option, Some, None, IsNone, if◌then◌else◌, refl, sym, ◌∙◌, ap, subst}
 use Rattle.tree_keys.specs.Path.{same_path}
 use Rattle.merkle_records.specs.Merkle.{Digest}
 use Rattle.verifier_cache.specs.declared.entry.Entry.{Entry}
 use Rattle.verifier_commands.specs.Change.{Change, did_add_m, did_evict_m, did_add_b, did_evict_b, did_evict_bm, did_get, did_put, did_next_epoch}
-use Rattle.soundness.specs.Showing.{Shown, showing, ShowSame, showing_both, HasDone, shown_after}
+use Rattle.soundness.specs.Showing.{Shown, showing, ShowSame, showing_both, HasDone, shown_after, IsFresh}
 
 showing_same : (a b : Shown) (path : List Bool) (entry : Option Entry) → ShowSame a b
     → ShowSame (showing a path entry) (showing b path entry)
@@ -16,6 +16,28 @@ both_same : (a b : Shown) (parent : Entry) (path : List Bool) (child : Option En
 both_same a b parent path child same =
     showing_same (showing a parent.path (Some parent)) (showing b parent.path (Some parent)) path child
     (showing_same a b parent.path (Some parent) same)
+
+-- caches that show the same do so once this was done
+pub told_same : (a b : Shown) → ShowSame a b → (change : Change) → ShowSame (shown_after a change) (shown_after b change)
+told_same a b same (did_add_m parent after child) = both_same a b after child.path (Some child) same
+told_same a b same (did_evict_m parent after child) = both_same a b after child.path None same
+told_same a b same (did_add_b child element) = showing_same a b child.path (Some child) same
+told_same a b same (did_evict_b child element) = showing_same a b child.path None same
+told_same a b same (did_evict_bm parent after child element) = both_same a b after child.path None same
+told_same a b same (did_get entry) = same
+told_same a b same (did_put before after) = showing_same a b before.path (Some after) same
+told_same a b same (did_next_epoch sealed) = same
+
+-- and an add is of a path that the one doesn't show where the other doesn't
+pub fresh_same : (a b : Shown) → ShowSame a b → (change : Change) → IsFresh a change → IsFresh b change
+fresh_same a b same (did_add_m parent after child) fresh = subst (λ (o : Option Entry). IsNone o) (same child.path) fresh
+fresh_same a b same (did_evict_m parent after child) fresh = tt
+fresh_same a b same (did_add_b child element) fresh = subst (λ (o : Option Entry). IsNone o) (same child.path) fresh
+fresh_same a b same (did_evict_b child element) fresh = tt
+fresh_same a b same (did_evict_bm parent after child element) fresh = tt
+fresh_same a b same (did_get entry) fresh = tt
+fresh_same a b same (did_put before after) fresh = tt
+fresh_same a b same (did_next_epoch sealed) fresh = tt
 
 -- what a step leaves in its cache is what its change tells
 pub did_shown : (longest : ℕ) (digest : Digest) (old told new : Shown) → ShowSame old told → (change : Change)

@@ -1,322 +1,50 @@
 -- What the log grammar reads is typed, whatever the numbers: each value is of its path's kind.
-use Rattle.std.proofs.Common.{◌≡◌, ℕ, zero, suc, ◌+◌, ◌-◌, ◌/◌, ◌%◌, ◌^◌, ◌≤◌, ◌==◌, ◌&&◌, Bool, true, false, cond, eqb, leb, List, [], ◌∷◌, ◌++◌, length, take, Option, Some, None, Ok, Err, refl, sym, ap, subst, ◌∙◌, arith}
+use Rattle.std.proofs.Common.{◌≡◌, ℕ, zero, suc, Bool, true, false, List, [], ◌∷◌, length, Ok, Err, refl, subst}
 use Rattle.std.specs.List.{AllByRecursion}
-use Rattle.std.specs.Int.{byte_len, w64}
-use Rattle.std.proofs.lemmas.Bool.{leb-true, eqb-true, eqb-false, and_parts}
-use Rattle.std.proofs.lemmas.List.{length-take-le}
-use Rattle.tree_keys.specs.Bits.{bits_of}
-use Rattle.tree_keys.specs.BitsLaws.{length-bits_of}
-use Rattle.tree_keys.specs.Path.{path_in_word, is_prefix, key_bits, IsPath, IsNodePath}
-use Rattle.record_text.specs.declared.reader.TextFault.TheVariants.{Malformed}
-use Rattle.record_text.specs.declared.value.Pointer.{Pointer}
-use Rattle.record_text.specs.declared.value.Node.{Node}
-use Rattle.record_text.specs.declared.value.Value.{Value}
-use Rattle.record_text.specs.declared.value.Value.TheVariants as values
-use Rattle.record_text.specs.Value.{IsPointer, IsSide, IsBlob, IsOf}
-use Rattle.record_text.specs.Fields.{Parsed, ◌>>=◌, field}
-use Rattle.record_text.specs.Reading.{first_byte, byte_at, run_at, path_in, path_at, flag_in, count_in, blob_behind, blob_at, pointer_tag_in, if_below, path_below_in, path_below_at, pointer_behind, pointer_at, node_at, value_by, value_at, stamp_at, u16_at}
-use Rattle.record_text.proofs.FieldLaws.{Ok-is, bind_ok, field_ok}
-use Rattle.record_text.specs.Longest.{longest_blob}
-use Rattle.log_codec.specs.declared.command.Command.{Command}
-use Rattle.log_codec.specs.declared.command.Command.TheVariants.{AddM, EvictM, AddB, EvictB, EvictBM, Get, Put, NextEpoch}
-use Rattle.log_codec.specs.Command.{add_m_at, evict_m_at, add_b_at, evict_b_at, evict_bm_at, get_at, put_at, command_behind, command_at}
+use Rattle.record_text.specs.Fields.{Parsed}
+use Rattle.record_text.specs.Format.{LogFormat}
+use Rattle.record_text.proofs.FieldLaws.{Ok-is, bind_ok}
+use Rattle.log_codec.specs.declared.log_command.LogCommand.{LogCommand}
+use Rattle.log_codec.specs.declared.log_command.LogCommand.TheVariants.{ByPath, BySlot}
+use Rattle.log_codec.specs.Command.{path_command_at}
+use Rattle.log_codec.specs.SlotCommand.{slot_command_at}
+use Rattle.log_codec.specs.LogCommand.{command_by, command_at}
 use Rattle.log_codec.specs.Log.{log_behind, log_up_to, read_log}
-use Rattle.log_codec.proofs.StepLaws.{then_at, two_at, then_ok}
-use Rattle.log_codec.proofs.GrammarLaws.{tagged_at}
 use Rattle.soundness.specs.Typed.{IsTyped}
+use Rattle.soundness.proofs.PathTypedLemmas.{path_command_typed}
+use Rattle.soundness.proofs.SlotTypedLemmas.{slot_command_typed}
 
--- ---- fields
-
--- an option that a test chose
-chosen : {A : Type 0} (b : Bool) (x y : A) → cond b (Some x) None ≡ Some y → (b ≡ true) × (x ≡ y)
-chosen true x y e = (refl, cc)
-chosen false x y e = absurd (cc)
-
--- a run is as long as was asked for
-run_length : (n : ℕ) (bytes run rest : List ℕ) → run_at n bytes ≡ Ok (run, rest) → length run ≡ n
-run_length n bytes run rest e =
-    let f = field_ok n (λ run. Some run) bytes run rest e in
-    let is : take n bytes ≡ run = cc (f.1) in
-    subst (λ (t : List ℕ). length t ≡ n) is (length-take-le n bytes f.0)
-
--- a path in a word has no more bits than the word
-held_length : (width count word : ℕ) (path : List Bool) → path_in_word width count word ≡ Some path
-    → length path ≤ width
-held_length width count word path e =
-    let unused : ℕ = width - count in
-    let c = chosen (leb count width && (word % 2 ^ unused == 0)) (bits_of count (word / 2 ^ unused)) path e in
-    let tests = and_parts _ _ c.0 in
-    let within : count ≤ width = leb-true _ _ tests.0 in
-    let len : length path ≡ count =
-    sym (ap (λ (bits : List Bool). length bits) c.1) ∙ length-bits_of count (word / 2 ^ unused) in
-    omega (arith, len, within)
-
-path_length : (text : List ℕ) (path : List Bool) → path_in text ≡ Some path
-    → IsPath path
-path_length text path e = held_length key_bits (first_byte text) _ path e
-
--- a path that is to have a prefix has it
-below_has : (prefix : List Bool) (found : Option (List Bool)) (path : List Bool)
-    → if_below prefix found ≡ Some path → (found ≡ Some path) × (is_prefix prefix path ≡ true)
-below_has prefix None path e = absurd (cc)
-below_has prefix (Some other) path e =
-    let c = chosen (is_prefix prefix other) other path e in
-    (ap (λ (x : List Bool). Some x) c.1, subst (λ (x : List Bool). is_prefix prefix x ≡ true) c.1 c.0)
-
-path_at-short : (bytes : List ℕ) (path : List Bool) (rest : List ℕ)
-    → path_at bytes ≡ Ok (path, rest) → IsPath path
-unfolding path_at
-path_at-short bytes path rest e =
-    let f = field_ok (1 + byte_len w64) path_in bytes path rest e in
-    path_length (take (1 + byte_len w64) bytes) path f.1
-
-path_below-short : (prefix : List Bool) (bytes : List ℕ) (path : List Bool) (rest : List ℕ)
-    → path_below_at prefix bytes ≡ Ok (path, rest)
-    → (is_prefix prefix path ≡ true) × IsPath path
-unfolding path_below_at
-path_below-short prefix bytes path rest e =
-    let f = field_ok (1 + byte_len w64) (path_below_in prefix) bytes path rest e in
-    let below = below_has prefix (path_in (take (1 + byte_len w64) bytes)) path f.1 in
-    (below.1, path_length (take (1 + byte_len w64) bytes) path below.0)
-
--- ---- data values
-
-count_within : (longest : ℕ) (text : List ℕ) (count : ℕ) → count_in longest text ≡ Some count
-    → count ≤ longest
-count_within longest text count e =
-    let c = chosen (leb (first_byte text) longest) (first_byte text) count e in
-    subst (λ (n : ℕ). n ≤ longest) c.1 (leb-true _ _ c.0)
-
-blob_behind-fits : (longest : ℕ) (present : Bool) (bytes : List ℕ) (blob : Option (List ℕ))
-    (rest : List ℕ) → blob_behind longest present bytes ≡ Ok (blob, rest) → IsBlob longest blob
-blob_behind-fits longest false bytes blob rest e =
-    let none : Option (List ℕ) = None in
-    subst (λ (x : Option (List ℕ) × List ℕ). IsBlob longest x.0) (Ok-is (none, bytes) (blob, rest) e) tt
-blob_behind-fits longest true bytes blob rest e =
-    let count = bind_ok (field 1 (count_in longest) bytes)
-    (λ count. run_at count.0 count.1 >>= λ text. Ok (Some text.0, text.1)) (blob, rest) e in
-    let text = bind_ok (run_at count.0.0 count.0.1) (λ text. Ok (Some text.0, text.1)) (blob, rest) count.2 in
-    let counted = field_ok 1 (count_in longest) bytes count.0.0 count.0.1 count.1 in
-    let within = count_within longest (take 1 bytes) count.0.0 counted.1 in
-    let fits : length text.0.0 ≤ longest =
-    omega (arith, run_length count.0.0 count.0.1 text.0.0 text.0.1 text.1, within) in
-    let some : Option (List ℕ) = Some text.0.0 in
-    subst (λ (x : Option (List ℕ) × List ℕ). IsBlob longest x.0) (Ok-is (some, text.0.1) (blob, rest) text.2) fits
-
-blob_at-fits : (longest : ℕ) (bytes : List ℕ) (blob : Option (List ℕ)) (rest : List ℕ)
-    → blob_at longest bytes ≡ Ok (blob, rest) → IsBlob longest blob
-unfolding blob_at
-blob_at-fits longest bytes blob rest e =
-    let present =
-    bind_ok (field 1 flag_in bytes) (λ present. blob_behind longest present.0 present.1) (blob, rest) e in
-    blob_behind-fits longest present.0.0 present.0.1 blob rest present.2
-
--- ---- nodes
-
-pointer_behind-side : (node : List Bool) (side : Bool) (tag : Option Bool)
-    (bytes : List ℕ) (pointer : Option Pointer) (rest : List ℕ)
-    → pointer_behind (node ++ side ∷ []) tag bytes ≡ Ok (pointer, rest) → IsSide node side pointer
-pointer_behind-side node side None bytes pointer rest e =
-    let none : Option Pointer = None in
-    subst (λ (x : Option Pointer × List ℕ). IsSide node side x.0)
-    (Ok-is (none, bytes) (pointer, rest) e) tt
-pointer_behind-side node side (Some deferred) bytes pointer rest e =
-    let prefix : List Bool = node ++ side ∷ [] in
-    let path = bind_ok (path_below_at prefix bytes) (λ path. run_at 32 path.1 >>= λ digest.
-    Ok (Some (record { path = path.0; digest = digest.0; deferred = deferred }), digest.1)) (pointer, rest) e in
-    let digest = bind_ok (run_at 32 path.0.1) (λ digest.
-    Ok (Some (record { path = path.0.0; digest = digest.0; deferred = deferred }), digest.1))
-    (pointer, rest) path.2 in
-    let short = path_below-short prefix bytes path.0.0 path.0.1 path.1 in
-    let made : Pointer = record { path = path.0.0; digest = digest.0.0; deferred = deferred } in
-    let some : Option Pointer = Some made in
-    let kind : IsPointer node side made = record {
-      below = short.0;
-      fits = short.1;
-      digest = run_length 32 path.0.1 digest.0.0 digest.0.1 digest.1;
-    } in
-    subst (λ (x : Option Pointer × List ℕ). IsSide node side x.0)
-    (Ok-is (some, digest.0.1) (pointer, rest) digest.2) kind
-
-pointer_at-side : (node : List Bool) (side : Bool) (bytes : List ℕ) (pointer : Option Pointer)
-    (rest : List ℕ)
-    → pointer_at (node ++ side ∷ []) bytes ≡ Ok (pointer, rest) → IsSide node side pointer
-unfolding pointer_at
-pointer_at-side node side bytes pointer rest e =
-    let tag = bind_ok (field 1 pointer_tag_in bytes)
-    (λ tag. pointer_behind (node ++ side ∷ []) tag.0 tag.1) (pointer, rest) e in
-    pointer_behind-side node side tag.0.0 tag.0.1 pointer rest tag.2
-
-node_at-sides : (path : List Bool) (bytes : List ℕ) (node : Node) (rest : List ℕ)
-    → node_at path bytes ≡ Ok (node, rest)
-    → IsSide path false node.side0 × IsSide path true node.side1
-unfolding node_at
-node_at-sides path bytes node rest e =
-    let a = bind_ok (pointer_at (path ++ false ∷ []) bytes)
-    (λ side0. pointer_at (path ++ true ∷ []) side0.1 >>= λ side1.
-    Ok (record { side0 = side0.0; side1 = side1.0 }, side1.1)) (node, rest) e in
-    let b = bind_ok (pointer_at (path ++ true ∷ []) a.0.1)
-    (λ side1. Ok (record { side0 = a.0.0; side1 = side1.0 }, side1.1)) (node, rest) a.2 in
-    let made : Node = record { side0 = a.0.0; side1 = b.0.0 } in
-    subst (λ (x : Node × List ℕ). IsSide path false x.0.side0 × IsSide path true x.0.side1)
-    (Ok-is (made, b.0.1) (node, rest) b.2)
-    (pointer_at-side path false bytes a.0.0 a.0.1 a.1, pointer_at-side path true a.0.1 b.0.0 b.0.1 b.1)
-
--- ---- the value of a path
-
-value_by-kind : (longest : ℕ) (path : List Bool) (is_data : Bool) (bytes : List ℕ) (value : Value)
-    (rest : List ℕ) → IsPath path → eqb (length path) key_bits ≡ is_data
-    → value_by longest path is_data bytes ≡ Ok (value, rest) → IsOf longest path value
-value_by-kind longest path true bytes value rest short is e =
-    let blob = bind_ok (blob_at longest bytes) (λ blob. Ok (values.Blob blob.0, blob.1)) (value, rest) e in
-    let made : Value = values.Blob blob.0.0 in
-    subst (λ (x : Value × List ℕ). IsOf longest path x.0) (Ok-is (made, blob.0.1) (value, rest) blob.2)
-    (eqb-true _ _ is, blob_at-fits longest bytes blob.0.0 blob.0.1 blob.1)
-value_by-kind longest path false bytes value rest short is e =
-    let node = bind_ok (node_at path bytes) (λ node. Ok (values.Node node.0, node.1)) (value, rest) e in
-    let sides = node_at-sides path bytes node.0.0 node.0.1 node.1 in
-    let made : Value = values.Node node.0.0 in
-    let shorter : IsNodePath path = omega (arith, short, eqb-false _ _ is) in
-    subst (λ (x : Value × List ℕ). IsOf longest path x.0) (Ok-is (made, node.0.1) (value, rest) node.2)
-    (shorter, sides.0, sides.1)
-
--- What is read as the value of a path is of its kind.
-pub value_at-kind : (longest : ℕ) (path : List Bool) (bytes : List ℕ) (value : Value) (rest : List ℕ)
-    → IsPath path → value_at longest path bytes ≡ Ok (value, rest) → IsOf longest path value
-value_at-kind longest path bytes value rest short e =
-    value_by-kind longest path (eqb (length path) key_bits) bytes value rest short refl e
-
--- ---- commands
-
--- whatever a reader makes of bytes is of a kind
-abbrev pub ReadsTyped : {C : Type 0} → (C → Type 0) → (List ℕ → Parsed C) → Type 0
-ReadsTyped {C} Is read = (bytes : List ℕ) (command : C) (rest : List ℕ) → read bytes ≡ Ok (command, rest) → Is command
-
-pub typed_done : {C : Type 0} (Is : C → Type 0) (command : C) → Is command → ReadsTyped Is (λ bytes. Ok (command, bytes))
-typed_done Is command typed bytes made rest e =
-    subst (λ (x : _ × List ℕ). Is x.0) (Ok-is (command, bytes) (made, rest) e) typed
-
--- one reader after another
-pub typed_then : {A C : Type 0} (Is : C → Type 0) (first : List ℕ → Parsed A) (second : A → List ℕ → Parsed C)
-    → ((bytes : List ℕ) (a : A) (left : List ℕ) → first bytes ≡ Ok (a, left) → ReadsTyped Is (second a))
-    → ReadsTyped Is (λ bytes. then_at (first bytes) second)
-typed_then Is first second next bytes command rest e =
-    let t = then_ok (first bytes) second command rest e in
-    next bytes t.0 t.1 t.2 t.1 command rest t.3
-
--- a path, and a value of it
-pub typed_of : {C : Type 0} (Is : C → Type 0) (longest : ℕ) (second : List Bool → Value → List ℕ → Parsed C)
-    → ((path : List Bool) (value : Value) → IsOf longest path value → ReadsTyped Is (second path value))
-    → ReadsTyped Is (λ bytes. then_at (path_at bytes) (λ path left.
-    then_at (value_at longest path left) (second path)))
-typed_of Is longest second next =
-    typed_then Is path_at (λ path left. then_at (value_at longest path left) (second path))
-    (λ bytes path left e.
-    typed_then Is (value_at longest path) (second path) (λ more value rest is.
-    next path value (value_at-kind longest path more value rest (path_at-short bytes path left e) is)))
-
-pub typed_if : {C : Type 0} (Is : C → Type 0) (test : Bool) (first second : List ℕ → Parsed C)
-    → ReadsTyped Is first → ReadsTyped Is second
-    → ReadsTyped Is (λ bytes. cond test (first bytes) (second bytes))
-typed_if Is true first second one two = one
-typed_if Is false first second one two = two
-
--- a tag, and what is read behind it
-pub typed_tagged : {C : Type 0} (Is : C → Type 0) (behind : ℕ → List ℕ → Parsed C)
-    → ((tag : ℕ) → ReadsTyped Is (behind tag)) → ReadsTyped Is (λ bytes. tagged_at behind bytes)
-unfolding byte_at
-typed_tagged Is behind typed =
-    typed_then Is (λ bytes. field 1 (λ run. Some (first_byte run)) bytes) behind (λ bytes tag left e. typed tag)
-
--- ---- commands that name paths
-
-add_m_typed : (longest : ℕ) → ReadsTyped (IsTyped longest) (add_m_at longest)
-add_m_typed longest =
-    typed_of (IsTyped longest) longest
-    (λ path value left. then_at (path_at left) (λ parent rest. Ok (AddM path value parent, rest)))
-    (λ path value kind.
-    typed_then (IsTyped longest) path_at (λ parent rest. Ok (AddM path value parent, rest)) (λ bytes parent left e.
-    typed_done (IsTyped longest) (AddM path value parent) kind))
-
-evict_m_typed : (longest : ℕ) → ReadsTyped (IsTyped longest) evict_m_at
-evict_m_typed longest =
-    typed_then (IsTyped longest) path_at
-    (λ path left. then_at (path_at left) (λ parent rest. Ok (EvictM path parent, rest))) (λ bytes path left e.
-    typed_then (IsTyped longest) path_at (λ parent rest. Ok (EvictM path parent, rest)) (λ bytes parent left e.
-    typed_done (IsTyped longest) (EvictM path parent) tt))
-
-add_b_typed : (longest : ℕ) → ReadsTyped (IsTyped longest) (add_b_at longest)
-add_b_typed longest =
-    typed_of (IsTyped longest) longest (λ path value left. two_at (AddB path value) stamp_at (λ stamp. u16_at) left)
-    (λ path value kind.
-    typed_then (IsTyped longest) stamp_at
-    (λ stamp left. then_at (u16_at left) (λ verifier rest. Ok (AddB path value stamp verifier, rest)))
-    (λ bytes stamp left e.
-    typed_then (IsTyped longest) u16_at (λ verifier rest. Ok (AddB path value stamp verifier, rest)) (λ bytes verifier left e.
-    typed_done (IsTyped longest) (AddB path value stamp verifier) kind)))
-
-evict_b_typed : (longest : ℕ) → ReadsTyped (IsTyped longest) evict_b_at
-evict_b_typed longest =
-    typed_then (IsTyped longest) path_at
-    (λ path left. then_at (stamp_at left) (λ stamp rest. Ok (EvictB path stamp, rest))) (λ bytes path left e.
-    typed_then (IsTyped longest) stamp_at (λ stamp rest. Ok (EvictB path stamp, rest)) (λ bytes stamp left e.
-    typed_done (IsTyped longest) (EvictB path stamp) tt))
-
-evict_bm_typed : (longest : ℕ) → ReadsTyped (IsTyped longest) evict_bm_at
-evict_bm_typed longest =
-    typed_then (IsTyped longest) path_at
-    (λ path left. two_at (EvictBM path) path_at (λ parent. stamp_at) left) (λ bytes path left e.
-    typed_then (IsTyped longest) path_at
-    (λ parent left. then_at (stamp_at left) (λ stamp rest. Ok (EvictBM path parent stamp, rest)))
-    (λ bytes parent left e.
-    typed_then (IsTyped longest) stamp_at (λ stamp rest. Ok (EvictBM path parent stamp, rest)) (λ bytes stamp left e.
-    typed_done (IsTyped longest) (EvictBM path parent stamp) tt)))
-
-get_typed : (longest : ℕ) → ReadsTyped (IsTyped longest) (get_at longest)
-get_typed longest =
-    typed_of (IsTyped longest) longest (λ path value rest. Ok (Get path value, rest))
-    (λ path value kind. typed_done (IsTyped longest) (Get path value) tt)
-
-put_typed : (longest : ℕ) → ReadsTyped (IsTyped longest) (put_at longest)
-put_typed longest =
-    typed_of (IsTyped longest) longest (λ path value rest. Ok (Put path value, rest))
-    (λ path value kind. typed_done (IsTyped longest) (Put path value) kind)
-
-behind_typed : (longest : ℕ) (tag : ℕ) → ReadsTyped (IsTyped longest) (command_behind longest tag)
-behind_typed longest tag =
-    typed_if (IsTyped longest) (tag == 1) (add_m_at longest) _ (add_m_typed longest)
-    (typed_if (IsTyped longest) (tag == 2) evict_m_at _ (evict_m_typed longest)
-    (typed_if (IsTyped longest) (tag == 3) (add_b_at longest) _ (add_b_typed longest)
-    (typed_if (IsTyped longest) (tag == 4) evict_b_at _ (evict_b_typed longest)
-    (typed_if (IsTyped longest) (tag == 5) evict_bm_at _ (evict_bm_typed longest)
-    (typed_if (IsTyped longest) (tag == 6) (get_at longest) _ (get_typed longest)
-    (typed_if (IsTyped longest) (tag == 7) (put_at longest) _ (put_typed longest)
-    (typed_if (IsTyped longest) (tag == 8) (λ bytes. Ok (NextEpoch, bytes)) (λ bytes. Err Malformed)
-    (typed_done (IsTyped longest) NextEpoch tt)
-    (λ bytes command rest e. absurd (cc)))))))))
+-- a command of either kind
+typed_by : (by_path : Bool) (longest : ℕ) (bytes : List ℕ) (command : LogCommand) (rest : List ℕ)
+    → command_by by_path longest bytes ≡ Ok (command, rest) → IsTyped longest command
+typed_by true longest bytes command rest e =
+    let read = bind_ok (path_command_at longest bytes) (λ command. Ok (ByPath command.0, command.1)) (command, rest) e in
+    subst (λ (x : LogCommand × List ℕ). IsTyped longest x.0) (Ok-is (ByPath read.0.0, read.0.1) (command, rest) read.2)
+    (path_command_typed longest bytes read.0.0 read.0.1 read.1)
+typed_by false longest bytes command rest e =
+    let read = bind_ok (slot_command_at longest bytes) (λ command. Ok (BySlot command.0, command.1)) (command, rest) e in
+    subst (λ (x : LogCommand × List ℕ). IsTyped longest x.0) (Ok-is (BySlot read.0.0, read.0.1) (command, rest) read.2)
+    (slot_command_typed longest bytes read.0.0 read.0.1 read.1)
 
 -- What is read as a command is typed.
-pub command_typed : (longest : ℕ) (bytes : List ℕ) (command : Command) (rest : List ℕ)
-    → command_at longest bytes ≡ Ok (command, rest) → IsTyped longest command
+pub command_typed : (format : LogFormat) (bytes : List ℕ) (command : LogCommand) (rest : List ℕ)
+    → command_at format bytes ≡ Ok (command, rest) → IsTyped format.longest command
 unfolding command_at
-command_typed longest bytes command rest e =
-    typed_tagged (IsTyped longest) (λ tag left. command_behind longest tag left) (behind_typed longest) bytes command rest e
+command_typed format bytes command rest e = typed_by format.by_path format.longest bytes command rest e
 
--- ---- logs
-
-log_typed : (longest : ℕ) (count : ℕ) (bytes : List ℕ)
-    → AllByRecursion (IsTyped longest) (log_up_to count longest bytes).commands
+log_typed : (format : LogFormat) (count : ℕ) (bytes : List ℕ)
+    → AllByRecursion (IsTyped format.longest) (log_up_to count format bytes).commands
 unfolding log_up_to
-log_typed longest zero bytes = tt
-log_typed longest (suc count) [] = tt
-log_typed longest (suc count) (byte ∷ bytes) = go (command_at longest (byte ∷ bytes)) refl (log_typed longest count)
+log_typed format zero bytes = tt
+log_typed format (suc count) [] = tt
+log_typed format (suc count) (byte ∷ bytes) = go (command_at format (byte ∷ bytes)) refl (log_typed format count)
   where
-    go : (parsed : Parsed Command) → command_at longest (byte ∷ bytes) ≡ parsed
-        → ((rest : List ℕ) → AllByRecursion (IsTyped longest) (log_up_to count longest rest).commands)
-        → AllByRecursion (IsTyped longest) (log_behind parsed (λ rest. log_up_to count longest rest)).commands
-    go (Ok found) e later = (command_typed longest (byte ∷ bytes) found.0 found.1 e, later found.1)
+    go : (parsed : Parsed LogCommand) → command_at format (byte ∷ bytes) ≡ parsed
+        → ((rest : List ℕ) → AllByRecursion (IsTyped format.longest) (log_up_to count format rest).commands)
+        → AllByRecursion (IsTyped format.longest) (log_behind parsed (λ rest. log_up_to count format rest)).commands
+    go (Ok found) e later = (command_typed format (byte ∷ bytes) found.0 found.1 e, later found.1)
     go (Err fault) e later = tt
 
 -- The commands that a log is read as are typed.
-pub read_typed : (bytes : List ℕ) → AllByRecursion (IsTyped longest_blob) (read_log longest_blob bytes).commands
-read_typed bytes = log_typed longest_blob (length bytes) bytes
+pub read_typed : (format : LogFormat) (bytes : List ℕ) → AllByRecursion (IsTyped format.longest) (read_log format bytes).commands
+read_typed format bytes = log_typed format (length bytes) bytes

@@ -2,19 +2,20 @@
 use Rattle.std.proofs.Common.{◌≡◌, ℕ, zero, suc, ◌+◌, eqb, List, [], ◌∷◌, get_or, refl, ◌∙◌, ap, subst, arith}
 use Rattle.std.proofs.lemmas.Bool.{cond-true, cond-false, eq-eqb, ne_eqb}
 use Rattle.lamport_clocks.specs.declared.header.Header.{Header}
-use Rattle.record_text.specs.Longest.{longest_blob}
-use Rattle.log_codec.specs.declared.command.Command.{Command}
+use Rattle.record_text.specs.Format.{LogFormat, format_of}
+use Rattle.log_codec.specs.declared.log_command.LogCommand.{LogCommand}
 use Rattle.record_hash.specs.Functions.{DigestFunctions}
 use Rattle.merkle_records.specs.Merkle.{GivesDigests}
 use Rattle.merkle_records.specs.Scheme.{Scheme, scheme_of}
 use Rattle.stamp_order.specs.Merged.{IsMerged, up_to, of_verifier}
 use Rattle.soundness.specs.History.{Event, histories_of}
+use Rattle.soundness.specs.Typed.{AreTyped}
 use Rattle.soundness.specs.IsHistory.{AreTimely}
 use Rattle.soundness.specs.Certified.{certified_operations, event_moment, order_of, order_up_to, added_in, evicted_in, certified_count, sealed_by_all}
 use Rattle.soundness.specs.Exhibit.{exhibit_of}
 use Rattle.soundness.specs.Timed.{AreTimed}
 use Rattle.soundness.specs.Scheduled.{IsScheduled, ArePermuted}
-use Rattle.soundness.specs.Sound.{AreTyped, IsSerialOrCollides, commands_of, histories_read}
+use Rattle.soundness.specs.Sound.{IsSerialOrCollides, commands_of, histories_read}
 use Rattle.soundness.proofs.PermutationLaws.{count_permuted}
 use Rattle.soundness.proofs.ScheduleLemmas.{AreEven, scheduled}
 use Rattle.soundness.proofs.OrderLemmas.{history_of, part_up_to, order_timed, order_sorted, order_splits}
@@ -26,9 +27,9 @@ use Rattle.soundness.proofs.TypedLaws.{read_typed}
 -- ---- logs that are read from bytes
 
 -- their commands are typed
-commands_typed : (logs : List (List ℕ)) → AreTyped longest_blob (commands_of longest_blob logs)
-commands_typed [] = tt
-commands_typed (bytes ∷ logs) = (read_typed bytes, commands_typed logs)
+commands_typed : (format : LogFormat) (logs : List (List ℕ)) → AreTyped format.longest (commands_of format logs)
+commands_typed format [] = tt
+commands_typed format (bytes ∷ logs) = (read_typed format bytes, commands_typed format logs)
 
 -- The operations of the certified epochs are serial, or the exhibit collides.
 pub certified_sound : (functions : DigestFunctions) (header : Header) (logs : List (List ℕ))
@@ -39,8 +40,8 @@ pub certified_sound : (functions : DigestFunctions) (header : Header) (logs : Li
     (certified_operations (scheme_of functions header) header.first histories)
 certified_sound functions header logs digests =
     let histories = histories_read (scheme_of functions header) header logs in
-    sound functions header (commands_of longest_blob logs) (certified_count (scheme_of functions header) header.first histories) digests
-    (commands_typed logs) (counted_balanced (scheme_of functions header) (order_of histories) header.first (sealed_by_all histories))
+    sound functions header (commands_of (format_of header) logs) (certified_count (scheme_of functions header) header.first histories) digests
+    (commands_typed (format_of header) logs) (counted_balanced (scheme_of functions header) (order_of histories) header.first (sealed_by_all histories))
 
 -- ---- the schedule
 
@@ -79,7 +80,7 @@ histories_part header histories epoch v timely =
     ∙ ap (up_to event_moment epoch) (history_there 0 histories v v (omega arith))
 
 -- And so it is of logs.
-pub order_part : (scheme : Scheme) (header : Header) (logs : List (List Command))
+pub order_part : (scheme : Scheme) (header : Header) (logs : List (List LogCommand))
     (epoch v : ℕ)
     → of_verifier event_moment v (order_up_to epoch (histories_of scheme header logs))
     ≡ up_to event_moment epoch (get_or (histories_of scheme header logs) v [])

@@ -1,11 +1,13 @@
 -- The definitions of soundness, in reading order.
 pub mod History
 pub mod StateHistory
+pub mod PathHistory
 pub mod Certified
 pub mod Clash
 pub mod Spot
 pub mod Typed
 pub mod Showing
+pub mod SlotHistory
 pub mod Timed
 pub mod IsHistory
 pub mod Permutation
@@ -13,4 +15,5 @@ pub mod Exhibit
 pub mod Collision
 pub mod Scheduled
 pub mod World
+pub mod Behind
 pub mod Sound

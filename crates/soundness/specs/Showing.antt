@@ -1,5 +1,5 @@
 -- What soundness knows of a step of a verifier: what its cache shows before and after, by what was done.
-use Rattle.std.specs.Prelude.{◌≡◌, ℕ, Bool, false, List, Option, Some, None, IsNone, Ok, length, if◌then◌else◌}
+use Rattle.std.specs.Prelude.{◌≡◌, ℕ, Bool, false, List, Option, Some, None, IsNone, Ok, if◌then◌else◌}
 use Rattle.tree_keys.specs.Path.{same_path, IsData}
 use Rattle.lamport_clocks.specs.declared.header.Header.{Header}
 use Rattle.record_text.specs.declared.value.Value.{Value}

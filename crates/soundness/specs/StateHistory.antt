@@ -4,12 +4,11 @@ use Rattle.std.specs.Prelude.{◌≡◌, ℕ, suc, List, [], ◌∷◌, Option, 
 use Rattle.lamport_clocks.specs.declared.header.Header.{Header}
 use Rattle.lamport_clocks.specs.declared.stamp.Stamp.{Stamp}
 use Rattle.record_text.specs.declared.refusal.Refusal.{Refusal}
-use Rattle.log_codec.specs.declared.command.Command.{Command}
+use Rattle.log_codec.specs.declared.log_command.LogCommand.{LogCommand}
 use Rattle.merkle_records.specs.Scheme.{Scheme}
-use Rattle.verifier_commands.specs.declared.state.State.{State}
-use Rattle.verifier_commands.specs.State.{opening}
 use Rattle.verifier_commands.specs.Change.{Change}
-use Rattle.verifier_commands.specs.Transition.{Rules, transition}
+use Rattle.verifier_commands.specs.Transition.{Rules}
+use Rattle.verifier_commands.specs.VerifierState.{VerifierState, perform, first_state}
 use Rattle.soundness.specs.History.{Event, log_events, log_refusal}
 
 -- What is told of commands of any kind: what each does to a state, and the clock that a state shows.
@@ -46,16 +45,16 @@ abbrev pub rules_under : Scheme → Header → ℕ → Rules
 rules_under scheme header number = record { scheme = scheme; number = number; verifiers = header.verifiers }
 
 -- the machinery of a verifier: the command table, and its state's clock
-abbrev pub machinery_under : Rules → Machinery State Command
-machinery_under rules = record { step = transition rules; clock = λ state. state.clock.at }
+abbrev pub machinery_under : Rules → Machinery VerifierState LogCommand
+machinery_under rules = record { step = perform rules; clock = λ state. state.clock.at }
 
 -- the machinery of the verifier of this number under a header
-abbrev pub machinery_of : Scheme → Header → ℕ → Machinery State Command
+abbrev pub machinery_of : Scheme → Header → ℕ → Machinery VerifierState LogCommand
 machinery_of scheme header number = machinery_under (rules_under scheme header number)
 
 -- A log's history is told from the opening state.
-pub record HistoryFromState (scheme : Scheme) (header : Header) (number : ℕ) (commands : List Command) : Type 0 where
+pub record HistoryFromState (scheme : Scheme) (header : Header) (number : ℕ) (commands : List LogCommand) : Type 0 where
   pub events : log_events scheme header number commands
-      ≡ events_from (machinery_of scheme header number) number 0 (opening number header) commands
+      ≡ events_from (machinery_of scheme header number) number 0 (first_state number header) commands
   pub refusal : log_refusal scheme header number commands
-      ≡ refusal_from (machinery_of scheme header number) (opening number header) commands
+      ≡ refusal_from (machinery_of scheme header number) (first_state number header) commands

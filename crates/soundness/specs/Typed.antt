@@ -1,16 +1,44 @@
 -- Commands whose values are of their paths' kinds. Whatever is read from a log is so.
-use Rattle.std.specs.Prelude.{ℕ}
-use Rattle.record_text.specs.Value.{IsOf}
+use Rattle.std.specs.Prelude.{ℕ, List}
+use Rattle.std.specs.List.{AllByRecursion}
+use Rattle.record_text.specs.Value.{IsOf, IsBlob}
 use Rattle.log_codec.specs.declared.command.Command.{Command}
-use Rattle.log_codec.specs.declared.command.Command.TheVariants.{AddM, EvictM, AddB, EvictB, EvictBM, Get, Put, NextEpoch}
+use Rattle.log_codec.specs.declared.command.Command.TheVariants as paths
+use Rattle.log_codec.specs.declared.slot_command.SlotCommand.{SlotCommand}
+use Rattle.log_codec.specs.declared.slot_command.SlotCommand.TheVariants as slots
+use Rattle.log_codec.specs.declared.log_command.LogCommand.{LogCommand}
+use Rattle.log_codec.specs.declared.log_command.LogCommand.TheVariants.{ByPath, BySlot}
+
+-- the value that a command which names paths brings in is of its path's kind
+abbrev pub IsPathTyped : ℕ → Command → Type 0
+IsPathTyped longest (paths.AddM path value parent) = IsOf longest path value
+IsPathTyped longest (paths.EvictM path parent) = Unit {0}
+IsPathTyped longest (paths.AddB path value stamp verifier) = IsOf longest path value
+IsPathTyped longest (paths.EvictB path stamp) = Unit {0}
+IsPathTyped longest (paths.EvictBM path parent stamp) = Unit {0}
+IsPathTyped longest (paths.Get path value) = Unit {0}
+IsPathTyped longest (paths.Put path value) = IsOf longest path value
+IsPathTyped longest paths.NextEpoch = Unit {0}
+
+-- the value that a command which names slots brings in is of its path's kind
+abbrev pub IsSlotTyped : ℕ → SlotCommand → Type 0
+IsSlotTyped longest (slots.AddM slot path value parent) = IsOf longest path value
+IsSlotTyped longest (slots.EvictM slot parent) = Unit {0}
+IsSlotTyped longest (slots.AddB slot path value stamp verifier) = IsOf longest path value
+IsSlotTyped longest (slots.EvictB slot stamp) = Unit {0}
+IsSlotTyped longest (slots.EvictBM slot parent stamp) = Unit {0}
+IsSlotTyped longest (slots.Get slot value) = Unit {0}
+IsSlotTyped longest (slots.Put slot value) = IsBlob longest value
+IsSlotTyped longest slots.NextEpoch = Unit {0}
 
 -- the value that a command brings in is of its path's kind
-abbrev pub IsTyped : ℕ → Command → Type 0
-IsTyped longest (AddM path value parent) = IsOf longest path value
-IsTyped longest (EvictM path parent) = Unit {0}
-IsTyped longest (AddB path value stamp verifier) = IsOf longest path value
-IsTyped longest (EvictB path stamp) = Unit {0}
-IsTyped longest (EvictBM path parent stamp) = Unit {0}
-IsTyped longest (Get path value) = Unit {0}
-IsTyped longest (Put path value) = IsOf longest path value
-IsTyped longest NextEpoch = Unit {0}
+abbrev pub IsTyped : ℕ → LogCommand → Type 0
+IsTyped longest (ByPath command) = IsPathTyped longest command
+IsTyped longest (BySlot command) = IsSlotTyped longest command
+
+-- the commands of each log are typed, and so are those of logs whose commands name paths
+abbrev pub AreTyped : ℕ → List (List LogCommand) → Type 0
+AreTyped longest logs = AllByRecursion (AllByRecursion (IsTyped longest)) logs
+
+abbrev pub ArePathsTyped : ℕ → List (List Command) → Type 0
+ArePathsTyped longest logs = AllByRecursion (AllByRecursion (IsPathTyped longest)) logs

@@ -1,18 +1,24 @@
 //! What follows from the definitions of histories, epochs and exhibits. These functions do nothing: their
 //! contracts are the laws.
-ghost use Rattle.std.specs.Prelude.{◌≡◌, ℕ, ◌≤◌, List, [], ◌∷◌, ◌++◌, None, get_or};
+ghost use Rattle.std.specs.Prelude.{◌≡◌, ℕ, ◌≤◌, true, false, List, [], ◌∷◌, ◌++◌, map, None, get_or};
 ghost use Rattle.std.specs.List.{flat_map, AllByRecursion, IsDistinct};
 ghost use Rattle.lamport_clocks.specs.declared.header.Header.{Header};
 ghost use Rattle.record_text.specs.Longest.{longest_of};
+ghost use Rattle.lamport_clocks.specs.Header.{names_paths};
 ghost use Rattle.log_codec.specs.declared.command.Command.{Command};
+ghost use Rattle.log_codec.specs.declared.slot_command.SlotCommand.{SlotCommand};
+ghost use Rattle.log_codec.specs.declared.log_command.LogCommand.{LogCommand};
+ghost use Rattle.log_codec.specs.declared.log_command.LogCommand.TheVariants.{ByPath, BySlot};
 ghost use Rattle.record_hash.specs.Functions.{DigestFunctions};
 ghost use Rattle.merkle_records.specs.Merkle.{GivesDigests};
 ghost use Rattle.merkle_records.specs.Scheme.{Scheme, scheme_of};
 ghost use Rattle.stamp_order.specs.Merged.{up_to, of_verifier};
 ghost use Rattle.record_text.specs.declared.element.Element.{Element};
-ghost use Rattle.soundness.specs.History.{Event, log_events, histories_of};
+ghost use Rattle.soundness.specs.History.{Event, log_events, log_refusal, histories_of};
 ghost use Rattle.soundness.specs.StateHistory.{HistoryFromState};
-ghost use Rattle.soundness.specs.Typed.{IsTyped};
+ghost use Rattle.soundness.specs.PathHistory.{path_log_events, path_log_refusal, path_histories_of};
+ghost use Rattle.soundness.specs.SlotHistory.{slot_log_events, slot_log_refusal};
+ghost use Rattle.soundness.specs.Typed.{IsTyped, IsPathTyped, IsSlotTyped, AreTyped, ArePathsTyped};
 ghost use Rattle.soundness.specs.IsHistory.{IsTimely, AreTimely, IsHistory, AreHistories};
 ghost use Rattle.soundness.specs.Certified.{event_moment, order_of, order_up_to, order_after, order_within, operations_in, operations_of, epochs_from, certified_count, certified_operations};
 ghost use Rattle.soundness.specs.Timed.{AreTimed, added_among, evicted_among, IsRising};
@@ -20,8 +26,9 @@ ghost use Rattle.soundness.specs.Permutation.{same_element, count_of};
 ghost use Rattle.soundness.specs.Clash.{none_evicted, first_clash};
 ghost use Rattle.soundness.specs.Exhibit.{exhibit_of};
 ghost use Rattle.soundness.specs.Scheduled.{IsScheduled, ArePermuted};
-ghost use Rattle.soundness.specs.Sound.{AreTyped, AreBalanced, IsSerialOrCollides, histories_read};
+ghost use Rattle.soundness.specs.Sound.{AreBalanced, IsSerialOrCollides, histories_read};
 ghost use Rattle.soundness.specs.Spot.{waiting, Spots};
+ghost use Rattle.soundness.specs.Behind.{CachesShow};
 ghost use Rattle.soundness.specs.World.{changes_in, pending_behind, IsPending, IsBehind, HaveSpots, TakesFromSpots};
 
 /// Of epochs that are balanced, from the first on, the gets and puts are serial and there is nothing to
@@ -35,7 +42,7 @@ pub fn certified_is_serial_or_collides()
         → IsSerialOrCollides (scheme_of functions header) (exhibit_of header.first count histories)
         (operations_in (order_within header.first count histories)) }
     ensures sound { (functions : DigestFunctions) (header : Header)
-        (logs : List (List Command)) (count : ℕ)
+        (logs : List (List LogCommand)) (count : ℕ)
         → let histories = histories_of (scheme_of functions header) header logs in
         GivesDigests functions.digest → AreTyped (longest_of header) logs → AreBalanced (scheme_of functions header) (order_of histories) header.first count
         → IsSerialOrCollides (scheme_of functions header) (exhibit_of header.first count histories)
@@ -53,21 +60,66 @@ pub fn certified_is_serial_or_collides()
 /// its path's kind. The laws on histories ask nothing more of commands.
 pub fn logs_have_histories()
     ensures own { (functions : DigestFunctions) (header : Header)
-        (number : ℕ) (commands : List Command)
+        (number : ℕ) (commands : List LogCommand)
         → AllByRecursion (λ element. element.verifier ≡ number)
         (evicted_among (log_events (scheme_of functions header) header number commands)) }
     ensures timely { (functions : DigestFunctions) (header : Header)
-        (number : ℕ) (commands : List Command)
+        (number : ℕ) (commands : List LogCommand)
         → IsTimely header number (log_events (scheme_of functions header) header number commands) }
     ensures history { (functions : DigestFunctions) (header : Header)
-        (number : ℕ) (commands : List Command)
+        (number : ℕ) (commands : List LogCommand)
         → AllByRecursion (IsTyped (longest_of header)) commands
         → IsHistory (longest_of header) functions.digest header number (log_events (scheme_of functions header) header number commands) }
     ensures all_timely { (functions : DigestFunctions) (header : Header)
-        (logs : List (List Command)) → AreTimely header 0 (histories_of (scheme_of functions header) header logs) }
+        (logs : List (List LogCommand)) → AreTimely header 0 (histories_of (scheme_of functions header) header logs) }
     ensures all_histories { (functions : DigestFunctions) (header : Header)
-        (logs : List (List Command)) → AreTyped (longest_of header) logs
+        (logs : List (List LogCommand)) → AreTyped (longest_of header) logs
         → AreHistories (longest_of header) functions.digest header 0 (histories_of (scheme_of functions header) header logs) }
+{}
+
+/// So it is of commands that name paths, told from the state of a verifier that keeps its entries by path.
+pub fn path_logs_have_histories()
+    ensures timely { (functions : DigestFunctions) (header : Header)
+        (number : ℕ) (commands : List Command)
+        → IsTimely header number (path_log_events (scheme_of functions header) header number commands) }
+    ensures history { (functions : DigestFunctions) (header : Header)
+        (number : ℕ) (commands : List Command)
+        → AllByRecursion (IsPathTyped (longest_of header)) commands
+        → IsHistory (longest_of header) functions.digest header number (path_log_events (scheme_of functions header) header number commands) }
+    ensures all_histories { (functions : DigestFunctions) (header : Header)
+        (logs : List (List Command)) → ArePathsTyped (longest_of header) logs
+        → AreHistories (longest_of header) functions.digest header 0 (path_histories_of (scheme_of functions header) header logs) }
+{}
+
+/// And of commands that name slots, told from the state of a verifier that keeps slots.
+pub fn slot_logs_have_histories()
+    ensures timely { (functions : DigestFunctions) (header : Header)
+        (number : ℕ) (commands : List SlotCommand)
+        → IsTimely header number (slot_log_events (scheme_of functions header) header number commands) }
+    ensures history { (functions : DigestFunctions) (header : Header)
+        (number : ℕ) (commands : List SlotCommand)
+        → AllByRecursion (IsSlotTyped (longest_of header)) commands
+        → IsHistory (longest_of header) functions.digest header number (slot_log_events (scheme_of functions header) header number commands) }
+{}
+
+/// A log of the first version has the history of its commands that name paths, and one of a later version that of its
+/// commands that name slots; and so have they their refusal.
+pub fn versions_name_paths_or_slots()
+    ensures paths { (scheme : Scheme) (header : Header) (number : ℕ) (commands : List Command)
+        → names_paths header ≡ true
+        → log_events scheme header number (map ByPath commands) ≡ path_log_events scheme header number commands }
+    ensures path_refusal { (scheme : Scheme) (header : Header) (number : ℕ) (commands : List Command)
+        → names_paths header ≡ true
+        → log_refusal scheme header number (map ByPath commands) ≡ path_log_refusal scheme header number commands }
+    ensures slots { (scheme : Scheme) (header : Header) (number : ℕ) (commands : List SlotCommand)
+        → names_paths header ≡ false
+        → log_events scheme header number (map BySlot commands) ≡ slot_log_events scheme header number commands }
+    ensures slot_refusal { (scheme : Scheme) (header : Header) (number : ℕ) (commands : List SlotCommand)
+        → names_paths header ≡ false
+        → log_refusal scheme header number (map BySlot commands) ≡ slot_log_refusal scheme header number commands }
+    ensures path_histories { (scheme : Scheme) (header : Header) (logs : List (List Command))
+        → names_paths header ≡ true
+        → histories_of scheme header (map (λ log. map ByPath log) logs) ≡ path_histories_of scheme header logs }
 {}
 
 /// A clock is above the stamps that it took in, and an evicted element is stamped with it. Each element that a
@@ -132,6 +184,21 @@ pub fn records_have_one_spot()
         → HaveSpots functions.digest header front }
 {}
 
+/// Of typed logs it is so of the caches themselves: behind each front of the merged order that shows no clash, no path stands
+/// twice in any cache, whatever commands name, and each cache shows just what is at the spots. So a slot of one verifier
+/// alone holds a path that is cached.
+pub fn caches_hold_each_path_once()
+    ensures once { (functions : DigestFunctions) (header : Header)
+        (logs : List (List LogCommand)) (last : ℕ) (front back : List Event)
+        → let histories = histories_of (scheme_of functions header) header logs in
+        GivesDigests functions.digest → AreTyped (longest_of header) logs
+        → ArePermuted header.first last (order_of histories)
+        → order_up_to last histories ≡ front ++ back
+        → first_clash none_evicted (changes_in front) ≡ None
+        → (spots : Spots) × IsBehind functions.digest header front spots
+        × CachesShow (scheme_of functions header) header logs front spots }
+{}
+
 /// Where of each epoch up to one the added elements are a permutation of the evicted ones, the elements of these
 /// epochs that come in later ones are just those that wait at the end of the merged order up to that one: each was
 /// evicted there once and not added back. Where that order shows no clash, the spot of its path waits with it.
@@ -170,5 +237,5 @@ pub fn adds_take_what_is_there()
 /// The history of a log, and the refusal that ends it, are told from the opening state of its verifier alone, whatever its
 /// sums: as a host knows what commands do from where a verifier rests.
 pub fn histories_are_told_from_states()
-    ensures told { (scheme : Scheme) (header : Header) (number : ℕ) (commands : List Command) → HistoryFromState scheme header number commands }
+    ensures told { (scheme : Scheme) (header : Header) (number : ℕ) (commands : List LogCommand) → HistoryFromState scheme header number commands }
 {}

@@ -1,5 +1,5 @@
 use Rattle.std.proofs.Common.{◌≡◌, List, map, IfOk, sym, ◌∙◌, ap, subst}
-use Rattle.record_text.specs.Longest.{longest_blob}
+use Rattle.record_text.specs.Format.{format_of}
 use Rattle.merkle_records.specs.Scheme.{scheme_of}
 use Rattle.record_text.specs.declared.exhibit.Exhibit.{Exhibit}
 use Rattle.soundness.specs.Sound.{commands_of, histories_read}
@@ -19,7 +19,7 @@ shown-requires c =
           subst (λ (audited : List AuditEvent). HaveOwnStamps (evicted_elements audited))
           (sym (c.deref.ensures.value
           ∙ ordered_kept bundle.0 bundle.1 bundle.2 (map (λ run. run.course) c.args.runs.items) c.in_ok-audited.audited.items bundle.3 c.in_ok-audited.ensures.ordered))
-          (distinct_evicts (scheme_of bundle.0 bundle.1) bundle.1 (commands_of longest_blob bundle.2));
+          (distinct_evicts (scheme_of bundle.0 bundle.1) bundle.1 (commands_of (format_of bundle.1) bundle.2));
     }
 
 pub returns : goal.returns

@@ -1,4 +1,4 @@
-use Rattle.soundness.proofs.StateHistoryLaws.{history-from_state}
+use Rattle.soundness.proofs.StateHistoryLemmas.{history-from_state}
 use Rattle.soundness.proofs.laws.histories_are_told_from_states.Goals as goal
 
 pub returns : goal.returns

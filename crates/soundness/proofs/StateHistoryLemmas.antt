@@ -1,21 +1,17 @@
 -- A log's history is the one that is told from the opening state.
-use Rattle.std.proofs.Common.{◌≡◌, ℕ, suc, List, [], ◌∷◌, Ok, Err, refl, ◌∙◌, ap, subst, add-one}
+use Rattle.std.proofs.Common.{◌≡◌, ℕ, suc, List, [], ◌∷◌, Ok, Err, refl, ◌∙◌, ap, add-one}
 use Rattle.base_words.specs.Traced.{traced}
 use Rattle.lamport_clocks.specs.declared.header.Header.{Header}
-use Rattle.log_codec.specs.declared.command.Command.{Command}
+use Rattle.log_codec.specs.declared.log_command.LogCommand.{LogCommand}
 use Rattle.merkle_records.specs.Scheme.{Scheme}
-use Rattle.verifier_commands.specs.Transition.{Step, transition}
+use Rattle.verifier_commands.specs.VerifierState.{VerifierStep, perform}
 use Rattle.verifier_commands.specs.Machine.{Machine, rules_for, opening_machine}
 use Rattle.verifier_commands.specs.Trace.{trace, trace_behind, changed}
 use Rattle.verifier_commands.specs.Trace.{events_from as machine_events, events_behind as machine_events_behind}
-use Rattle.verifier_commands.specs.declared.state.State.{State}
-use Rattle.verifier_commands.specs.Sums.{zero_sums}
 use Rattle.soundness.specs.History.{Event}
-use Rattle.soundness.specs.StateHistory.{events_from, events_behind, refusal_from, refusal_behind, machinery_under, machinery_of, HistoryFromState}
-use Rattle.soundness.specs.IsHistory.{IsTicking}
-use Rattle.soundness.proofs.HistoryLaws.{events-tick}
+use Rattle.soundness.specs.StateHistory.{events_from, events_behind, refusal_from, refusal_behind, machinery_under, HistoryFromState}
 
-events_step : (scheme : Scheme) (machine : Machine) (commands : List Command) (step : Step)
+events_step : (scheme : Scheme) (machine : Machine) (commands : List LogCommand) (step : VerifierStep)
     → ((after : Machine) → machine_events scheme after commands
     ≡ events_from (machinery_under (rules_for scheme after)) after.number after.accepted after.state commands)
     → machine_events_behind scheme machine commands step
@@ -29,16 +25,16 @@ events_step scheme machine commands (Ok done) further =
 events_step scheme machine commands (Err refusal) further = refl
 
 -- the events of a verifier's commands
-pub events-from_state : (scheme : Scheme) (machine : Machine) (commands : List Command)
+pub events-from_state : (scheme : Scheme) (machine : Machine) (commands : List LogCommand)
     → machine_events scheme machine commands
     ≡ events_from (machinery_under (rules_for scheme machine)) machine.number machine.accepted machine.state commands
 unfolding traced events_from
 events-from_state scheme machine [] = refl
 events-from_state scheme machine (command ∷ commands) =
-    events_step scheme machine commands (transition (rules_for scheme machine) machine.state command)
+    events_step scheme machine commands (perform (rules_for scheme machine) machine.state command)
     (λ after. events-from_state scheme after commands)
 
-refusal_step : (scheme : Scheme) (machine : Machine) (commands : List Command) (step : Step)
+refusal_step : (scheme : Scheme) (machine : Machine) (commands : List LogCommand) (step : VerifierStep)
     → ((after : Machine) → (trace scheme after commands).refused
     ≡ refusal_from (machinery_under (rules_for scheme after)) after.state commands)
     → (trace_behind scheme machine commands step).refused
@@ -47,24 +43,16 @@ refusal_step scheme machine commands (Ok done) further = further (changed scheme
 refusal_step scheme machine commands (Err refusal) further = refl
 
 -- what ends them
-pub refusal-from_state : (scheme : Scheme) (machine : Machine) (commands : List Command)
+pub refusal-from_state : (scheme : Scheme) (machine : Machine) (commands : List LogCommand)
     → (trace scheme machine commands).refused ≡ refusal_from (machinery_under (rules_for scheme machine)) machine.state commands
 unfolding traced refusal_from
 refusal-from_state scheme machine [] = refl
 refusal-from_state scheme machine (command ∷ commands) =
-    refusal_step scheme machine commands (transition (rules_for scheme machine) machine.state command)
+    refusal_step scheme machine commands (perform (rules_for scheme machine) machine.state command)
     (λ after. refusal-from_state scheme after commands)
 
--- The clock moves with each event that is told from a state.
-pub state_events-tick : (scheme : Scheme) (header : Header) (number index : ℕ) (state : State) (commands : List Command)
-    → IsTicking number index state.clock (events_from (machinery_of scheme header number) number index state commands)
-state_events-tick scheme header number index state commands =
-    subst (IsTicking number index state.clock) (events-from_state scheme machine commands) (events-tick scheme machine commands)
-  where
-    machine : Machine
-    machine = record { number = number; header = header; state = state; sums = zero_sums; accepted = index }
-
-pub history-from_state : (scheme : Scheme) (header : Header) (number : ℕ) (commands : List Command)
+-- So a log's history is told.
+pub history-from_state : (scheme : Scheme) (header : Header) (number : ℕ) (commands : List LogCommand)
     → HistoryFromState scheme header number commands
 history-from_state scheme header number commands = record {
   events = events-from_state scheme (opening_machine number header) commands;
