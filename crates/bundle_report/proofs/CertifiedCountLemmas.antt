@@ -15,7 +15,7 @@ use Rattle.bundle_report.proofs.RunEndLemmas.{exit-unbalanced, exit-whole}
 
 module _ (scheme : Scheme) (header : Header) (logs : List (List ℕ)) where
   abbrev histories : List (List Event)
-  histories = histories_in scheme header (map (read_log scheme.longest) logs)
+  histories = histories_in scheme header (map (read_log scheme.format) logs)
 
   -- all events in the merged order
   abbrev order : List Event
@@ -85,7 +85,7 @@ module _ (scheme : Scheme) (header : Header) (logs : List (List ℕ)) where
         → counted_from done ≡ certified_count scheme header.first histories
         → epoch_verdict scheme header logs done ≡ Unbalanced added evicted
         → ends.Unbalanced (header.first + done) added evicted
-        ≡ end_of scheme header (map (read_log scheme.longest) logs) histories bad
+        ≡ end_of scheme header (map (read_log scheme.format) logs) histories bad
     ends-unbalanced bad added evicted count is =
         let told = verdict-unbalanced scheme header logs whole some done added evicted is in
         ap (λ (sum : Tally). ends.Unbalanced (header.first + done) sum evicted) told.2
@@ -99,7 +99,7 @@ module _ (scheme : Scheme) (header : Header) (logs : List (List ℕ)) where
         → counted_from done ≡ certified_count scheme header.first histories
         → epoch_verdict scheme header logs done ≡ Missing verifier
         → end_or (first_refused 0 (courses_of scheme header logs)) (done_or_bad done bad)
-        ≡ end_of scheme header (map (read_log scheme.longest) logs) histories bad
+        ≡ end_of scheme header (map (read_log scheme.format) logs) histories bad
     ends-missing bad verifier count is =
         exit-whole scheme header logs bad done (sym (counted-missing verifier is) ∙ count)
         (verdict-missing scheme header logs whole some done verifier is)

@@ -93,7 +93,7 @@ judged-first verifiers (course ∷ courses) = refl
 module _ (scheme : Scheme) (header : Header) (logs : List (List ℕ)) where
   -- the logs that were read
   abbrev read : List Log
-  read = map (read_log scheme.longest) logs
+  read = map (read_log scheme.format) logs
 
   abbrev histories : List (List Event)
   histories = histories_in scheme header read
@@ -177,7 +177,7 @@ module _ (scheme : Scheme) (header : Header) (log : List ℕ) (logs : List (List
 
   -- the history of the first log
   abbrev first_events : List Event
-  first_events = log_events scheme header 0 (read_log scheme.longest log).commands
+  first_events = log_events scheme header 0 (read_log scheme.format log).commands
 
   -- its parts
   abbrev its_parts : List Part
@@ -188,7 +188,7 @@ module _ (scheme : Scheme) (header : Header) (log : List ℕ) (logs : List (List
   found = judged_from header.verifiers 0 its_parts all_courses
 
   its-parts : first_parts all_courses ≡ its_parts
-  its-parts = log-parts scheme header 0 (read_log scheme.longest log).commands
+  its-parts = log-parts scheme header 0 (read_log scheme.format log).commands
 
   judged-found : judged (length all_courses) all_courses ≡ found
   judged-found =
@@ -206,7 +206,7 @@ module _ (scheme : Scheme) (header : Header) (log : List ℕ) (logs : List (List
 -- As many epochs are certified as are judged to be balanced.
 pub count-many : (scheme : Scheme) (header : Header) (logs : List (List ℕ)) → IsHeader header → length logs ≡ header.verifiers
     → (judged (length (courses_of scheme header logs)) (courses_of scheme header logs)).count
-    ≡ certified_count scheme header.first (histories_in scheme header (map (read_log scheme.longest) logs))
+    ≡ certified_count scheme header.first (histories_in scheme header (map (read_log scheme.format) logs))
 count-many scheme header [] good whole = absurd (omega (arith, whole, good.some_verifiers))
 count-many scheme header (log ∷ logs) good whole =
     let counted : 0 + (found scheme header log logs good whole).count ≡ (found scheme header log logs good whole).count = omega arith in
@@ -225,7 +225,7 @@ by_verifiers scheme header logs whole =
 -- As many epochs are certified as are judged to be balanced.
 pub judged-count : (scheme : Scheme) (header : Header) (logs : List (List ℕ)) → IsHeader header → length logs ≡ header.verifiers
     → (judged header.verifiers (courses_of scheme header logs)).count
-    ≡ certified_count scheme header.first (histories_in scheme header (map (read_log scheme.longest) logs))
+    ≡ certified_count scheme header.first (histories_in scheme header (map (read_log scheme.format) logs))
 judged-count scheme header logs good whole =
     ap (λ (j : Judged). j.count) (by_verifiers scheme header logs whole) ∙ count-many scheme header logs good whole
 
@@ -233,7 +233,7 @@ judged-count scheme header logs good whole =
 pub judged-end : (scheme : Scheme) (header : Header) (logs : List (List ℕ)) (bad : Option ℕ) → IsHeader header → length logs ≡ header.verifiers
     → let found = judged header.verifiers (courses_of scheme header logs) in
     end_by found.count found.unbalanced (refused_log 0 (courses_of scheme header logs)) bad
-    ≡ end_of scheme header (map (read_log scheme.longest) logs) (histories_in scheme header (map (read_log scheme.longest) logs)) bad
+    ≡ end_of scheme header (map (read_log scheme.format) logs) (histories_in scheme header (map (read_log scheme.format) logs)) bad
 judged-end scheme header [] bad good whole = absurd (omega (arith, whole, good.some_verifiers))
 judged-end scheme header (log ∷ logs) bad good whole =
     let own = found scheme header log logs good whole in

@@ -59,7 +59,7 @@ module _ (scheme : Scheme) (header : Header) where
       ≡ parts_told scheme header.first index number (told_from scheme header number logs)
   parts-told index number [] = refl
   parts-told index number (log ∷ logs) =
-      let commands = (read_log scheme.longest log).commands in
+      let commands = (read_log scheme.format log).commands in
       let events = log_events scheme header number commands in
       let others = parts_at index (courses_from scheme header (suc number) logs) in
       ap (λ (parts : List Part). option_to_list (slice_get parts index) ++ others)

@@ -297,7 +297,7 @@ never_missing false added evicted missing is = absurd (cc)
 module _ (scheme : Scheme) (header : Header) (logs : List (List ℕ)) where
   -- the logs that were read
   abbrev read : List Log
-  read = map (read_log scheme.longest) logs
+  read = map (read_log scheme.format) logs
 
   abbrev histories : List (List Event)
   histories = histories_in scheme header read

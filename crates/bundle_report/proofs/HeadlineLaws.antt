@@ -2,8 +2,8 @@
 use Rattle.std.proofs.Common.{◌≡◌, ℕ, ◌==◌, Bool, true, false, List, [], ◌∷◌, map, Option, Some, None, IfSome, refl, if◌then◌else◌, zero, suc, ◌+◌, ◌++◌, get_or, ◌∙◌, ap}
 use Rattle.std.specs.List.{AllByRecursion}
 use Rattle.std.proofs.lemmas.List.Elements.{filter-append}
-use Rattle.record_text.specs.Longest.{longest_blob}
-use Rattle.log_codec.specs.declared.command.Command.{Command}
+use Rattle.record_text.specs.Format.{LogFormat, format_of}
+use Rattle.log_codec.specs.declared.log_command.LogCommand.{LogCommand}
 use Rattle.record_hash.specs.Functions.{DigestFunctions}
 use Rattle.record_hash.specs.ShaDigests.{sha_under}
 use Rattle.record_hash.specs.Shapes.{IsDigest-sha256}
@@ -27,9 +27,9 @@ use Rattle.bundle_report.specs.Logged.{logged_of}
 use Rattle.bundle_report.specs.BundleReport.{histories_at}
 use Rattle.bundle_report.specs.Headline.{certified_exhibit, own_operations, KeepsEachLog, IsSoundAt, IsSound, IsShaSound}
 
-typed : (logs : List (List ℕ)) → AllByRecursion (AllByRecursion (IsTyped longest_blob)) (map (λ (log : Log). log.commands) (map (read_log longest_blob) logs))
-typed [] = tt
-typed (log ∷ logs) = (read_typed log, typed logs)
+typed : (format : LogFormat) (logs : List (List ℕ)) → AllByRecursion (AllByRecursion (IsTyped format.longest)) (map (λ (log : Log). log.commands) (map (read_log format) logs))
+typed format [] = tt
+typed format (log ∷ logs) = (read_typed format log, typed format logs)
 
 serial_in : (functions : DigestFunctions) (header : Header) (logs : List (List ℕ)) → GivesDigests functions.digest
     → let scheme = scheme_of functions header in
@@ -38,7 +38,7 @@ serial_in : (functions : DigestFunctions) (header : Header) (logs : List (List �
 serial_in functions header logs digests =
     let scheme = scheme_of functions header in
     let histories = histories_at scheme header logs in
-    sound functions header (map (λ (log : Log). log.commands) (map (read_log longest_blob) logs)) (certified_count scheme header.first histories) digests (typed logs)
+    sound functions header (map (λ (log : Log). log.commands) (map (read_log (format_of header)) logs)) (certified_count scheme header.first histories) digests (typed (format_of header) logs)
     (counted_balanced scheme (order_of histories) header.first (sealed_by_all histories))
 
 -- ---- each verifier's order
@@ -83,8 +83,8 @@ own-operations verifier (event ∷ events) =
 keeps_logs : (scheme : Scheme) (header : Header) (logs : List (List ℕ)) → KeepsEachLog scheme header.first (histories_at scheme header logs)
 keeps_logs scheme header logs = λ verifier. go verifier (certified_count scheme header.first histories)
   where
-    commands : List (List Command)
-    commands = map (λ (log : Log). log.commands) (map (read_log scheme.longest) logs)
+    commands : List (List LogCommand)
+    commands = map (λ (log : Log). log.commands) (map (read_log scheme.format) logs)
 
     histories : List (List Event)
     histories = histories_of scheme header commands

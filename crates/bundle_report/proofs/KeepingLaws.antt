@@ -78,14 +78,14 @@ module _ {A : Type 0} (keeps : Event → List A) (scheme : Scheme) (header : Hea
 
     -- As many epochs are certified as are judged to be balanced.
     pub count-keeping : (judged (length kept_courses) kept_courses).count
-        ≡ certified_count scheme header.first (histories_in scheme header (map (read_log scheme.longest) logs))
+        ≡ certified_count scheme header.first (histories_in scheme header (map (read_log scheme.format) logs))
     count-keeping = ap (λ (j : Judged). j.count) judged_all ∙ judged-count scheme header logs good whole
 
     -- How the report ends is told by what is judged, by the first run that is refused, and by what is bad.
     pub end-keeping : (bad : Option ℕ)
         → let found = judged (length kept_courses) kept_courses in
         end_by found.count found.unbalanced (refused_log 0 kept_courses) bad
-        ≡ end_of scheme header (map (read_log scheme.longest) logs) (histories_in scheme header (map (read_log scheme.longest) logs)) bad
+        ≡ end_of scheme header (map (read_log scheme.format) logs) (histories_in scheme header (map (read_log scheme.format) logs)) bad
     end-keeping bad =
         ap (λ (j : Judged). end_by j.count j.unbalanced (refused_log 0 kept_courses) bad) judged_all
         ∙ ap (λ (refused : Option RefusedLog).

@@ -24,7 +24,7 @@ module _ (scheme : Scheme) (header : Header) (logs : List (List ℕ)) where
   courses = courses_of scheme header logs
 
   abbrev histories : List (List Event)
-  histories = histories_in scheme header (map (read_log scheme.longest) logs)
+  histories = histories_in scheme header (map (read_log scheme.format) logs)
 
   -- the operations of the merged order are the merged operations
   all_operations : operations_in (order_of histories) ≡ merged moment_of (operations_among courses)

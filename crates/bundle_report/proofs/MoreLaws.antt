@@ -37,9 +37,9 @@ epochs-length (suc count) epoch = ap suc (epochs-length count (suc epoch))
 module _ (scheme : Scheme) (header : Header) where
   -- a log has handed in as many parts as it has sealed epochs
   parts-count : (number : ℕ) (log : List ℕ)
-      → length (run_of scheme header number log).course.parts ≡ sealed_count (log_events scheme header number (read_log scheme.longest log).commands)
+      → length (run_of scheme header number log).course.parts ≡ sealed_count (log_events scheme header number (read_log scheme.format log).commands)
   parts-count number log =
-      let commands = (read_log scheme.longest log).commands in
+      let commands = (read_log scheme.format log).commands in
       let events = log_events scheme header number commands in
       ap length (sym (whole-parts scheme header number log) ∙ log-parts scheme header number commands)
       ∙ length-map (epochs_from header.first (sealed_count events)) (part_of scheme number events)

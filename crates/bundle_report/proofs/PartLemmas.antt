@@ -12,20 +12,20 @@ use Rattle.lamport_clocks.specs.Reading.{Reading}
 use Rattle.lamport_clocks.specs.Clock.{advanced}
 use Rattle.lamport_clocks.proofs.ClockLaws.{advanced-ok, sealed_epoch}
 use Rattle.record_text.specs.declared.element.Element.{Element}
-use Rattle.log_codec.specs.declared.command.Command.{Command}
+use Rattle.log_codec.specs.declared.log_command.LogCommand.{LogCommand}
 use Rattle.multiset_sum.specs.Tally.{Tally}
 use Rattle.multiset_sum.specs.declared.part.Part.{Part}
-use Rattle.verifier_commands.specs.declared.state.State.{State}
+use Rattle.verifier_commands.specs.VerifierState.{VerifierState}
 use Rattle.verifier_commands.specs.Change.{Change, did_add_m, did_evict_m, did_add_b, did_evict_b, did_evict_bm, did_get, did_put, did_next_epoch}
 use Rattle.verifier_commands.specs.Outcome.{outcome_of}
-use Rattle.verifier_commands.specs.Transition.{Step, transition}
+use Rattle.verifier_commands.specs.VerifierState.{VerifierStep, perform}
 use Rattle.verifier_commands.specs.Machine.{Machine, opening_machine, effect_of, rules_for}
 use Rattle.verifier_commands.specs.Trace.{changed, trace, trace_behind, events_from, events_behind}
 use Rattle.verifier_run.specs.Kept.{parts_of, part_in}
 use Rattle.soundness.specs.History.{Event, log_events}
 use Rattle.soundness.specs.Certified.{added_by, evicted_by, added_in, evicted_in, sum_over, epochs_in, sealed_by, sealed_count, epochs_from}
 use Rattle.verifier_commands.specs.Ticks.{Ticks}
-use Rattle.verifier_commands.proofs.TickLaws.{ticks_step}
+use Rattle.verifier_commands.proofs.TickLaws.{ticks_perform}
 use Rattle.soundness.specs.IsHistory.{IsTicking}
 use Rattle.soundness.proofs.HistoryLaws.{events-tick}
 use Rattle.bundle_report.proofs.CountedLemmas.{Keeps, keeps-opening, keeps-after}
@@ -66,7 +66,7 @@ among-push elements before event =
     ∙ sym (flat_map-append elements before (event ∷ []))
 
 -- so it is after a step
-counted-step : (scheme : Scheme) (machine : Machine) (before : List Event) (done : Change × State)
+counted-step : (scheme : Scheme) (machine : Machine) (before : List Event) (done : Change × VerifierState)
     → Ticks machine.state.clock done.1.clock done.0 → HasCounted scheme machine before
     → HasCounted scheme (changed scheme machine done) (before ++ next_event machine done.1.clock.at done.0 ∷ [])
 counted-step scheme machine before done ticks counted =
@@ -131,9 +131,9 @@ module _ (scheme : Scheme) (machine : Machine) (before : List Event) (counted : 
 abbrev pub parts_from : Scheme → ℕ → List Event → List Event → List Part
 parts_from scheme number before events = map (part_of scheme number (before ++ events)) (sealed_in events)
 
-parts_behind : (scheme : Scheme) (machine : Machine) (command : Command) (commands : List Command)
-    (before : List Event) (step : Step)
-    → transition (rules_for scheme machine) machine.state command ≡ step → HasCounted scheme machine before
+parts_behind : (scheme : Scheme) (machine : Machine) (command : LogCommand) (commands : List LogCommand)
+    (before : List Event) (step : VerifierStep)
+    → perform (rules_for scheme machine) machine.state command ≡ step → HasCounted scheme machine before
     → ((after : Machine) (so_far : List Event) → HasCounted scheme after so_far
     → parts_of (trace scheme after commands).done
     ≡ parts_from scheme after.number so_far (events_from scheme after commands))
@@ -143,7 +143,7 @@ parts_behind scheme machine command commands before (Ok done) is counted further
     let after = changed scheme machine done in
     let event = next_event machine done.1.clock.at done.0 in
     let later = events_from scheme after commands in
-    let ticks = ticks_step (rules_for scheme machine) machine.state command done is in
+    let ticks = ticks_perform (rules_for scheme machine) machine.state command done is in
     let ticking = events-tick scheme after commands in
     let all = before ++ event ∷ later in
     let part : ℕ → Part = part_of scheme machine.number all in
@@ -157,7 +157,7 @@ parts_behind scheme machine command commands before (Ok done) is counted further
 parts_behind scheme machine command commands before (Err refusal) is counted further = refl
 
 -- The parts of a trace, from any machine whose sums are those of the events before.
-pub trace-parts : (scheme : Scheme) (machine : Machine) (commands : List Command) (before : List Event)
+pub trace-parts : (scheme : Scheme) (machine : Machine) (commands : List LogCommand) (before : List Event)
     → HasCounted scheme machine before
     → parts_of (trace scheme machine commands).done
     ≡ parts_from scheme machine.number before (events_from scheme machine commands)
@@ -165,11 +165,11 @@ unfolding traced
 trace-parts scheme machine [] before counted = refl
 trace-parts scheme machine (command ∷ commands) before counted =
     parts_behind scheme machine command commands before
-    (transition (rules_for scheme machine) machine.state command) refl counted
+    (perform (rules_for scheme machine) machine.state command) refl counted
     (λ after so_far fits. trace-parts scheme after commands so_far fits)
 
 -- The parts of a whole log are those of the epochs that its events seal.
-pub log-parts_sealed : (scheme : Scheme) (header : Header) (number : ℕ) (commands : List Command)
+pub log-parts_sealed : (scheme : Scheme) (header : Header) (number : ℕ) (commands : List LogCommand)
     → parts_of (trace scheme (opening_machine number header) commands).done
     ≡ map (part_of scheme number (log_events scheme header number commands))
     (flat_map (λ event. sealed_by event.change) (log_events scheme header number commands))
@@ -177,7 +177,7 @@ log-parts_sealed scheme header number commands =
     trace-parts scheme (opening_machine number header) commands [] (keeps-opening scheme header.first)
 
 -- They are the epochs from the header's first on.
-pub log-parts : (scheme : Scheme) (header : Header) (number : ℕ) (commands : List Command)
+pub log-parts : (scheme : Scheme) (header : Header) (number : ℕ) (commands : List LogCommand)
     → parts_of (trace scheme (opening_machine number header) commands).done
     ≡ map (part_of scheme number (log_events scheme header number commands))
     (epochs_from header.first (sealed_count (log_events scheme header number commands)))

@@ -39,7 +39,7 @@ module _ (scheme : Scheme) (header : Header) where
   -- the histories of logs of bytes, the first of which is of the verifier of this number
   abbrev pub told_from : ℕ → List (List ℕ) → List (List Event)
   told_from number logs =
-      histories_from scheme header number (map (λ (log : Log). log.commands) (map (read_log scheme.longest) logs))
+      histories_from scheme header number (map (λ (log : Log). log.commands) (map (read_log scheme.format) logs))
 
   -- the operations of all courses are those of all events
   pub operations-among : (number : ℕ) (logs : List (List ℕ))
@@ -47,7 +47,7 @@ module _ (scheme : Scheme) (header : Header) where
       ≡ operations_in (all_events (told_from number logs))
   operations-among number [] = refl
   operations-among number (log ∷ logs) =
-      let commands = (read_log scheme.longest log).commands in
+      let commands = (read_log scheme.format log).commands in
       ap (λ (ops : List Operation). operations_in (log_events scheme header number commands) ++ ops)
       (operations-among (suc number) logs)
       ∙ sym (flat_map-append (λ (event : Event). operations_by event event.change)
@@ -58,10 +58,10 @@ module _ (scheme : Scheme) (header : Header) where
   -- the refusal of a course is the one of its log
   course-refused : (number : ℕ) (log : List ℕ)
       → (log_course keeps_operations scheme (opening_machine number header) log).refused
-      ≡ refused_in scheme header number (read_log scheme.longest log)
+      ≡ refused_in scheme header number (read_log scheme.format log)
   course-refused number log =
       let machine = opening_machine number header in
-      let read = read_log scheme.longest log in
+      let read = read_log scheme.format log in
       let events = log_events scheme header number read.commands in
       ap (λ (count : ℕ). option_map (λ (why : Refusal). (count, why)) (refusal_by (trace scheme machine read.commands).refused read.end))
       (trace-accepted scheme machine read.commands ∙ zero-add (length events))
@@ -69,7 +69,7 @@ module _ (scheme : Scheme) (header : Header) where
   -- The first course that is refused is the first log that is.
   pub refused-courses : (number : ℕ) (logs : List (List ℕ))
       → first_refused number (courses_from scheme header number logs)
-      ≡ refused_among scheme header number (map (read_log scheme.longest) logs)
+      ≡ refused_among scheme header number (map (read_log scheme.format) logs)
   refused-courses number [] = refl
   refused-courses number (log ∷ logs) =
       ap (λ (refused : Option (ℕ × Refusal)).
@@ -77,6 +77,6 @@ module _ (scheme : Scheme) (header : Header) where
       (first_refused (suc number) (courses_from scheme header (suc number) logs)))
       (course-refused number log)
       ∙ ap (λ (status : Option BundleEnd).
-      option_or (option_map (refused_end number) (refused_in scheme header number (read_log scheme.longest log)))
+      option_or (option_map (refused_end number) (refused_in scheme header number (read_log scheme.format log)))
       status)
       (refused-courses (suc number) logs)

@@ -13,8 +13,8 @@ use Rattle.lamport_clocks.specs.Reading.{Reading}
 use Rattle.lamport_clocks.specs.Clock.{received, sent, advanced, sealed_by_advancing}
 use Rattle.lamport_clocks.proofs.ClockLaws.{received-ok, received-epoch, open_epochs, sent-ok, sent-at, advanced-ok, sealed_epoch}
 use Rattle.record_text.specs.declared.element.Element.{Element}
-use Rattle.log_codec.specs.declared.command.Command.{Command}
-use Rattle.verifier_commands.specs.State.{opening}
+use Rattle.log_codec.specs.declared.log_command.LogCommand.{LogCommand}
+use Rattle.verifier_commands.specs.Machine.{opening_machine}
 use Rattle.verifier_commands.specs.Change.{Change, did_add_m, did_evict_m, did_add_b, did_evict_b, did_evict_bm, did_get, did_put, did_next_epoch}
 use Rattle.soundness.specs.History.{Event, log_events}
 use Rattle.soundness.specs.Certified.{added_by, evicted_by, of_epoch, added_in, evicted_in, epochs_in, sealed_by, sealed_count, epochs_from}
@@ -113,11 +113,11 @@ sealed-from number index clock (event ∷ events) epoch ticks next =
         subst IsSealed (sym own.0) (ap (λ (es : List ℕ). epoch ∷ es) (further (suc epoch) own.1))
 
 -- A log seals the epochs from the header's first on.
-pub log-sealed : (scheme : Scheme) (header : Header) (number : ℕ) (commands : List Command)
+pub log-sealed : (scheme : Scheme) (header : Header) (number : ℕ) (commands : List LogCommand)
     → sealed_in (log_events scheme header number commands)
     ≡ epochs_from header.first (sealed_count (log_events scheme header number commands))
 log-sealed scheme header number commands =
-    sealed-from number 0 (opening number header).clock _ header.first
+    sealed-from number 0 (opening_machine number header).state.clock _ header.first
     (log-ticks scheme header number commands) (inr (refl, refl))
 
 -- ---- no elements of an epoch that is closed

@@ -13,7 +13,7 @@ use Rattle.lamport_clocks.specs.Reading.{Reading}
 use Rattle.lamport_clocks.specs.Clock.{received, sent, advanced}
 use Rattle.lamport_clocks.proofs.ClockLaws.{received-ok, received-later, received-epoch, received-bounds, sent-ok, sent-bounds, advanced-ok, advanced-bounds}
 use Rattle.record_text.specs.declared.element.Element.{Element}
-use Rattle.log_codec.specs.declared.command.Command.{Command}
+use Rattle.log_codec.specs.declared.log_command.LogCommand.{LogCommand}
 use Rattle.log_codec.specs.Log.{read_log}
 use Rattle.multiset_sum.specs.declared.part.Part.{Part}
 use Rattle.stamp_order.proofs.InOrderLaws.{every-append}
@@ -21,14 +21,14 @@ use Rattle.verifier_commands.specs.declared.sums.Sums.{Sums}
 use Rattle.verifier_commands.specs.Change.{Change, did_add_m, did_evict_m, did_add_b, did_evict_b, did_evict_bm, did_get, did_put, did_next_epoch}
 use Rattle.verifier_commands.specs.Outcome.{outcome_of}
 use Rattle.verifier_commands.specs.Sums.{add_to, evict_to, advanced_sums, sums_after}
-use Rattle.verifier_commands.specs.Transition.{Step, transition}
+use Rattle.verifier_commands.specs.VerifierState.{VerifierStep, perform}
 use Rattle.verifier_commands.specs.Machine.{Machine, AreBounded, CountsAdd, opening_machine, effect_of, rules_for}
 use Rattle.verifier_commands.proofs.BoundLaws.{bounded_add, bounded_evict, bounded_turn}
 use Rattle.multiset_sum.specs.Sum.{with_lanes}
 use Rattle.verifier_commands.specs.Trace.{changed, trace, trace_behind}
 use Rattle.verifier_run.specs.Kept.{parts_of, part_in}
 use Rattle.verifier_commands.specs.Ticks.{Ticks}
-use Rattle.verifier_commands.proofs.TickLaws.{ticks_step}
+use Rattle.verifier_commands.proofs.TickLaws.{ticks_perform}
 use Rattle.bundle_report.specs.RunReport.{courses_from, parts_at}
 
 -- there is room for the sums of a part
@@ -119,8 +119,8 @@ small_told machine at bounded (did_next_epoch (Some epoch)) =
 -- ---- a trace
 
 module _ (scheme : Scheme) where
-  small_behind : (machine : Machine) (command : Command) (commands : List Command) (step : Step)
-      → transition (rules_for scheme machine) machine.state command ≡ step
+  small_behind : (machine : Machine) (command : LogCommand) (commands : List LogCommand) (step : VerifierStep)
+      → perform (rules_for scheme machine) machine.state command ≡ step
       → AreBounded machine.sums machine.state.clock
       → ((after : Machine) → AreBounded after.sums after.state.clock
       → AllByRecursion IsSmall (parts_of (trace scheme after commands).done))
@@ -131,16 +131,16 @@ module _ (scheme : Scheme) where
       (parts_of (trace scheme after commands).done)
       (small_told machine done.1.clock.at bounded done.0)
       (further after (bounded-after scheme machine.state.clock done.1.clock machine.sums
-      bounded done.0 (ticks_step (rules_for scheme machine) machine.state command done is)))
+      bounded done.0 (ticks_perform (rules_for scheme machine) machine.state command done is)))
   small_behind machine command commands (Err refusal) is bounded further = tt
 
   -- The parts of a trace are small, from any machine whose sums are bounded.
-  trace-small : (machine : Machine) (commands : List Command) → AreBounded machine.sums machine.state.clock
+  trace-small : (machine : Machine) (commands : List LogCommand) → AreBounded machine.sums machine.state.clock
       → AllByRecursion IsSmall (parts_of (trace scheme machine commands).done)
   unfolding traced
   trace-small machine [] bounded = tt
   trace-small machine (command ∷ commands) bounded =
-      small_behind machine command commands (transition (rules_for scheme machine) machine.state command) refl
+      small_behind machine command commands (perform (rules_for scheme machine) machine.state command) refl
       bounded (λ after fits. trace-small after commands fits)
 
   -- ---- the parts of an epoch
@@ -158,12 +158,12 @@ module _ (scheme : Scheme) where
   parts-small header good index number [] = tt
   parts-small header good index number (log ∷ logs) =
       let machine = opening_machine number header in
-      let parts = parts_of (trace scheme machine (read_log scheme.longest log).commands).done in
+      let parts = parts_of (trace scheme machine (read_log scheme.format log).commands).done in
       let end = good.end in
       every-append IsSmall (option_to_list (slice_get parts index))
       (parts_at index (courses_from scheme header (suc number) logs))
       (every-at IsSmall parts index
-      (trace-small machine (read_log scheme.longest log).commands
+      (trace-small machine (read_log scheme.format log).commands
       (record {
         end = end;
         counter = omega arith;

@@ -280,7 +280,7 @@ refused_from scheme header count number (log ∷ logs) =
 pub end-taken : (scheme : Scheme) (header : Header) (logs : List (List ℕ)) (so_far : Judged) (runs : List (Progress Operation)) (bad : Option ℕ)
     → HaveRead scheme header logs so_far runs → so_far ≡ judged header.verifiers (courses_of scheme header logs)
     → end_by so_far.count so_far.unbalanced (refused_log 0 (map (λ run. run.course) (runs_ended runs))) bad
-    ≡ end_of scheme header (map (read_log scheme.longest) logs) (histories_in scheme header (map (read_log scheme.longest) logs)) bad
+    ≡ end_of scheme header (map (read_log scheme.format) logs) (histories_in scheme header (map (read_log scheme.format) logs)) bad
 end-taken scheme header logs so_far runs bad taken all =
     ap (λ (rs : List (Progress Operation)). end_by so_far.count so_far.unbalanced (refused_log 0 (map (λ run. run.course) (runs_ended rs))) bad) taken.runs_are
     ∙ ap (λ (refused : Option RefusedLog). end_by so_far.count so_far.unbalanced refused bad) (refused_from scheme header so_far.count 0 logs)

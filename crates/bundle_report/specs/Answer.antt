@@ -3,7 +3,7 @@ use Rattle.std.specs.Prelude.{ℕ, ◌≡◌, Bool, List, [], map, Option, Some,
 use Rattle.record_hash.specs.Functions.{DigestFunctions}
 use Rattle.record_hash.specs.ShaDigests.{sha_under}
 use Rattle.lamport_clocks.specs.declared.header.Header.{Header}
-use Rattle.record_text.specs.Longest.{longest_of}
+use Rattle.record_text.specs.Format.{format_of}
 use Rattle.log_codec.specs.Log.{Log, read_log}
 use Rattle.merkle_records.specs.Scheme.{Scheme, scheme_of}
 use Rattle.report_text.specs.declared.status.Status.{Status}
@@ -35,7 +35,7 @@ no_answer = record { text = last_line (BadBundle 0); due = []; status = BadBundl
 abbrev pub answer_at : Bool → DigestFunctions → Option Header → List (List ℕ) → Option ℕ → Answer
 answer_at receipts functions None logs bad = no_answer
 answer_at receipts functions (Some header) logs bad =
-    answer_on (told_by receipts functions header) (scheme_of functions header) header (map (read_log (longest_of header)) logs) bad
+    answer_on (told_by receipts functions header) (scheme_of functions header) header (map (read_log (format_of header)) logs) bad
 
 -- how many epochs of a bundle are certified, with this header, if it is good, and these logs
 abbrev pub certified_at : DigestFunctions → Option Header → List (List ℕ) → ℕ

@@ -82,4 +82,4 @@ histories_in scheme header logs = histories_of scheme header (map (λ log. log.c
 
 -- the histories of logs of which these are the bytes
 abbrev pub histories_at : Scheme → Header → List (List ℕ) → List (List Event)
-histories_at scheme header logs = histories_in scheme header (map (read_log scheme.longest) logs)
+histories_at scheme header logs = histories_in scheme header (map (read_log scheme.format) logs)

@@ -497,7 +497,7 @@ pub finish-end : (scheme : Scheme) (header : Header) (logs : List (List ℕ)) (s
     (refused : Option RefusedLog) (bad : Option ℕ) (end : BundleEnd) → HaveRead scheme header logs so_far runs
     → so_far ≡ judged header.verifiers (courses_of scheme header logs) → now ≡ so_far → runs_of fed ≡ runs_ended runs
     → refused ≡ refused_log 0 (fed_courses fed) → end ≡ end_by now.count now.unbalanced refused bad
-    → end ≡ end_of scheme header (map (read_log scheme.longest) logs) (histories_at scheme header logs) bad
+    → end ≡ end_of scheme header (map (read_log scheme.format) logs) (histories_at scheme header logs) bad
 finish-end scheme header logs so_far now runs fed refused bad end taken all same ended found is =
     is
     ∙ ap (λ (r : Option RefusedLog). end_by now.count now.unbalanced r bad)

@@ -158,7 +158,7 @@ impl Certifier {
         ensures end { (scheme : Scheme) (header : Header) (logs : List (List ℕ))
             → HaveRead scheme header logs self.now (map (λ fed. fed.run) runs.old)
             → self.now ≡ judged header.verifiers (courses_of scheme header logs)
-            → result ≡ end_of scheme header (map (read_log scheme.longest) logs) (histories_at scheme header logs) bad }
+            → result ≡ end_of scheme header (map (read_log scheme.format) logs) (histories_at scheme header logs) bad }
     {
         end_all(runs);
         end_of(&self.judged, first_refused(runs), bad)
@@ -177,13 +177,13 @@ impl Certifier {
         ensures end { (scheme : Scheme) (header : Header) (logs : List (List ℕ))
             → HaveRead scheme header logs self.now (map (λ fed. fed.run) runs.old)
             → self.now ≡ judged header.verifiers (courses_of scheme header logs)
-            → IfOk result (λ end. end ≡ end_of scheme header (map (read_log scheme.longest) logs) (histories_at scheme header logs) bad) }
+            → IfOk result (λ end. end ≡ end_of scheme header (map (read_log scheme.format) logs) (histories_at scheme header logs) bad) }
         ensures line { IfOk result (λ end. Grows (O.held out.old) (O.held out.new) (last_line (status_of end))) }
         ensures front { (scheme : Scheme) (header : Header) (logs : List (List ℕ))
             → HaveRead scheme header logs self.now (map (λ fed. fed.run) runs.old)
             → self.now ≡ judged header.verifiers (courses_of scheme header logs)
             → OnErr result (GrowsByFront (O.held out.old) (O.held out.new)
-            (last_line (status_of (end_of scheme header (map (read_log scheme.longest) logs) (histories_at scheme header logs) bad)))) }
+            (last_line (status_of (end_of scheme header (map (read_log scheme.format) logs) (histories_at scheme header logs) bad)))) }
         ensures write_fault { OnErr result (Rose (O.faults out.old) (O.faults out.new)) }
         ensures stop { OnErr result (result ≡ Err Failure.WriteFault) }
         ensures never_falls { O.faults out.old ≤ O.faults out.new }

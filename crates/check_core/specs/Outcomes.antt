@@ -1,28 +1,21 @@
 -- Which statuses a check can end with.
-use Rattle.std.specs.Prelude.{ℕ, Result, Ok, Err}
+use Rattle.std.specs.Prelude.{ℕ, List, [], ◌∷◌, Result, Ok, Err}
 use Rattle.fv_outside.specs.declared.failure.Failure.{Failure}
 use Rattle.report_text.specs.declared.ending.BundleEnd.{BundleEnd}
 use Rattle.report_text.specs.Ending.{status_of, failure_status}
 use Rattle.report_text.specs.declared.status.Status.{Status}
-use Rattle.report_text.specs.declared.status.Status.TheVariants.{Done, Usage, Memory, ReadFault, WriteFault, VaultFault, BadScript, BadBundle, Refused, Unbalanced, ClockEnd, NotTagged, NotCertified, Exhibit, InputLimit}
+use Rattle.report_text.specs.Kinds.{StatusKind, IsOneOf}
+use Rattle.report_text.specs.Kinds as kinds
+
+-- the kinds of status that a check can end with
+abbrev pub check_kinds : List StatusKind
+check_kinds =
+    kinds.done ∷ kinds.memory ∷ kinds.read_fault ∷ kinds.write_fault
+    ∷ kinds.bad_bundle ∷ kinds.refused ∷ kinds.unbalanced ∷ kinds.input_limit ∷ []
 
 -- a status that a check can end with
 abbrev pub IsCheckStatus : Status → Type 0
-IsCheckStatus (Done epochs) = Unit {0}
-IsCheckStatus Usage = ⊥
-IsCheckStatus Memory = Unit {0}
-IsCheckStatus ReadFault = Unit {0}
-IsCheckStatus WriteFault = Unit {0}
-IsCheckStatus VaultFault = ⊥
-IsCheckStatus (BadScript line cause) = ⊥
-IsCheckStatus (BadBundle offset) = Unit {0}
-IsCheckStatus (Refused verifier index refusal) = Unit {0}
-IsCheckStatus (Unbalanced epoch added evicted) = Unit {0}
-IsCheckStatus (ClockEnd worker at) = ⊥
-IsCheckStatus NotTagged = ⊥
-IsCheckStatus NotCertified = ⊥
-IsCheckStatus Exhibit = ⊥
-IsCheckStatus (InputLimit taken) = Unit {0}
+IsCheckStatus = IsOneOf check_kinds
 
 -- the status of a check that came to this
 abbrev pub check_status : ℕ → Result BundleEnd Failure → Status

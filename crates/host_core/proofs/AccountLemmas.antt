@@ -19,12 +19,12 @@ use Rattle.verifier_commands.specs.declared.state.State.{State}
 use Rattle.verifier_commands.specs.State.{opening}
 use Rattle.verifier_commands.specs.Change.{Change, did_next_epoch}
 use Rattle.verifier_commands.specs.Transition.{Step, timed}
-use Rattle.soundness.specs.History.{Event, log_events}
-use Rattle.soundness.proofs.StateHistoryLaws.{history-from_state}
+use Rattle.soundness.specs.History.{Event}
+use Rattle.soundness.specs.PathHistory.{path_log_events}
 use Rattle.soundness.specs.StateHistory.{events_behind, events_from, refusal_behind, refusal_from}
 use Rattle.soundness.specs.Certified.{operations_in, operations_by, sealed_by, sealed_count, epochs_in}
 use Rattle.soundness.specs.Timed.{added_among, evicted_among}
-use Rattle.soundness.specs.Typed.{IsTyped}
+use Rattle.soundness.specs.Typed.{IsPathTyped}
 use Rattle.host_core.specs.Accepted.{state_behind, state_from, IsAccepted}
 use Rattle.host_core.specs.Host.{Host, scheme, machinery, resting, asked, script_of}
 use Rattle.host_core.specs.WorldEvent.{next_clock}
@@ -53,16 +53,16 @@ module _ {C R : Type 0} (host : Host C R) (i : ℕ) where
   -- The log is accepted, and the verifier rests behind it; it answers what the script asks first, and seals the epochs
   -- before its clock's.
   pub record IsRightAccount (account : Account) : Type 0 where
-    pub typed : AllByRecursion (IsTyped (longest_of host.header)) account.log
+    pub typed : AllByRecursion (IsPathTyped (longest_of host.header)) account.log
     pub accepted : IsAccepted (machinery host i) (opening i host.header) account.log
     pub rests : state_from (machinery host i) (opening i host.header) account.log ≡ resting host i account.clock
     pub is_clock : IsClock host account.clock
-    pub answered : answers_in (log_events (scheme host) host.header i account.log) ≡ take account.served (script_of host i)
-    pub sealed : sealed_count (log_events (scheme host) host.header i account.log) ≡ account.clock.at.epoch - (host.header.first + 1)
+    pub answered : answers_in (path_log_events (scheme host) host.header i account.log) ≡ take account.served (script_of host i)
+    pub sealed : sealed_count (path_log_events (scheme host) host.header i account.log) ≡ account.clock.at.epoch - (host.header.first + 1)
 
   -- commands that a verifier at rest accepts, and what it answers and seals
   pub record IsMore (clock : Reading) (commands : List Command) (next : Reading) (answers : List (ℕ × Request)) : Type 0 where
-    pub typed : AllByRecursion (IsTyped (longest_of host.header)) commands
+    pub typed : AllByRecursion (IsPathTyped (longest_of host.header)) commands
     pub accepted : IsAccepted (machinery host i) (resting host i clock) commands
     pub rests : state_from (machinery host i) (resting host i clock) commands ≡ resting host i next
     pub is_clock : IsClock host next
@@ -84,19 +84,19 @@ module _ {C R : Type 0} (host : Host C R) (i : ℕ) where
 
   -- the events of a log are told from the opening state
   pub told : (commands : List Command)
-      → log_events (scheme host) host.header i commands ≡ events_from (machinery host i) i 0 (opening i host.header) commands
-  told commands = (history-from_state (scheme host) host.header i commands).events
+      → path_log_events (scheme host) host.header i commands ≡ events_from (machinery host i) i 0 (opening i host.header) commands
+  told commands = refl
 
   -- the events of a log with more commands
   pub log-grown : (account : Account) → IsRightAccount account → (commands : List Command)
-      → log_events (scheme host) host.header i (account.log ++ commands)
-      ≡ log_events (scheme host) host.header i account.log ++ events_at (0 + length account.log) account.clock commands
+      → path_log_events (scheme host) host.header i (account.log ++ commands)
+      ≡ path_log_events (scheme host) host.header i account.log ++ events_at (0 + length account.log) account.clock commands
   log-grown account right commands =
       told (account.log ++ commands)
       ∙ events-append (machinery host i) i 0 (opening i host.header) account.log commands right.accepted
       ∙ ap (λ (events : List Event). events ++ events_from (machinery host i) i (0 + length account.log) (state_from (machinery host i) (opening i host.header) account.log) commands)
       (sym (told account.log))
-      ∙ ap (λ (state : State). log_events (scheme host) host.header i account.log ++ events_from (machinery host i) i (0 + length account.log) state commands)
+      ∙ ap (λ (state : State). path_log_events (scheme host) host.header i account.log ++ events_from (machinery host i) i (0 + length account.log) state commands)
       right.rests
 
   -- More commands leave it right.
@@ -105,7 +105,7 @@ module _ {C R : Type 0} (host : Host C R) (i : ℕ) where
       → take account.served (script_of host i) ++ answers ≡ take (account.served + more) (script_of host i)
       → IsRightAccount (with_more account commands next more)
   more_right account commands next answers more right new asks = record {
-    typed = every-append (IsTyped (longest_of host.header)) account.log commands right.typed new.typed;
+    typed = every-append (IsPathTyped (longest_of host.header)) account.log commands right.typed new.typed;
     accepted = accepted-append (machinery host i) (opening i host.header) account.log commands right.accepted
         (subst (λ (state : State). IsAccepted (machinery host i) state commands) (sym right.rests) new.accepted);
     rests = state-append (machinery host i) (opening i host.header) account.log commands right.accepted
@@ -122,9 +122,9 @@ module _ {C R : Type 0} (host : Host C R) (i : ℕ) where
   }
     where
       events : List Event
-      events = log_events (scheme host) host.header i account.log
+      events = path_log_events (scheme host) host.header i account.log
 
-      grown : log_events (scheme host) host.header i (account.log ++ commands)
+      grown : path_log_events (scheme host) host.header i (account.log ++ commands)
           ≡ events ++ events_at (0 + length account.log) account.clock commands
       grown = log-grown account right commands
 

@@ -8,7 +8,8 @@ use Rattle.lamport_clocks.specs.Reading.{Reading}
 use Rattle.lamport_clocks.specs.Clock.{last_epoch}
 use Rattle.log_codec.specs.declared.command.Command.{Command}
 use Rattle.log_codec.specs.declared.command.Command.TheVariants.{NextEpoch}
-use Rattle.soundness.specs.History.{Event, histories_of}
+use Rattle.soundness.specs.History.{Event}
+use Rattle.soundness.specs.PathHistory.{path_histories_of}
 use Rattle.host_core.specs.Host.{Host, Done, scheme, asked}
 use Rattle.host_core.specs.World.{Worker, Seats, World, unmoved, fresh, worker_at, shard_at, logs_of, epoch_of}
 use Rattle.host_core.specs.WorldEvent.{WorldEvent, takes, loses, serves, gives, advances, moves, opens, with_worker, after_serve, after_move, next_clock, logging, having_served, step, AllMoved, HasAdvanced, IsNext, IsLast, IsEnabled}
@@ -79,7 +80,7 @@ module _ {C R : Type 0} (host : Host C R) where
 
   -- the histories of all logs
   abbrev pub histories_in : List Account → List (List Event)
-  histories_in accounts = histories_of (scheme host) host.header (map (λ account. account.log) accounts)
+  histories_in accounts = path_histories_of (scheme host) host.header (map (λ account. account.log) accounts)
 
   -- a worker's account is that of the worker
   pub account_is : (world : World C) (i : ℕ) → account_at (books_of world) i ≡ account_of (worker_at host world i)
@@ -87,8 +88,8 @@ module _ {C R : Type 0} (host : Host C R) where
 
   -- the logs are those of the accounts
   pub histories_are : (world : World C)
-      → histories_of (scheme host) host.header (logs_of world) ≡ histories_in (map account_of world.workers)
-  histories_are world = ap (histories_of (scheme host) host.header) (logs world.workers)
+      → path_histories_of (scheme host) host.header (logs_of world) ≡ histories_in (map account_of world.workers)
+  histories_are world = ap (path_histories_of (scheme host) host.header) (logs world.workers)
     where
       logs : (workers : List Worker) → map (λ worker. worker.log) workers ≡ map (λ account. account.log) (map account_of workers)
       logs [] = refl

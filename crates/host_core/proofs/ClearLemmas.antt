@@ -19,12 +19,13 @@ use Rattle.stamp_order.proofs.InOrderLaws.{every-weaker, every-append, IsInOrder
 use Rattle.stamp_order.proofs.MergedLaws.{merged-fixed}
 use Rattle.stamp_order.proofs.MomentLaws.{comes_before-order}
 use Rattle.verifier_commands.proofs.TickLaws.{up_to-trans}
-use Rattle.soundness.specs.History.{Event, log_events}
+use Rattle.soundness.specs.History.{Event}
+use Rattle.soundness.specs.PathHistory.{path_log_events}
 use Rattle.soundness.specs.Certified.{event_moment}
 use Rattle.soundness.specs.Clash.{LastEvicted, none_evicted, first_clash}
 use Rattle.soundness.specs.World.{changes_in, last_evicted_behind}
-use Rattle.soundness.proofs.HistoryLaws.{events-merged, log-merged}
-use Rattle.soundness.proofs.StateHistoryLaws.{state_events-tick}
+use Rattle.soundness.proofs.HistoryLaws.{events-merged, path_log-merged}
+use Rattle.soundness.proofs.PathHistoryLaws.{path_events-tick}
 use Rattle.host_core.specs.Host.{Host, scheme, resting}
 use Rattle.host_core.specs.World.{Seats, unmoved, fresh, set_up}
 use Rattle.host_core.specs.WorldEvent.{next_clock}
@@ -49,26 +50,26 @@ pub record IsSplit (old new more : List Event) : Type 0 where
 module _ {C R : Type 0} (host : Host C R) where
   -- where a log has more events, all logs have them in between
   pub split-set : (number : ℕ) (accounts : List Account) (i : ℕ) (next d : Account) (more : List Event) → i < length accounts
-      → log_events (scheme host) host.header (number + i) next.log
-      ≡ log_events (scheme host) host.header (number + i) (get_or accounts i d).log ++ more
+      → path_log_events (scheme host) host.header (number + i) next.log
+      ≡ path_log_events (scheme host) host.header (number + i) (get_or accounts i d).log ++ more
       → IsSplit (all_from host number accounts) (all_from host number (set accounts i next)) more
   split-set number [] i next d more within grown = absurd (omega (arith, within))
   split-set number (account ∷ accounts) zero next d more within grown =
       let rest = all_from host (suc number) accounts in
-      let old = log_events (scheme host) host.header number account.log in
+      let old = path_log_events (scheme host) host.header number account.log in
       record {
         front = old;
         back = rest;
         was = refl;
         is = ap (λ (events : List Event). events ++ rest)
-            (subst (λ (n : ℕ). log_events (scheme host) host.header n next.log ≡ log_events (scheme host) host.header n account.log ++ more)
+            (subst (λ (n : ℕ). path_log_events (scheme host) host.header n next.log ≡ path_log_events (scheme host) host.header n account.log ++ more)
             (omega arith) grown)
             ∙ append_assoc old more rest;
       }
   split-set number (account ∷ accounts) (suc i) next d more within grown =
-      let old = log_events (scheme host) host.header number account.log in
+      let old = path_log_events (scheme host) host.header number account.log in
       let behind = split-set (suc number) accounts i next d more (omega (arith, within))
-      (subst (λ (n : ℕ). log_events (scheme host) host.header n next.log ≡ log_events (scheme host) host.header n (get_or accounts i d).log ++ more)
+      (subst (λ (n : ℕ). path_log_events (scheme host) host.header n next.log ≡ path_log_events (scheme host) host.header n (get_or accounts i d).log ++ more)
       (omega arith) grown) in
       record {
         front = old ++ behind.front;
@@ -161,7 +162,7 @@ module _ {C R : Type 0} (mirrors : ℕ → List C → Type 0) (keeping : Keeping
       IsInOrder-filter (comes_before event_moment) (comes_before-order event_moment) (λ event. touches path event.change)
       (events_at host i index clock commands)
       (events-merged i index clock (events_at host i index clock commands)
-      (state_events-tick (scheme host) host.header i index (resting host i clock) commands))
+      (path_events-tick (scheme host) host.header i index (resting host i clock) commands))
 
   own_path_clear : (path : List Bool) (s i index : ℕ) (clock : Reading) (commands : List Command) (old new : List Event) (before after : ℕ → List C)
       → keeping.home path ≡ Some s → IsSplit old new (events_at host i index clock commands)
@@ -269,12 +270,12 @@ module _ {C R : Type 0} (mirrors : ℕ → List C → Type 0) (keeping : Keeping
         → IsSplit (all_from host 0 old.accounts) (all_from host 0 (set old.accounts i next)) (events_at host i (0 + length account.log) account.clock commands)
     one-split i account own commands next is =
         split-set host 0 old.accounts i next (account_of (fresh host.header)) (events_at host i (0 + length account.log) account.clock commands) own.there
-        (subst (λ (n : ℕ). log_events (scheme host) host.header n next.log
-        ≡ log_events (scheme host) host.header n (get_or old.accounts i (account_of (fresh host.header))).log
+        (subst (λ (n : ℕ). path_log_events (scheme host) host.header n next.log
+        ≡ path_log_events (scheme host) host.header n (get_or old.accounts i (account_of (fresh host.header))).log
         ++ events_at host i (0 + length account.log) account.clock commands) {x = i} (omega arith)
-        (ap (log_events (scheme host) host.header i) is
+        (ap (path_log_events (scheme host) host.header i) is
         ∙ log-grown host i account (own_right mirrors host fit old right i account own) commands
-        ∙ ap (λ (a : Account). log_events (scheme host) host.header i a.log ++ events_at host i (0 + length account.log) account.clock commands)
+        ∙ ap (λ (a : Account). path_log_events (scheme host) host.header i a.log ++ events_at host i (0 + length account.log) account.clock commands)
         (sym own.is)))
 
     opened_same : (shards : List (Seats C)) (s : ℕ) → contents_in (map (λ shard. unmoved shard.contents) shards) s ≡ contents_in shards s
@@ -324,7 +325,7 @@ module _ {C R : Type 0} (mirrors : ℕ → List C → Type 0) (keeping : Keeping
   setup_clear clear path = go (keeping.home path) refl
     where
       setup : List Event
-      setup = log_events (scheme host) host.header 0 host.setup.commands
+      setup = path_log_events (scheme host) host.header 0 host.setup.commands
 
       others : List Event
       others = all_from host 1 (map account_of (replicate (host.header.verifiers - 1) (fresh host.header)))
@@ -335,7 +336,7 @@ module _ {C R : Type 0} (mirrors : ℕ → List C → Type 0) (keeping : Keeping
 
       setup_sorted : IsMerged event_moment (touching path setup)
       setup_sorted = IsInOrder-filter (comes_before event_moment) (comes_before-order event_moment) (λ event. touches path event.change)
-          setup (log-merged (scheme host) host.header 0 host.setup.commands)
+          setup (path_log-merged (scheme host) host.header 0 host.setup.commands)
 
       contents_is : (s : ℕ) → contents_in (map unmoved host.setup.after) s ≡ get_or host.setup.after s []
       contents_is s = ap (λ (z : Seats C). z.contents) (get_or-mapped unmoved host.setup.after s [])

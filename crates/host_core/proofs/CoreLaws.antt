@@ -2,8 +2,7 @@
 use Rattle.std.proofs.Common.{ℕ, suc, ◌<◌, List, [], ◌∷◌, map, length, get_or, arith}
 use Rattle.std.specs.List.{AllByRecursion}
 use Rattle.record_text.specs.Longest.{longest_of}
-use Rattle.soundness.specs.Sound.{AreTyped}
-use Rattle.soundness.specs.Typed.{IsTyped}
+use Rattle.soundness.specs.Typed.{ArePathsTyped, IsPathTyped}
 use Rattle.host_core.specs.Host.{Host}
 use Rattle.host_core.specs.World.{Worker, logs_of, set_up}
 use Rattle.host_core.specs.WorldEvent.{run_events}
@@ -15,15 +14,15 @@ use Rattle.host_core.proofs.PromiseLemmas.{sound_behind, some_worker, are_accept
 
 -- the logs of typed accounts are typed
 typed_logs : (longest : ℕ) (workers : List Worker) (d : Account)
-    → ((i : ℕ) → i < length (map account_of workers) → AllByRecursion (IsTyped longest) (get_or (map account_of workers) i d).log)
-    → AreTyped longest (map (λ worker. worker.log) workers)
+    → ((i : ℕ) → i < length (map account_of workers) → AllByRecursion (IsPathTyped longest) (get_or (map account_of workers) i d).log)
+    → ArePathsTyped longest (map (λ worker. worker.log) workers)
 typed_logs longest [] d all = tt
 typed_logs longest (worker ∷ workers) d all =
     (all 0 (omega arith), typed_logs longest workers d (λ i within. all (suc i) (omega (arith, within))))
 
 module _ {C R : Type 0} (mirrors : ℕ → List C → Type 0) (host : Host C R) where
   -- each command of a log is typed
-  pub always_typed : HoldsBehind mirrors host (λ world. AreTyped (longest_of host.header) (logs_of world))
+  pub always_typed : HoldsBehind mirrors host (λ world. ArePathsTyped (longest_of host.header) (logs_of world))
   always_typed fit events enabled =
       typed_logs (longest_of host.header) (run_events host (set_up host) events).workers _
       (λ i within. ((sound_behind mirrors host fit events enabled).right.each i within).typed)

@@ -1,12 +1,12 @@
 -- All evicted elements together are all added ones with the pending elements of all contents, each as often.
 use Rattle.std.proofs.Common.{◌≡◌, ℕ, zero, suc, ◌+◌, ◌-◌, ◌<◌, true, List, [], ◌∷◌, ◌++◌, map, length, get_or, set, replicate, refl, sym, ◌∙◌, ap, subst, arith}
-use Rattle.base_words.specs.Traced.{traced}
 use Rattle.std.specs.List.{flat_map}
 use Rattle.std.proofs.lemmas.Grind.{flat_map-append}
 use Rattle.record_text.specs.declared.element.Element.{Element}
 use Rattle.log_codec.specs.declared.command.Command.{Command}
 use Rattle.log_codec.specs.declared.command.Command.TheVariants.{NextEpoch}
-use Rattle.soundness.specs.History.{Event, log_events, histories_from}
+use Rattle.soundness.specs.History.{Event}
+use Rattle.soundness.specs.PathHistory.{path_log_events, path_histories_from}
 use Rattle.soundness.specs.StateHistory.{events_from}
 use Rattle.soundness.specs.Certified.{all_events, added_by, evicted_by}
 use Rattle.soundness.specs.Timed.{added_among, evicted_among}
@@ -44,36 +44,36 @@ counts_evicted x = record {
 module _ {C R : Type 0} (host : Host C R) where
   -- the events of all logs, the first of which is of the worker of this number
   abbrev pub all_from : ℕ → List Account → List Event
-  all_from number accounts = all_events (histories_from (scheme host) host.header number (map (λ account. account.log) accounts))
+  all_from number accounts = all_events (path_histories_from (scheme host) host.header number (map (λ account. account.log) accounts))
 
   -- where a log has more events, all logs have
   pub sum-set : (f : List Event → ℕ) → IsSum f → (number : ℕ) (accounts : List Account) (i : ℕ) (next d : Account) (more : List Event)
       → i < length accounts
-      → log_events (scheme host) host.header (number + i) next.log
-      ≡ log_events (scheme host) host.header (number + i) (get_or accounts i d).log ++ more
+      → path_log_events (scheme host) host.header (number + i) next.log
+      ≡ path_log_events (scheme host) host.header (number + i) (get_or accounts i d).log ++ more
       → f (all_from number (set accounts i next)) ≡ f (all_from number accounts) + f more
   sum-set f sums number [] i next d more within grown = absurd (omega (arith, within))
   sum-set f sums number (account ∷ accounts) zero next d more within grown =
       let rest = all_from (suc number) accounts in
-      let old = log_events (scheme host) host.header number account.log in
-      let here : log_events (scheme host) host.header number next.log ≡ old ++ more =
-      subst (λ (n : ℕ). log_events (scheme host) host.header n next.log ≡ log_events (scheme host) host.header n account.log ++ more)
+      let old = path_log_events (scheme host) host.header number account.log in
+      let here : path_log_events (scheme host) host.header number next.log ≡ old ++ more =
+      subst (λ (n : ℕ). path_log_events (scheme host) host.header n next.log ≡ path_log_events (scheme host) host.header n account.log ++ more)
       (omega arith) grown in
       omega (
         arith,
-        sums.joined (log_events (scheme host) host.header number next.log) rest,
+        sums.joined (path_log_events (scheme host) host.header number next.log) rest,
         ap f here,
         sums.joined old more,
         sums.joined old rest,
       )
   sum-set f sums number (account ∷ accounts) (suc i) next d more within grown =
-      let old = log_events (scheme host) host.header number account.log in
+      let old = path_log_events (scheme host) host.header number account.log in
       omega (
         arith,
         sums.joined old (all_from (suc number) (set accounts i next)),
         sums.joined old (all_from (suc number) accounts),
         sum-set f sums (suc number) accounts i next d more (omega (arith, within))
-            (subst (λ (n : ℕ). log_events (scheme host) host.header n next.log ≡ log_events (scheme host) host.header n (get_or accounts i d).log ++ more)
+            (subst (λ (n : ℕ). path_log_events (scheme host) host.header n next.log ≡ path_log_events (scheme host) host.header n (get_or accounts i d).log ++ more)
             (omega arith) grown),
       )
 
@@ -97,12 +97,12 @@ module _ {C R : Type 0} (mirrors : ℕ → List C → Type 0) (host : Host C R) 
   one-grown f sums i account own commands next is =
       sum-set host f sums 0 old.accounts i next (account_of (fresh host.header))
       (events_at host i (0 + length account.log) account.clock commands) own.there
-      (subst (λ (n : ℕ). log_events (scheme host) host.header n next.log
-      ≡ log_events (scheme host) host.header n (get_or old.accounts i (account_of (fresh host.header))).log
+      (subst (λ (n : ℕ). path_log_events (scheme host) host.header n next.log
+      ≡ path_log_events (scheme host) host.header n (get_or old.accounts i (account_of (fresh host.header))).log
       ++ events_at host i (0 + length account.log) account.clock commands) (omega arith)
-      (ap (log_events (scheme host) host.header i) is
+      (ap (path_log_events (scheme host) host.header i) is
       ∙ log-grown host i account (own_right mirrors host fit old right i account own) commands
-      ∙ ap (λ (a : Account). log_events (scheme host) host.header i a.log ++ events_at host i (0 + length account.log) account.clock commands)
+      ∙ ap (λ (a : Account). path_log_events (scheme host) host.header i a.log ++ events_at host i (0 + length account.log) account.clock commands)
       (sym own.is)))
 
   serve_counted : (i : ℕ) (account : Account) (s seat : ℕ) (request : R) (done : Done C)
@@ -176,7 +176,7 @@ module _ {C R : Type 0} (mirrors : ℕ → List C → Type 0) (host : Host C R) 
 
 -- workers that logged nothing have no events
 pub none_of : {C R : Type 0} (host : Host C R) (n number : ℕ) → all_from host number (map account_of (replicate n (fresh host.header))) ≡ []
-unfolding traced
+unfolding events_from
 none_of host zero number = refl
 none_of host (suc n) number = none_of host n (suc number)
 
@@ -186,8 +186,8 @@ pub setup_counted : {C R : Type 0} (mirrors : ℕ → List C → Type 0) (host :
 setup_counted {C} {R} mirrors host fit x =
     omega (
       arith,
-      (counts_added x).joined (log_events (scheme host) host.header 0 host.setup.commands) (others (host.header.verifiers - 1) 1),
-      (counts_evicted x).joined (log_events (scheme host) host.header 0 host.setup.commands) (others (host.header.verifiers - 1) 1),
+      (counts_added x).joined (path_log_events (scheme host) host.header 0 host.setup.commands) (others (host.header.verifiers - 1) 1),
+      (counts_evicted x).joined (path_log_events (scheme host) host.header 0 host.setup.commands) (others (host.header.verifiers - 1) 1),
       ap (λ (events : List Event). count_of x (added_among events)) (told host 0 host.setup.commands),
       ap (λ (events : List Event). count_of x (evicted_among events)) (told host 0 host.setup.commands),
       fit.setup.added 0 x,

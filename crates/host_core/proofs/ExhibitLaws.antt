@@ -12,12 +12,12 @@ use Rattle.soundness.specs.Certified.{event_moment, all_events, order_of, order_
 use Rattle.soundness.specs.Clash.{none_evicted, first_clash}
 use Rattle.soundness.specs.Exhibit.{first_uneven, exhibit_by}
 use Rattle.soundness.specs.Collision.{Collides}
-use Rattle.soundness.specs.Sound.{AreTyped, IsSerialOrCollides}
-use Rattle.soundness.specs.Typed.{IsTyped}
+use Rattle.soundness.specs.Sound.{IsSerialOrCollides}
+use Rattle.soundness.specs.Typed.{ArePathsTyped, IsPathTyped}
 use Rattle.soundness.specs.World.{changes_in}
 use Rattle.soundness.proofs.CertifiedLaws.{counted_balanced}
 use Rattle.soundness.proofs.SplitLaws.{split_up_to}
-use Rattle.soundness.proofs.SoundLaws.{sound}
+use Rattle.soundness.proofs.SoundLaws.{path_sound}
 use Rattle.host_core.specs.Host.{Host, scheme}
 use Rattle.host_core.specs.World.{World, Worker, set_up}
 use Rattle.host_core.specs.WorldEvent.{WorldEvent, AreEnabled, run_events}
@@ -74,8 +74,8 @@ module _ {C R : Type 0} (mirrors : ℕ → List C → Type 0) (keeping : Keeping
 
   -- the logs of right accounts are typed
   typed_logs : (workers : List Worker) (d : Account)
-      → ((i : ℕ) → i < length (map account_of workers) → AllByRecursion (IsTyped (longest_of host.header)) (get_or (map account_of workers) i d).log)
-      → AreTyped (longest_of host.header) (map (λ worker. worker.log) workers)
+      → ((i : ℕ) → i < length (map account_of workers) → AllByRecursion (IsPathTyped (longest_of host.header)) (get_or (map account_of workers) i d).log)
+      → ArePathsTyped (longest_of host.header) (map (λ worker. worker.log) workers)
   typed_logs [] d all = tt
   typed_logs (worker ∷ workers) d all =
       (all 0 (omega arith), typed_logs workers d (λ i within. all (suc i) (omega (arith, within))))
@@ -84,7 +84,7 @@ module _ {C R : Type 0} (mirrors : ℕ → List C → Type 0) (keeping : Keeping
   pub served_serially : IsServedSerially host world
   served_serially digests =
       go _ _ nothing_to_show
-      (sound host.functions host.header (map (λ worker. worker.log) world.workers) count digests
+      (path_sound host.functions host.header (map (λ worker. worker.log) world.workers) count digests
       (typed_logs world.workers _ (λ i within. (sound_world.right.each i within).typed))
       (counted_balanced (scheme host) (order_of hs) host.header.first (sealed_by_all hs)))
     where

@@ -4,7 +4,8 @@ use Rattle.std.proofs.lemmas.Bool.{eqb-true}
 use Rattle.std.proofs.lemmas.List.{length-map}
 use Rattle.stamp_order.proofs.InOrderLaws.{every-weaker}
 use Rattle.record_text.specs.declared.element.Element.{Element}
-use Rattle.soundness.specs.History.{Event, log_events, histories_from}
+use Rattle.soundness.specs.History.{Event}
+use Rattle.soundness.specs.PathHistory.{path_log_events, path_histories_from}
 use Rattle.soundness.specs.Certified.{all_events, order_of, added_in, evicted_in, sealed_count, sealed_by_all, is_balanced, balanced_from}
 use Rattle.soundness.specs.Timed.{added_among, evicted_among}
 use Rattle.soundness.specs.Permutation.{count_of, is_permutation}
@@ -90,33 +91,33 @@ module _ {C R : Type 0} (mirrors : ℕ → List C → Type 0) (host : Host C R) 
 
   -- what all have sealed, each has
   each_sealed : (number : ℕ) (accounts : List Account) (i : ℕ) (d : Account) (n : ℕ) → i < length accounts
-      → n < sealed_by_all (histories_from (scheme host) host.header number (map (λ account. account.log) accounts))
-      → n < sealed_count (log_events (scheme host) host.header (number + i) (get_or accounts i d).log)
+      → n < sealed_by_all (path_histories_from (scheme host) host.header number (map (λ account. account.log) accounts))
+      → n < sealed_count (path_log_events (scheme host) host.header (number + i) (get_or accounts i d).log)
   each_sealed number [] i d n within below = absurd (omega (arith, within))
   each_sealed number (account ∷ []) zero d n within below =
-      subst (λ (k : ℕ). n < sealed_count (log_events (scheme host) host.header k account.log)) {x = number} (omega arith) below
+      subst (λ (k : ℕ). n < sealed_count (path_log_events (scheme host) host.header k account.log)) {x = number} (omega arith) below
   each_sealed number (account ∷ []) (suc i) d n within below = absurd (omega (arith, within))
   each_sealed number (account ∷ other ∷ accounts) zero d n within below =
-      subst (λ (k : ℕ). n < sealed_count (log_events (scheme host) host.header k account.log)) {x = number} (omega arith) (omega (arith, below))
+      subst (λ (k : ℕ). n < sealed_count (path_log_events (scheme host) host.header k account.log)) {x = number} (omega arith) (omega (arith, below))
   each_sealed number (account ∷ other ∷ accounts) (suc i) d n within below =
-      subst (λ (k : ℕ). n < sealed_count (log_events (scheme host) host.header k (get_or (other ∷ accounts) i d).log)) {x = suc number + i} (omega arith)
+      subst (λ (k : ℕ). n < sealed_count (path_log_events (scheme host) host.header k (get_or (other ∷ accounts) i d).log)) {x = suc number + i} (omega arith)
       (each_sealed (suc number) (other ∷ accounts) i d n (omega (arith, within)) (omega (arith, below)))
 
   -- where each has sealed so many, all have
   all_sealed : (number : ℕ) (account : Account) (accounts : List Account) (d : Account) (n : ℕ)
       → ((i : ℕ) → i < length (account ∷ accounts)
-      → sealed_count (log_events (scheme host) host.header (number + i) (get_or (account ∷ accounts) i d).log) ≡ n)
-      → sealed_by_all (histories_from (scheme host) host.header number (map (λ account. account.log) (account ∷ accounts))) ≡ n
+      → sealed_count (path_log_events (scheme host) host.header (number + i) (get_or (account ∷ accounts) i d).log) ≡ n)
+      → sealed_by_all (path_histories_from (scheme host) host.header number (map (λ account. account.log) (account ∷ accounts))) ≡ n
   all_sealed number account [] d n all =
-      subst (λ (k : ℕ). sealed_count (log_events (scheme host) host.header k account.log) ≡ n) (omega arith) (all 0 (omega arith))
+      subst (λ (k : ℕ). sealed_count (path_log_events (scheme host) host.header k account.log) ≡ n) (omega arith) (all 0 (omega arith))
   all_sealed number account (other ∷ accounts) d n all =
-      let here : sealed_count (log_events (scheme host) host.header number account.log) ≡ n =
-      subst (λ (k : ℕ). sealed_count (log_events (scheme host) host.header k account.log) ≡ n) (omega arith) (all 0 (omega arith)) in
+      let here : sealed_count (path_log_events (scheme host) host.header number account.log) ≡ n =
+      subst (λ (k : ℕ). sealed_count (path_log_events (scheme host) host.header k account.log) ≡ n) (omega arith) (all 0 (omega arith)) in
       omega (
         arith,
         here,
         all_sealed (suc number) other accounts d n
-            (λ i within. subst (λ (k : ℕ). sealed_count (log_events (scheme host) host.header k (get_or (other ∷ accounts) i d).log) ≡ n)
+            (λ i within. subst (λ (k : ℕ). sealed_count (path_log_events (scheme host) host.header k (get_or (other ∷ accounts) i d).log) ≡ n)
             (omega arith) (all (suc i) (omega (arith, within)))),
       )
 
@@ -154,7 +155,7 @@ module _ {C R : Type 0} (mirrors : ℕ → List C → Type 0) (host : Host C R) 
             let counted : (n : ℕ) → n + host.header.first ≡ epoch
             → n < (account_at host (books_of world) i).clock.at.epoch - (host.header.first + 1) = λ n is.
             subst (λ (k : ℕ). n < k)
-            (ap (λ (k : ℕ). sealed_count (log_events (scheme host) host.header k (account_at host (books_of world) i).log)) (zero-plus i) ∙ right.sealed)
+            (ap (λ (k : ℕ). sealed_count (path_log_events (scheme host) host.header k (account_at host (books_of world) i).log)) (zero-plus i) ∙ right.sealed)
             (each_sealed 0 accounts i (account_of (fresh host.header)) n there
             (subst (λ (hs : List (List Event)). n < sealed_by_all hs) (histories_are host world) (omega (arith, below, is)))) in
             go (past_first (epoch_at (epoch_of host world) (shard_at world s).moved) refl) counted from
@@ -280,12 +281,12 @@ module _ {C R : Type 0} (mirrors : ℕ → List C → Type 0) (host : Host C R) 
 
       go : (accounts : List Account) → 0 < length accounts
           → ((i : ℕ) → i < length accounts
-          → sealed_count (log_events (scheme host) host.header i (get_or accounts i (account_of (fresh host.header))).log) ≡ suc world.phase)
+          → sealed_count (path_log_events (scheme host) host.header i (get_or accounts i (account_of (fresh host.header))).log) ≡ suc world.phase)
           → sealed_by_all (histories_in host accounts) ≡ suc world.phase
       go [] there all = absurd (omega (arith, there))
       go (account ∷ accounts) there all =
           all_sealed 0 account accounts (account_of (fresh host.header)) (suc world.phase)
-          (λ i within. subst (λ (k : ℕ). sealed_count (log_events (scheme host) host.header k (get_or (account ∷ accounts) i (account_of (fresh host.header))).log) ≡ suc world.phase)
+          (λ i within. subst (λ (k : ℕ). sealed_count (path_log_events (scheme host) host.header k (get_or (account ∷ accounts) i (account_of (fresh host.header))).log) ≡ suc world.phase)
           (omega arith) (all i within))
 
   -- there is a worker

@@ -1,7 +1,6 @@
 -- What holds of the books behind every list of enabled events: each account is right, each shard mirrors, and no clock is
 -- more than one epoch past a pending element.
 use Rattle.std.proofs.Common.{◌≡◌, ◌⊎◌, ℕ, zero, suc, ◌+◌, ◌-◌, ◌<◌, ◌≤◌, Bool, true, false, List, [], ◌∷◌, ◌++◌, map, length, take, get_or, set, replicate, refl, sym, ◌∙◌, ap, subst, inl, inr, if◌then◌else◌, true≢false, arith}
-use Rattle.base_words.specs.Traced.{traced}
 use Rattle.std.specs.List.{flat_map, AllByRecursion}
 use Rattle.std.proofs.lemmas.Grind.{flat_map-append}
 use Rattle.std.proofs.lemmas.List.{length-map, length-set, length-replicate}
@@ -316,7 +315,7 @@ module _ {C R : Type 0} (mirrors : ℕ → List C → Type 0) (host : Host C R) 
   opening_accounts = (books_of (set_up host)).accounts
 
   fresh_right : IsFit mirrors host → (i : ℕ) → IsRightAccount host (suc i) (account_of (fresh host.header))
-  unfolding state_from refusal_from traced
+  unfolding state_from refusal_from events_from
   fresh_right fit i = record {
     typed = tt;
     accepted = refl;

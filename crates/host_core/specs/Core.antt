@@ -3,7 +3,8 @@ use Rattle.std.specs.Prelude.{◌≡◌, ℕ, suc, ◌+◌, ◌-◌, ◌<◌, �
 use Rattle.std.specs.List.{flat_map}
 use Rattle.record_text.specs.declared.element.Element.{Element}
 use Rattle.verifier_commands.specs.State.{opening}
-use Rattle.soundness.specs.History.{Event, log_events, histories_of}
+use Rattle.soundness.specs.History.{Event}
+use Rattle.soundness.specs.PathHistory.{path_log_events, path_histories_of}
 use Rattle.soundness.specs.Certified.{all_events, order_of, added_in, evicted_in, sealed_count, sealed_by_all, certified_count}
 use Rattle.soundness.specs.Timed.{added_among, evicted_among}
 use Rattle.soundness.specs.Permutation.{is_permutation}
@@ -16,7 +17,7 @@ use Rattle.host_core.specs.Deeds.{answers_in, pending_of, AreStamped, IsFit}
 module _ {C R : Type 0} (host : Host C R) (world : World C) where
   -- the histories of all logs
   abbrev pub histories : List (List Event)
-  histories = histories_of (scheme host) host.header (logs_of world)
+  histories = path_histories_of (scheme host) host.header (logs_of world)
 
   -- the pending elements of all contents
   abbrev pub pending_in : List Element
@@ -33,7 +34,7 @@ module _ {C R : Type 0} (host : Host C R) (world : World C) where
   abbrev pub AreAnswered : Type 0
   AreAnswered = (i : ℕ) → i < length world.workers
       → let worker = worker_at host world i in
-      answers_in (log_events (scheme host) host.header i worker.log) ≡ take worker.served (script_of host i)
+      answers_in (path_log_events (scheme host) host.header i worker.log) ≡ take worker.served (script_of host i)
 
   -- all evicted elements together are a permutation of all added ones with the pending elements of all contents
   abbrev pub IsEven : Type 0
@@ -56,7 +57,7 @@ module _ {C R : Type 0} (host : Host C R) (world : World C) where
   abbrev pub AreSealed : Type 0
   AreSealed = (i : ℕ) → i < length world.workers
       → let worker = worker_at host world i in
-      sealed_count (log_events (scheme host) host.header i worker.log) ≡ worker.clock.at.epoch - (host.header.first + 1)
+      sealed_count (path_log_events (scheme host) host.header i worker.log) ≡ worker.clock.at.epoch - (host.header.first + 1)
 
   -- of each epoch that all have sealed the added elements are a permutation of the evicted ones
   abbrev pub SealedArePermuted : Type 0
@@ -77,7 +78,7 @@ module _ {C R : Type 0} (host : Host C R) (world : World C) where
   IsDone = length host.script ≤ suc world.phase → IsPhaseOver host world
       → ((i : ℕ) → i < length world.workers → (worker_at host world i).stopped ≡ false)
       → (i : ℕ) → i < length world.workers
-      → answers_in (log_events (scheme host) host.header i (worker_at host world i).log) ≡ script_of host i
+      → answers_in (path_log_events (scheme host) host.header i (worker_at host world i).log) ≡ script_of host i
 
 -- P holds of the world behind every list of events that are enabled from the setup on, where whatever the host does fits.
 abbrev pub HoldsBehind : {C R : Type 0} → (ℕ → List C → Type 0) → Host C R → (World C → Type 0) → Type 0

@@ -15,7 +15,7 @@ use Rattle.soundness.specs.History.{Event}
 use Rattle.soundness.specs.StateHistory.{events_from}
 use Rattle.soundness.specs.Certified.{operations_in, sealed_count}
 use Rattle.soundness.specs.Timed.{added_among, evicted_among}
-use Rattle.soundness.specs.Typed.{IsTyped}
+use Rattle.soundness.specs.Typed.{IsPathTyped}
 use Rattle.soundness.specs.Permutation.{count_of}
 use Rattle.host_core.specs.Accepted.{state_from, IsAccepted}
 use Rattle.host_core.specs.Host.{Done, Host, machinery, resting}
@@ -62,7 +62,7 @@ pub record IsClock {C R : Type 0} (host : Host C R) (clock : Reading) : Type 0 w
 -- pending elements of the contents before, evict those of the contents after, and answer these requests.
 pub record IsDeed {C R : Type 0} (host : Host C R) (i : ℕ) (from : State) (commands : List Command) (clock : Reading)
     (old new : List C) (answers : List (ℕ × Request)) : Type 0 where
-  pub typed : AllByRecursion (IsTyped (longest_of host.header)) commands
+  pub typed : AllByRecursion (IsPathTyped (longest_of host.header)) commands
   pub accepted : IsAccepted (machinery host i) from commands
   pub rests : state_from (machinery host i) from commands ≡ resting host i clock
   pub is_clock : IsClock host clock

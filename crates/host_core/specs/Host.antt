@@ -9,7 +9,8 @@ use Rattle.log_codec.specs.declared.command.Command.{Command}
 use Rattle.merkle_records.specs.Scheme.{Scheme, scheme_of}
 use Rattle.verifier_cache.specs.Cache.{Held}
 use Rattle.verifier_commands.specs.declared.state.State.{State}
-use Rattle.soundness.specs.StateHistory.{Machinery, machinery_under, rules_under}
+use Rattle.soundness.specs.StateHistory.{Machinery, rules_under}
+use Rattle.soundness.specs.PathHistory.{path_machinery_under}
 
 -- what a worker did: the commands that join its log, what it made of what it had, and its clock after
 pub record Done (X : Type 0) : Type 0 where
@@ -40,7 +41,7 @@ scheme host = scheme_of host.functions host.header
 
 -- the verifier of this number
 abbrev pub machinery : {C R : Type 0} → Host C R → ℕ → Machinery State Command
-machinery host i = machinery_under (rules_under (scheme host) host.header i)
+machinery host i = path_machinery_under (rules_under (scheme host) host.header i)
 
 -- the state of a verifier between requests, where its clock stands so
 abbrev pub resting : {C R : Type 0} → Host C R → ℕ → Reading → State

@@ -12,7 +12,7 @@ use Rattle.soundness.specs.StateHistory.{rules_under}
 use Rattle.soundness.specs.Certified.{sealed_count}
 use Rattle.soundness.specs.Timed.{added_among, evicted_among}
 use Rattle.soundness.specs.Permutation.{count_of}
-use Rattle.soundness.specs.Typed.{IsTyped}
+use Rattle.soundness.specs.Typed.{IsPathTyped}
 use Rattle.host_core.specs.Host.{Host, scheme, resting}
 use Rattle.host_core.specs.Deeds.{pending_of, answers_in, AreStamped, IsClock, IsDeed}
 use Rattle.host_laws.specs.Running.{Told, run, added_told, evicted_told, accesses_told, IsHistory}
@@ -21,7 +21,7 @@ use Rattle.host_fits.proofs.EventLemmas.{run-state, IsOfEpoch, run-steady, added
 
 pub is_deed : {C R : Type 0} (host : Host C R) (i : ℕ) (from : State) (commands : List Command) (told : Told) (clock : Reading) (old new : List C) (answers : List (ℕ × Request))
     → run (rules_under (scheme host) host.header i) from commands ≡ Ok (told, resting host i clock)
-    → AllByRecursion (IsTyped (longest_of host.header)) commands → IsClock host clock → clock.at.epoch ≡ from.clock.at.epoch
+    → AllByRecursion (IsPathTyped (longest_of host.header)) commands → IsClock host clock → clock.at.epoch ≡ from.clock.at.epoch
     → AreStamped host clock.at.epoch new → added_told told ≡ pending_of host old → evicted_told told ≡ pending_of host new
     → map (ask_of from.clock.at.epoch) (accesses_told told) ≡ answers
     → IsDeed host i from commands clock old new answers

@@ -17,7 +17,7 @@ use Rattle.verifier_commands.specs.Ticks.{Ticks}
 use Rattle.verifier_commands.proofs.TickLaws.{ticks_step, ticks-epoch}
 use Rattle.lamport_clocks.proofs.ClockLaws.{advanced-ok}
 use Rattle.soundness.specs.History.{Event}
-use Rattle.soundness.specs.StateHistory.{machinery_under}
+use Rattle.soundness.specs.PathHistory.{path_machinery_under}
 use Rattle.soundness.specs.Certified.{added_by, evicted_by, operations_by, operations_in, sealed_by, sealed_count}
 use Rattle.soundness.specs.Timed.{added_among, evicted_among}
 use Rattle.soundness.specs.World.{changes_in}
@@ -31,12 +31,12 @@ use Rattle.host_laws.proofs.RunLaws.{run-begins, same_Ok}
 -- ---- the state behind a run
 
 pub run-state : (rules : Rules) (state last : State) (commands : List Command) (told : Told) → run rules state commands ≡ Ok (told, last)
-    → state_from (machinery_under rules) state commands ≡ last
+    → state_from (path_machinery_under rules) state commands ≡ last
 unfolding run state_from
 run-state rules state last [] told is = ap (λ (p : Told × State). p.1) (same_Ok ([], state) (told, last) is)
 run-state rules state last (command ∷ commands) told is =
     let begins = run-begins rules state command commands told last is in
-    ap (λ (r : Step). state_behind state r (λ after. state_from (machinery_under rules) after commands)) begins.step
+    ap (λ (r : Step). state_behind state r (λ after. state_from (path_machinery_under rules) after commands)) begins.step
     ∙ run-state rules begins.next last commands begins.rest begins.further
 
 -- ---- the clock of a run that stays in its epoch

@@ -11,7 +11,8 @@ use Rattle.log_codec.specs.declared.command.Command.{Command}
 use Rattle.verifier_commands.specs.Change.{Change}
 use Rattle.verifier_commands.specs.declared.state.State.{State}
 use Rattle.soundness.specs.History.{Event}
-use Rattle.soundness.specs.StateHistory.{rules_under, machinery_under, events_from}
+use Rattle.soundness.specs.StateHistory.{rules_under, events_from}
+use Rattle.soundness.specs.PathHistory.{path_machinery_under}
 use Rattle.soundness.specs.Clash.{first_clash}
 use Rattle.soundness.specs.World.{changes_in, last_evicted_behind}
 use Rattle.host_shard.specs.Shard.{Shard, pending_shard}
@@ -95,7 +96,7 @@ clear_none setting worker from last commands told s old new runs none same rises
     history = run-history (rules_under (scheme (ranged setting)) setting.settings.header worker) from last commands told runs
 
     untouched : (index : ℕ) (path : List Bool)
-        → touching path (events_from (machinery_under (rules_under (scheme (ranged setting)) setting.settings.header worker)) worker index from commands) ≡ []
+        → touching path (events_from (path_machinery_under (rules_under (scheme (ranged setting)) setting.settings.header worker)) worker index from commands) ≡ []
     untouched index path = ap (λ (events : List Event). touching path events) (history.events worker index) ∙ touching-none path worker index told (none path)
 
 -- ---- a request

@@ -23,7 +23,7 @@ use Rattle.verifier_cache.specs.Entry.{new_entry}
 use Rattle.verifier_commands.specs.Outcome.{blob_of}
 use Rattle.verifier_commands.specs.Transition.{Rules}
 use Rattle.soundness.specs.StateHistory.{rules_under}
-use Rattle.soundness.specs.Typed.{IsTyped}
+use Rattle.soundness.specs.Typed.{IsPathTyped}
 use Rattle.host_shard.specs.declared.link.Link.{Link}
 use Rattle.host_shard.specs.Shard.{Shard, pending_shard}
 use Rattle.host_shard.specs.Content.{Content, cold, hot, vacant, pending}
@@ -199,7 +199,7 @@ module _ (setting : Setting) (worker : ℕ) (clock : Reading) (s seat : ℕ) (co
   serve_deed =
       is_deed (ranged setting) worker (resting (ranged setting) worker clock) found.commands runs.told found.clock (content ∷ []) (found.after ∷ []) ((clock.at.epoch, told request) ∷ [])
       logged
-      (subst (AllByRecursion (IsTyped longest)) (sym planned.logged)
+      (subst (AllByRecursion (IsPathTyped longest)) (sym planned.logged)
       (plan_typed longest digest worker hot_keys content found.after request clock found.clock planned.plan there.fits there.mirrors there.own there.cold_there planned.is))
       (subst (IsClock (ranged setting)) (sym planned.is.clock) (clock_is content counters))
       keeps.same_epoch.epoch

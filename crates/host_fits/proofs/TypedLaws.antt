@@ -4,7 +4,7 @@ use Rattle.record_hash.specs.Functions.{DigestFunctions}
 use Rattle.record_text.specs.declared.request.Request.{Request}
 use Rattle.record_text.specs.Longest.{longest_of}
 use Rattle.script_text.specs.declared.task.Task.{Task}
-use Rattle.soundness.specs.Sound.{AreTyped}
+use Rattle.soundness.specs.Typed.{ArePathsTyped}
 use Rattle.host_shard.specs.Content.{Content}
 use Rattle.host_core.specs.World.{World, logs_of, set_up}
 use Rattle.host_core.specs.WorldEvent.{WorldEvent, AreEnabled, run_events}
@@ -20,9 +20,9 @@ use Rattle.host_fits.proofs.PromiseLemmas.{is_fit}
 pub logs_typed : (functions : DigestFunctions) (settings : Settings) (script : List (List Task)) (events : List (WorldEvent Request))
     → CanRun functions settings script
     → AreEnabled (shipped_host functions settings script) (set_up (shipped_host functions settings script)) events
-    → AreTyped (longest_of settings.header) (logs_of (run_events (shipped_host functions settings script) (set_up (shipped_host functions settings script)) events))
+    → ArePathsTyped (longest_of settings.header) (logs_of (run_events (shipped_host functions settings script) (set_up (shipped_host functions settings script)) events))
 logs_typed functions settings script events can enabled =
-    subst (λ (w : World Content). AreTyped (longest_of settings.header) (logs_of w))
+    subst (λ (w : World Content). ArePathsTyped (longest_of settings.header) (logs_of w))
     (run_same functions settings script can.keys (set_up (shipped_host functions settings script)) events)
     (always_typed (PlacesMirror setting) (ranged setting) (is_fit setting (is_setting functions settings script can)) events
     (are_enabled functions settings script can.keys (set_up (shipped_host functions settings script)) events enabled))

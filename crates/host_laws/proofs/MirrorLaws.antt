@@ -14,7 +14,7 @@ use Rattle.record_text.specs.Value.{IsBlob, IsOf}
 use Rattle.merkle_records.specs.Merkle.{Digest, GivesDigests}
 use Rattle.log_codec.specs.declared.command.Command.{Command}
 use Rattle.log_codec.specs.declared.command.Command.TheVariants.{EvictM, Get, Put}
-use Rattle.soundness.specs.Typed.{IsTyped}
+use Rattle.soundness.specs.Typed.{IsPathTyped}
 use Rattle.host_shard.specs.declared.link.Link.{Link}
 use Rattle.host_shard.specs.Tree.{Tree, pointer_of}
 use Rattle.host_shard.specs.Chain.{IsChain, last_value, closed_records}
@@ -145,21 +145,21 @@ mirrors_serve longest digest hot_keys vacant key mirrored owns not_hot = absurd 
 
 -- ---- the kinds of what is logged
 
-typed-append : (longest : ℕ) (first second : List Command) → AllByRecursion (IsTyped longest) first → AllByRecursion (IsTyped longest) second
-    → AllByRecursion (IsTyped longest) (first ++ second)
-typed-append longest first second one two = all-append (IsTyped longest) first second one two
+typed-append : (longest : ℕ) (first second : List Command) → AllByRecursion (IsPathTyped longest) first → AllByRecursion (IsPathTyped longest) second
+    → AllByRecursion (IsPathTyped longest) (first ++ second)
+typed-append longest first second one two = all-append (IsPathTyped longest) first second one two
 
-command_typed : (longest : ℕ) (request : Request) (found : Value) → IsBlob longest request.value → IsTyped longest (command_of request found)
+command_typed : (longest : ℕ) (request : Request) (found : Value) → IsBlob longest request.value → IsPathTyped longest (command_of request found)
 command_typed longest request found fits = go request.put
   where
-    go : (b : Bool) → IsTyped longest (if b then Put (key_path request.key) (values.Blob request.value) else Get (key_path request.key) found)
+    go : (b : Bool) → IsPathTyped longest (if b then Put (key_path request.key) (values.Blob request.value) else Get (key_path request.key) found)
     go true = (length-bits_of key_bits request.key, fits)
     go false = tt
 
 visit_typed : (longest : ℕ) (digest : Digest) (tree : Tree) (key : List Bool) → LeadTo longest digest tree key
-    → (inner : List Command) → AllByRecursion (IsTyped longest) inner
+    → (inner : List Command) → AllByRecursion (IsPathTyped longest) inner
     → (path : List Bool) (value : Value) (links : List Link) → IsOf longest path value → AreOf tree value → IsChain tree key path value links
-    → AllByRecursion (IsTyped longest) (visit path links inner)
+    → AllByRecursion (IsPathTyped longest) (visit path links inner)
 visit_typed longest digest tree key lead inner typed path value [] kind known chain = typed
 visit_typed longest digest tree key lead inner typed path value (link ∷ links) kind known chain =
     let next = next_fits longest digest tree key lead path value link kind known chain.0 in (
@@ -172,9 +172,9 @@ visit_typed longest digest tree key lead inner typed path value (link ∷ links)
 pub plan_typed : (longest : ℕ) (digest : Digest) (worker : ℕ) (hot_keys : List (List Bool)) (content after : Content) (request : Request)
     (clock later : Reading) (plan : Plan)
     → IsBlob longest request.value → ContentMirrors longest digest hot_keys content → Owns longest content request.key → IsCold hot_keys content request.key
-    → IsPlan digest worker content request clock plan after later → AllByRecursion (IsTyped longest) plan.commands
+    → IsPlan digest worker content request clock plan after later → AllByRecursion (IsPathTyped longest) plan.commands
 plan_typed longest digest worker hot_keys (cold shard) after request clock later plan fits_blob mirrored owns not_hot is =
-    subst (AllByRecursion (IsTyped longest)) (sym is.commands) (
+    subst (AllByRecursion (IsPathTyped longest)) (sym is.commands) (
       kind,
       typed-append longest (visit shard.frontier is.links inner) _
           (visit_typed longest digest (tree_of shard) key lead inner (command_typed longest request _ fits_blob, tt) shard.frontier shard.value is.links kind (frontier_of shard) is.way)
@@ -193,6 +193,6 @@ plan_typed longest digest worker hot_keys (cold shard) after request clock later
     inner : List Command
     inner = command_of request (last_value shard.value is.links) ∷ []
 plan_typed longest digest worker hot_keys (hot found) after request clock later plan fits_blob mirrored owns not_hot is =
-    subst (AllByRecursion (IsTyped longest)) (sym is.commands)
+    subst (AllByRecursion (IsPathTyped longest)) (sym is.commands)
     ((length-bits_of key_bits found.key, mirrored), (command_typed longest request _ fits_blob, (tt, tt)))
 plan_typed longest digest worker hot_keys vacant after request clock later plan fits_blob mirrored owns not_hot is = absurd owns

@@ -91,28 +91,28 @@ handed_out path stamp number value = record { path = path; value = value; stamp 
 
 -- along the chain, behind the frontier
 cold_way : (rules : Rules) (clock : Reading) (shard : Shard) (request : Request) (links : List Link)
-    → IsServable rules.scheme.longest rules.scheme.digest shard (key_path request.key)
+    → IsServable rules.scheme.format.longest rules.scheme.digest shard (key_path request.key)
     → IsChain (tree_of shard) (key_path request.key) shard.frontier shard.value links
     → Visited rules shard.records shard.frontier B shard.value links clock request (last_value shard.value links)
 cold_way rules clock shard request links servable chain =
     visited rules (tree_of shard) shard.records clock request
-    (leads rules.scheme.longest rules.scheme.digest shard (key_path request.key) servable) shard.frontier B shard.value links
+    (leads rules.scheme.format.longest rules.scheme.digest shard (key_path request.key) servable) shard.frontier B shard.value links
     (servable.fits.kinds shard.frontier shard.value (frontier_there shard)) (frontier_of shard) (frontier_based shard) chain
 
 -- there is room for it
 cold_roomy : (rules : Rules) (state : State) (shard : Shard) (request : Request) (links : List Link) → IsResting rules state (cold shard)
-    → IsServable rules.scheme.longest rules.scheme.digest shard (key_path request.key)
+    → IsServable rules.scheme.format.longest rules.scheme.digest shard (key_path request.key)
     → IsChain (tree_of shard) (key_path request.key) shard.frontier shard.value links
     → suc (length state.cache.entries + length links) ≤ state.cache.room
 cold_roomy rules state shard request links rest servable chain =
     let few = length-bare state.cache.entries rest.bare in
-    let short = chain_length rules.scheme.longest rules.scheme.digest (tree_of shard) (key_path request.key)
-    (leads rules.scheme.longest rules.scheme.digest shard (key_path request.key) servable) shard.frontier shard.value links
+    let short = chain_length rules.scheme.format.longest rules.scheme.digest (tree_of shard) (key_path request.key)
+    (leads rules.scheme.format.longest rules.scheme.digest shard (key_path request.key) servable) shard.frontier shard.value links
     (servable.fits.kinds shard.frontier shard.value (frontier_there shard)) (frontier_of shard) chain in
     omega (arith, servable.fits.below_root, servable.own.whole, rest.room)
 
 cold_runs : (rules : Rules) (state : State) (shard : Shard) (after : Content) (request : Request) (plan : Plan) (later : Reading)
-    → CanTake rules state (cold shard) → IsServable rules.scheme.longest rules.scheme.digest shard (key_path request.key)
+    → CanTake rules state (cold shard) → IsServable rules.scheme.format.longest rules.scheme.digest shard (key_path request.key)
     → IsPlan rules.scheme.digest rules.number (cold shard) request state.clock plan after later
     → PlanRuns rules state (cold shard) after request plan later
 cold_runs rules state shard after request plan later can servable is = record {
@@ -136,7 +136,7 @@ cold_runs rules state shard after request plan later can servable is = record {
 }
   where
     longest : ℕ
-    longest = rules.scheme.longest
+    longest = rules.scheme.format.longest
 
     apart : is_root shard.frontier ≡ false
     apart = not_root shard.frontier servable.fits.below_root
@@ -216,7 +216,7 @@ hot_runs rules state found after request plan later can same is = record {
 }
   where
     longest : ℕ
-    longest = rules.scheme.longest
+    longest = rules.scheme.format.longest
 
     element : Element
     element = pending_hot found
@@ -250,7 +250,7 @@ hot_runs rules state found after request plan later can same is = record {
 
 -- The plan of a request runs.
 pub plan_runs : (rules : Rules) (state : State) (content after : Content) (request : Request) (plan : Plan) (later : Reading)
-    → CanTake rules state content → CanServe rules.scheme.longest rules.scheme.digest content request.key
+    → CanTake rules state content → CanServe rules.scheme.format.longest rules.scheme.digest content request.key
     → IsPlan rules.scheme.digest rules.number content request state.clock plan after later
     → PlanRuns rules state content after request plan later
 plan_runs rules state (cold shard) after request plan later can serves is = cold_runs rules state shard after request plan later can serves is
@@ -259,7 +259,7 @@ plan_runs rules state vacant after request plan later can serves is = absurd ser
 
 -- Where its counters would pass the end, a request is refused for that.
 pub request_ends : (rules : Rules) (state : State) (content : Content) (request : Request) (links : List Link)
-    → IsResting rules state content → CanServe rules.scheme.longest rules.scheme.digest content request.key → AreLinks content request.key links
+    → IsResting rules state content → CanServe rules.scheme.format.longest rules.scheme.digest content request.key → AreLinks content request.key links
     → IsPastEnd content state.clock → run rules state (commands_of content links request state.clock) ≡ Err refusals.ClockEnd
 request_ends rules state (cold shard) request links rest servable way past =
     let apart = not_root shard.frontier servable.fits.below_root in

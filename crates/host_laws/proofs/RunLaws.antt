@@ -10,7 +10,8 @@ use Rattle.verifier_commands.specs.Change.{Change}
 use Rattle.verifier_commands.specs.Transition.{Rules, Step, transition}
 use Rattle.verifier_commands.proofs.InvertLaws.{and_then-ok}
 use Rattle.soundness.specs.History.{Event}
-use Rattle.soundness.specs.StateHistory.{events_behind, events_from, refusal_behind, refusal_from, machinery_under}
+use Rattle.soundness.specs.StateHistory.{events_behind, events_from, refusal_behind, refusal_from}
+use Rattle.soundness.specs.PathHistory.{path_machinery_under}
 use Rattle.host_laws.specs.Running.{Told, run, as_events, IsHistory}
 use Rattle.host_laws.proofs.StepLemmas.{and_then-there}
 
@@ -108,24 +109,24 @@ run-append_refused rules state middle (command ∷ first) second told refusal is
 -- ---- what was told, and the history
 
 run-events : (rules : Rules) (number index : ℕ) (state : State) (commands : List Command) (told : Told) (last : State)
-    → run rules state commands ≡ Ok (told, last) → events_from (machinery_under rules) number index state commands ≡ as_events number index told
+    → run rules state commands ≡ Ok (told, last) → events_from (path_machinery_under rules) number index state commands ≡ as_events number index told
 unfolding run events_from
 run-events rules number index state [] told last is =
     ap (λ (t : Told). as_events number index t) (ap (λ (p : Told × State). p.0) (same_Ok _ (told, last) is))
 run-events rules number index state (command ∷ commands) told last is =
     let begins = run-begins rules state command commands told last is in
-    ap (λ (r : Step). events_behind (machinery_under rules) number index r (λ after. events_from (machinery_under rules) number (suc index) after commands)) begins.step
+    ap (λ (r : Step). events_behind (path_machinery_under rules) number index r (λ after. events_from (path_machinery_under rules) number (suc index) after commands)) begins.step
     ∙ (ap (λ (more : List Event). record { verifier = number; index = index; at = begins.next.clock.at; change = begins.change } ∷ more)
     (run-events rules number (suc index) begins.next commands begins.rest last begins.further)
     ∙ ap (λ (t : Told). as_events number index t) begins.all)
 
 run-accepted : (rules : Rules) (state : State) (commands : List Command) (told : Told) (last : State)
-    → run rules state commands ≡ Ok (told, last) → refusal_from (machinery_under rules) state commands ≡ None
+    → run rules state commands ≡ Ok (told, last) → refusal_from (path_machinery_under rules) state commands ≡ None
 unfolding run refusal_from
 run-accepted rules state [] told last is = refl
 run-accepted rules state (command ∷ commands) told last is =
     let begins = run-begins rules state command commands told last is in
-    ap (λ (r : Step). refusal_behind r (λ after. refusal_from (machinery_under rules) after commands)) begins.step
+    ap (λ (r : Step). refusal_behind r (λ after. refusal_from (path_machinery_under rules) after commands)) begins.step
     ∙ run-accepted rules begins.next commands begins.rest last begins.further
 
 -- a run is the history of its commands

@@ -26,7 +26,7 @@ use Rattle.verifier_commands.specs.Changes.{above, above_on, leads_to}
 use Rattle.verifier_commands.specs.Transition.{Rules}
 use Rattle.soundness.specs.Clash.{is_known}
 use Rattle.soundness.specs.StateHistory.{rules_under}
-use Rattle.soundness.specs.Typed.{IsTyped}
+use Rattle.soundness.specs.Typed.{IsPathTyped}
 use Rattle.host_shard.specs.Content.{Content, pending}
 use Rattle.host_plan.specs.Moments.{giving}
 use Rattle.host_plan.specs.Setup.{child, set_up, setup_commands, paths_below, first_contents}
@@ -154,7 +154,7 @@ module _ (scheme : Scheme) (verifiers first end : ℕ) where
   }
     where
       longest : ℕ
-      longest = scheme.longest
+      longest = scheme.format.longest
 
       path : List Bool
       path = child parent on
@@ -226,13 +226,13 @@ module _ (scheme : Scheme) (verifiers first end : ℕ) where
 
 -- the values that come in are of their paths' kinds
 set_up_typed : (longest : ℕ) (first levels : ℕ) (path parent : List Bool) → length path + levels < key_bits
-    → AllByRecursion (IsTyped longest) (set_up first levels path parent)
+    → AllByRecursion (IsPathTyped longest) (set_up first levels path parent)
 set_up_typed longest first zero path parent short = (initial_node longest path (omega (arith, short)), (tt, tt))
 set_up_typed longest first (suc levels) path parent short = (
   initial_node longest path (omega (arith, short)),
-  all-append (IsTyped longest) (set_up first levels (child path false) path) _
+  all-append (IsPathTyped longest) (set_up first levels (child path false) path) _
       (set_up_typed longest first levels (child path false) path (omega (arith, length-child path false, short)))
-      (all-append (IsTyped longest) (set_up first levels (child path true) path) (EvictM path parent ∷ [])
+      (all-append (IsPathTyped longest) (set_up first levels (child path true) path) (EvictM path parent ∷ [])
       (set_up_typed longest first levels (child path true) path (omega (arith, length-child path true, short))) (tt, tt)),
 )
 
@@ -253,13 +253,13 @@ setup_runs scheme header (suc levels) can = record {
   apart = λ k longer. carried-append k near.told far.told
       ∙ (ap (λ (changes : List Change). changes ++ carried k far.told) (near.apart k (omega (arith, longer)))
       ∙ far.apart k (omega (arith, longer)));
-  typed = all-append (IsTyped longest) (set_up first levels (child [] false) []) _
+  typed = all-append (IsPathTyped longest) (set_up first levels (child [] false) []) _
       (set_up_typed longest first levels (child [] false) [] (omega (arith, can.short)))
       (set_up_typed longest first levels (child [] true) [] (omega (arith, can.short)));
 }
   where
     longest : ℕ
-    longest = scheme.longest
+    longest = scheme.format.longest
 
     first : ℕ
     first = header.first

@@ -86,10 +86,10 @@ carried_link-own at hold node middle left on path taken last clock told none =
     evict = did_evict_m (parent_of at middle hold on) (new_entry at (values.Node left) hold) (new_entry path last M)
 
 module _ (rules : Rules) (tree base : Tree) (clock : Reading) (request : Request)
-    (lead : LeadTo rules.scheme.longest rules.scheme.digest tree (key_path request.key)) where
+    (lead : LeadTo rules.scheme.format.longest rules.scheme.digest tree (key_path request.key)) where
   -- the longest value, and the path of the key
   abbrev longest : ℕ
-  longest = rules.scheme.longest
+  longest = rules.scheme.format.longest
 
   abbrev digest : Digest
   digest = rules.scheme.digest

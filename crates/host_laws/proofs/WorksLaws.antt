@@ -177,7 +177,7 @@ descend rules depth at path hold node on value taken last clock after inner told
     (run-one rules _ (EvictM path at) _ (standing front room after later) evicted))
   where
     longest : ℕ
-    longest = rules.scheme.longest
+    longest = rules.scheme.format.longest
 
     digest : Digest
     digest = rules.scheme.digest

@@ -12,7 +12,8 @@ use Rattle.verifier_commands.specs.declared.state.State.{State}
 use Rattle.verifier_commands.specs.Change.{Change, did_add_m, did_evict_m, did_add_b, did_evict_b, did_evict_bm, did_get, did_put, did_next_epoch}
 use Rattle.verifier_commands.specs.Transition.{Rules, transition}
 use Rattle.soundness.specs.History.{Event}
-use Rattle.soundness.specs.StateHistory.{events_from, refusal_from, machinery_under}
+use Rattle.soundness.specs.StateHistory.{events_from, refusal_from}
+use Rattle.soundness.specs.PathHistory.{path_machinery_under}
 use Rattle.soundness.specs.Certified.{added_by, evicted_by}
 
 -- what accepted commands did, each with the clock after it
@@ -66,5 +67,5 @@ as_events verifier index (one ∷ told) =
 
 -- a verifier's history of these commands is what was told, and no refusal ends it
 pub record IsHistory (rules : Rules) (state : State) (commands : List Command) (told : Told) : Type 0 where
-  pub events : (number index : ℕ) → events_from (machinery_under rules) number index state commands ≡ as_events number index told
-  pub accepted : refusal_from (machinery_under rules) state commands ≡ None
+  pub events : (number index : ℕ) → events_from (path_machinery_under rules) number index state commands ≡ as_events number index told
+  pub accepted : refusal_from (path_machinery_under rules) state commands ≡ None

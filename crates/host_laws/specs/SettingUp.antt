@@ -18,7 +18,7 @@ use Rattle.verifier_commands.specs.Change.{Change, did_add_m, did_evict_m, did_a
 use Rattle.verifier_commands.specs.Changes.{above}
 use Rattle.soundness.specs.StateHistory.{rules_under}
 use Rattle.soundness.specs.Clash.{is_known}
-use Rattle.soundness.specs.Typed.{IsTyped}
+use Rattle.soundness.specs.Typed.{IsPathTyped}
 use Rattle.host_shard.specs.Content.{pending}
 use Rattle.host_plan.specs.Setup.{child, setup_commands, setup_contents}
 use Rattle.host_laws.specs.Running.{Told, run, added_told, evicted_told, accesses_told}
@@ -83,4 +83,4 @@ pub record SetupRuns (scheme : Scheme) (header : Header) (bits : ℕ) : Type 0 w
   pub accesses : accesses_told told ≡ []
   pub new : AllByRecursion (λ one. IsNew one.1) told
   pub apart : (path : List Bool) → bits < length path → carried path told ≡ []
-  pub typed : AllByRecursion (IsTyped scheme.longest) (setup_commands header.first bits)
+  pub typed : AllByRecursion (IsPathTyped scheme.format.longest) (setup_commands header.first bits)

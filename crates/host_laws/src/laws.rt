@@ -27,7 +27,7 @@ pub fn a_run_is_the_history()
 /// request, hands out what then waits, and rests again. Nothing is asked of the digests.
 pub fn a_plan_runs()
     ensures runs { (rules : Rules) (state : State) (content after : Content) (request : Request) (plan : Plan) (later : Reading)
-        → CanTake rules state content → CanServe rules.scheme.longest rules.scheme.digest content request.key
+        → CanTake rules state content → CanServe rules.scheme.format.longest rules.scheme.digest content request.key
         → IsPlan rules.scheme.digest rules.number content request state.clock plan after later
         → PlanRuns rules state content after request plan later }
 {}
@@ -36,7 +36,7 @@ pub fn a_plan_runs()
 /// nothing else.
 pub fn a_request_past_the_end_is_refused()
     ensures refused { (rules : Rules) (state : State) (content : Content) (request : Request) (links : List Link)
-        → IsResting rules state content → CanServe rules.scheme.longest rules.scheme.digest content request.key
+        → IsResting rules state content → CanServe rules.scheme.format.longest rules.scheme.digest content request.key
         → AreLinks content request.key links → IsPastEnd content state.clock
         → run rules state (commands_of content links request state.clock) ≡ Err ClockEnd }
 {}

@@ -7,7 +7,7 @@ ghost use Rattle.lamport_clocks.specs.Reading.{Reading};
 ghost use Rattle.record_text.specs.declared.request.Request.{Request};
 ghost use Rattle.record_text.specs.Value.{IsBlob};
 ghost use Rattle.merkle_records.specs.Merkle.{Digest, GivesDigests};
-ghost use Rattle.soundness.specs.Typed.{IsTyped};
+ghost use Rattle.soundness.specs.Typed.{IsPathTyped};
 ghost use Rattle.host_shard.specs.Content.{Content};
 ghost use Rattle.host_plan.specs.Plan.{Owns, CanServe, IsPlan};
 ghost use Rattle.host_plan.specs.Setup.{setup_contents};
@@ -29,7 +29,7 @@ pub fn a_plan_is_typed()
     ensures typed { (longest : ℕ) (digest : Digest) (worker : ℕ) (hot_keys : List (List Bool)) (content after : Content) (request : Request)
         (clock later : Reading) (plan : Plan)
         → IsBlob longest request.value → ContentMirrors longest digest hot_keys content → Owns longest content request.key → IsCold hot_keys content request.key
-        → IsPlan digest worker content request clock plan after later → AllByRecursion (IsTyped longest) plan.commands }
+        → IsPlan digest worker content request clock plan after later → AllByRecursion (IsPathTyped longest) plan.commands }
 {}
 
 /// The shards of a setup mirror, with no hot keys.

@@ -1,9 +1,9 @@
 //! The bytes of a log that grows command by command.
 ghost use Rattle.std.specs.Prelude.{◌≡◌, [], ◌++◌, take, OnOk, OnErr};
-ghost use Rattle.log_codec.specs.Command.{command_text};
+ghost use Rattle.log_codec.specs.Command.{path_command_text};
 
 use base_words::Memory;
-use log_codec::{Command, write};
+use log_codec::{Command, write_path_command};
 use std::alloc::Global;
 use std::marker::Model;
 use std::mem;
@@ -34,10 +34,11 @@ impl LogBuffer {
 
     /// Adds a command.
     pub fn push(&mut self, command: &Command) -> Result<(), Memory>
-        ensures pushed { OnOk result (self.new ≡ self.old ++ command_text command.now) }
+        ensures pushed { OnOk result (self.new ≡ self.old ++ path_command_text command.now) }
         ensures err { OnErr result (self.new ≡ self.old) }
     {
-        self.bytes.extend_from_slice(write(command).as_slice())?;
+        self.bytes
+            .extend_from_slice(write_path_command(command).as_slice())?;
         Ok(())
     }
 

@@ -16,7 +16,7 @@ use Rattle.record_text.proofs.ValueTextLaws.{initial_value-kind}
 use Rattle.record_text.specs.Longest.{longest_blob}
 use Rattle.log_codec.specs.declared.command.Command.{Command}
 use Rattle.log_codec.specs.declared.command.Command.TheVariants.{AddM, EvictM}
-use Rattle.log_codec.specs.Command.{IsCommand}
+use Rattle.log_codec.specs.Command.{IsPathCommand}
 use Rattle.host_shard.specs.Content.{Content}
 use Rattle.host_plan.specs.Setup.{child, first_stamp, first_content, set_up, setup_commands, paths_below}
 use Rattle.host_plan.proofs.TypedLemmas.{AllByRecursion-append}
@@ -115,7 +115,7 @@ first_typed first path small few = record {
 }
 
 set_up_typed : (first levels : ℕ) (path parent : List Bool) → first < 2 ^ 32 → length path + levels ≤ 10 → length parent ≤ 10
-    → AllByRecursion (IsCommand longest_blob) (set_up first levels path parent)
+    → AllByRecursion (IsPathCommand longest_blob) (set_up first levels path parent)
 set_up_typed first zero path parent small few above =
     let own : length path ≤ 64 = omega arith in
     let over : length parent ≤ 64 = omega arith in
@@ -125,16 +125,16 @@ set_up_typed first (suc levels) path parent small few above =
     let over : length parent ≤ 64 = omega arith in
     let longer : (on : Bool) → length (child path on) + levels ≤ 10 = λ on. omega (arith, length-append path (on ∷ [])) in (
       (initial_value-kind longest_blob path own, over),
-      AllByRecursion-append (IsCommand longest_blob) (set_up first levels (child path false) path) _
+      AllByRecursion-append (IsPathCommand longest_blob) (set_up first levels (child path false) path) _
           (set_up_typed first levels (child path false) path small (longer false) (omega arith))
-          (AllByRecursion-append (IsCommand longest_blob) (set_up first levels (child path true) path) _
+          (AllByRecursion-append (IsPathCommand longest_blob) (set_up first levels (child path true) path) _
           (set_up_typed first levels (child path true) path small (longer true) (omega arith))
           ((own, over), tt)),
     )
 
-pub setup_typed : (first bits : ℕ) → first < 2 ^ 32 → bits ≤ 10 → AllByRecursion (IsCommand longest_blob) (setup_commands first bits)
+pub setup_typed : (first bits : ℕ) → first < 2 ^ 32 → bits ≤ 10 → AllByRecursion (IsPathCommand longest_blob) (setup_commands first bits)
 setup_typed first zero small few = tt
 setup_typed first (suc levels) small few =
-    AllByRecursion-append (IsCommand longest_blob) (set_up first levels (child [] false) []) _
+    AllByRecursion-append (IsPathCommand longest_blob) (set_up first levels (child [] false) []) _
     (set_up_typed first levels (child [] false) [] small (omega arith) (omega arith))
     (set_up_typed first levels (child [] true) [] small (omega arith) (omega arith))

@@ -10,7 +10,7 @@ use Rattle.record_text.specs.declared.value.Value.TheVariants as values
 use Rattle.record_text.specs.Value.{IsOf}
 use Rattle.record_text.specs.Element.{IsStamp}
 use Rattle.log_codec.specs.declared.command.Command.{Command}
-use Rattle.log_codec.specs.Command.{IsCommand}
+use Rattle.log_codec.specs.Command.{IsPathCommand}
 use Rattle.tree_keys.proofs.SideLaws.{above_apart}
 use Rattle.host_shard.specs.declared.link.Link.{Link}
 use Rattle.host_shard.specs.Tree.{Tree}
@@ -31,20 +31,20 @@ AllByRecursion-append P [] ys hs gs = gs
 AllByRecursion-append P (x ∷ xs) ys hs gs = (hs.0, AllByRecursion-append P xs ys hs.1 gs)
 
 -- a command alone
-pub one_typed : (longest : ℕ) (command : Command) → IsCommand longest command → AllByRecursion (IsCommand longest) (command ∷ [])
+pub one_typed : (longest : ℕ) (command : Command) → IsPathCommand longest command → AllByRecursion (IsPathCommand longest) (command ∷ [])
 one_typed longest command typed = (typed, tt)
 
 -- the visit of a chain
 pub visit_typed : (longest : ℕ) (tree : Tree) (key at : List Bool) (value : Value) (links : List Link) (inner : List Command)
     → IsData key → AreOf longest tree → IsOf longest at value → IsChain tree key at value links
-    → AllByRecursion (IsCommand longest) inner → AllByRecursion (IsCommand longest) (visit at links inner)
+    → AllByRecursion (IsPathCommand longest) inner → AllByRecursion (IsPathCommand longest) (visit at links inner)
 visit_typed longest tree key at value [] inner whole kinds kind chain typed = typed
 visit_typed longest tree key at value (link ∷ links) inner whole kinds kind chain typed =
     let next = next_of longest tree key at value link whole kinds kind chain.0 in
     let above = length-IsOf longest at value kind in
     let path = length-IsOf longest link.path link.value next.value in (
       (next.value, above),
-      AllByRecursion-append (IsCommand longest) (visit link.path links inner) _
+      AllByRecursion-append (IsPathCommand longest) (visit link.path links inner) _
           (visit_typed longest tree key link.path link.taken links inner whole kinds next.taken chain.1 typed)
           ((path, above), tt),
     )
@@ -52,10 +52,10 @@ visit_typed longest tree key at value (link ∷ links) inner whole kinds kind ch
 -- what stands between an add and an evict with a stamp
 pub between_typed : (longest : ℕ) (element : Element) (stamp : Stamp) (inner : List Command)
     → IsOf longest element.path element.value → IsStamp element.stamp → element.verifier < 2 ^ 16 → IsStamp stamp
-    → AllByRecursion (IsCommand longest) inner → AllByRecursion (IsCommand longest) (between element stamp inner)
+    → AllByRecursion (IsPathCommand longest) inner → AllByRecursion (IsPathCommand longest) (between element stamp inner)
 between_typed longest element stamp inner kind added verifier evicted typed = (
   (kind, added, verifier),
-  AllByRecursion-append (IsCommand longest) inner _ typed ((length-IsOf longest element.path element.value kind, evicted), tt),
+  AllByRecursion-append (IsPathCommand longest) inner _ typed ((length-IsOf longest element.path element.value kind, evicted), tt),
 )
 
 -- a frontier is no key below it
@@ -71,8 +71,8 @@ frontier_apart frontier key below = go (side frontier key) refl below
 -- the whole of a plan's commands, where the inner one is a command at the chain's end
 pub chain_typed : (longest : ℕ) (tree : Tree) (key : List Bool) (element : Element) (links : List Link) (command : Command) (stamp : Stamp)
     → IsData key → AreOf longest tree → IsOf longest element.path element.value → IsChain tree key element.path element.value links
-    → IsStamp element.stamp → element.verifier < 2 ^ 16 → IsStamp stamp → IsCommand longest command
-    → AllByRecursion (IsCommand longest) (between element stamp (visit element.path links (command ∷ [])))
+    → IsStamp element.stamp → element.verifier < 2 ^ 16 → IsStamp stamp → IsPathCommand longest command
+    → AllByRecursion (IsPathCommand longest) (between element stamp (visit element.path links (command ∷ [])))
 chain_typed longest tree key element links command stamp whole kinds kind chain added verifier evicted typed =
     between_typed longest element stamp (visit element.path links (command ∷ [])) kind added verifier evicted
     (visit_typed longest tree key element.path element.value links (command ∷ []) whole kinds kind chain (one_typed longest command typed))

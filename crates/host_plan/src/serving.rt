@@ -6,7 +6,7 @@ ghost use Rattle.record_text.specs.declared.value.Value.{Value};
 ghost use Rattle.record_text.specs.declared.value.Value.TheVariants as values;
 ghost use Rattle.record_text.specs.Value.{IsOf};
 ghost use Rattle.record_text.specs.Longest.{longest_blob};
-ghost use Rattle.log_codec.specs.Command.{IsCommand};
+ghost use Rattle.log_codec.specs.Command.{IsPathCommand};
 ghost use Rattle.merkle_records.specs.Merkle.{Digest};
 ghost use Rattle.host_shard.specs.Content.{cold, hot, key_path};
 ghost use Rattle.host_shard.specs.Shown.{shown, shown_content};
@@ -41,7 +41,7 @@ pub fn plan<D: Digests>(
     requires open { IsOpenAt clock.old (shown_content content.old) }
     ensures planned { IfOk result (λ plan. IsPlan (D.functions d.now).digest worker
         (shown_content content.old) request.now clock.old plan (shown_content content.new) clock.new) }
-    ensures typed { IfOk result (λ plan. AllByRecursion (IsCommand longest_blob) plan.commands) }
+    ensures typed { IfOk result (λ plan. AllByRecursion (IsPathCommand longest_blob) plan.commands) }
     ensures clock_end { (result ≡ Err ClockEnd) ↔ IsPastEnd (shown_content content.old) clock.old }
     ensures owns { (key : ℕ) → Owns longest_blob (shown_content content.old) key
         → Owns longest_blob (shown_content content.new) key }
@@ -69,7 +69,7 @@ fn serve_shard<D: Digests>(
     requires open { IsTrue (is_open clock.old shard.old.stamp.epoch) }
     ensures planned { IfOk result (λ plan. IsPlan (D.functions d.now).digest worker
         (cold (shown shard.old)) request.now clock.old plan (cold (shown shard.new)) clock.new) }
-    ensures typed { IfOk result (λ plan. AllByRecursion (IsCommand longest_blob) plan.commands) }
+    ensures typed { IfOk result (λ plan. AllByRecursion (IsPathCommand longest_blob) plan.commands) }
     ensures clock_end { (result ≡ Err ClockEnd) ↔ IsPastEnd (cold (shown shard.old)) clock.old }
     ensures owns { (key : ℕ) → Owns longest_blob (cold (shown shard.old)) key
         → Owns longest_blob (cold (shown shard.new)) key }
@@ -106,7 +106,7 @@ fn serve_hot(
     requires open { IsTrue (is_open clock.old kept.old.stamp.epoch) }
     ensures planned { (digest : Digest) → IfOk result (λ plan. IsPlan digest worker
         (hot kept.old) request.now clock.old plan (hot kept.new) clock.new) }
-    ensures typed { IfOk result (λ plan. AllByRecursion (IsCommand longest_blob) plan.commands) }
+    ensures typed { IfOk result (λ plan. AllByRecursion (IsPathCommand longest_blob) plan.commands) }
     ensures clock_end { (result ≡ Err ClockEnd) ↔ IsPastEnd (hot kept.old) clock.old }
     ensures owns { kept.new.key ≡ kept.old.key }
     ensures open { IsOpenAt clock.new (hot kept.new) }
@@ -151,7 +151,7 @@ fn command_of(request: &Request, answer: &Blob) -> Command
     ensures command { (found : Value) → values.Blob answer.now ≡ value_after request.now found
         → result ≡ command_of request.now found }
     ensures kind { IsOf longest_blob (key_path request.now.key) (values.Blob answer.now) }
-    ensures typed { IsCommand longest_blob result }
+    ensures typed { IsPathCommand longest_blob result }
 {
     let path = Path::of_key(request.key);
     let value = Value::Blob(answer.copy());

@@ -3,7 +3,7 @@ ghost use Rattle.std.specs.Prelude.{◌≡◌, ◌↔◌, ◌<◌, ◌≤◌, �
 ghost use Rattle.std.specs.List.{AllByRecursion};
 ghost use Rattle.lamport_clocks.specs.Header.{IsHeader};
 ghost use Rattle.record_text.specs.Longest.{longest_blob};
-ghost use Rattle.log_codec.specs.Command.{IsCommand};
+ghost use Rattle.log_codec.specs.Command.{IsPathCommand};
 ghost use Rattle.host_shard.specs.Shown.{shown_content};
 ghost use Rattle.host_plan.specs.declared.fault.SetupFault.TheVariants.{ClockEnd};
 ghost use Rattle.host_plan.specs.Setup.{IsShardCount, first_stamp, first_contents, paths_below, set_up, setup_commands, setup_contents};
@@ -29,7 +29,7 @@ pub fn setup(
         done.0 ≡ setup_commands header.now.first bits) }
     ensures contents { (bits : ℕ) → shards ≡ 2 ^ bits → IfOk result (λ done.
         map shown_content done.1.items ≡ setup_contents header.now.first bits) }
-    ensures typed { IfOk result (λ done. AllByRecursion (IsCommand longest_blob) done.0) }
+    ensures typed { IfOk result (λ done. AllByRecursion (IsPathCommand longest_blob) done.0) }
     ensures clock_end { (result ≡ Err ClockEnd) ↔ (header.now.end < shards) }
 {
     if header.end < shards {
@@ -46,7 +46,7 @@ fn all_set_up(alloc: Global, first: u32, bits: u8) -> Result<(Commands, Vec<Cont
     ensures commands { IfOk result (λ done. done.0 ≡ setup_commands first bits) }
     ensures contents { IfOk result (λ done. map shown_content done.1.items
         ≡ setup_contents first bits) }
-    ensures typed { IfOk result (λ done. AllByRecursion (IsCommand longest_blob) done.0) }
+    ensures typed { IfOk result (λ done. AllByRecursion (IsPathCommand longest_blob) done.0) }
 {
     let root = Path::root();
     let mut commands = Vec::new(alloc);

@@ -3,7 +3,7 @@ use Rattle.std.specs.Prelude.{◌≡◌, ℕ, ◌≤◌, List, map, Option, None
 use Rattle.std.specs.List.{AllByRecursion}
 use Rattle.lamport_clocks.specs.declared.header.Header.{Header}
 use Rattle.record_hash.specs.Functions.{DigestFunctions}
-use Rattle.record_text.specs.Longest.{longest_of}
+use Rattle.record_text.specs.Format.{format_of}
 use Rattle.merkle_records.specs.Scheme.{scheme_of}
 use Rattle.log_codec.specs.Log.{read_log}
 use Rattle.report_text.specs.declared.ending.BundleEnd.{BundleEnd}
@@ -91,4 +91,4 @@ summary_due functions header logs seed ops end =
 -- how the report of logs ends, with nothing bad in their bundle
 abbrev pub end_due : DigestFunctions → Header → List (List ℕ) → BundleEnd
 end_due functions header logs =
-    end_of (scheme_of functions header) header (map (read_log (longest_of header)) logs) (histories_at (scheme_of functions header) header logs) None
+    end_of (scheme_of functions header) header (map (read_log (format_of header)) logs) (histories_at (scheme_of functions header) header logs) None

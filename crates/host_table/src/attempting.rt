@@ -2,7 +2,7 @@
 ghost use Rattle.std.specs.Prelude.{◌≡◌, ◌<◌, [], None, Some};
 ghost use Rattle.std.specs.List.{AllByRecursion};
 ghost use Rattle.record_text.specs.Longest.{longest_blob};
-ghost use Rattle.log_codec.specs.Command.{IsCommand};
+ghost use Rattle.log_codec.specs.Command.{IsPathCommand};
 ghost use Rattle.record_text.specs.Value.{IsBlob};
 ghost use Rattle.host_shard.specs.Shown.{shown_content};
 ghost use Rattle.host_plan.specs.declared.plans.Plan.{Plan};
@@ -52,7 +52,7 @@ impl<D: Digests> Records<D> {
         ensures attempts { Attempts (terms D.functions self.now) hand.old place request.now clock.old result hand.new clock.new }
         ensures clock { IsClockOf (terms D.functions self.now) clock.new }
         ensures chained { TakesUp (services hand.new) clock.new }
-        ensures typed { (made : Plan) → result ≡ Served made → AllByRecursion (IsCommand longest_blob) made.commands }
+        ensures typed { (made : Plan) → result ≡ Served made → AllByRecursion (IsPathCommand longest_blob) made.commands }
     {
         let mut content = match self.try_take(hand, place) {
             Taking::Taken(content) => content,

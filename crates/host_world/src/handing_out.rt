@@ -3,8 +3,8 @@ ghost use Rattle.std.specs.Prelude.{◌≡◌, ◌<◌, List, [], ◌++◌, leng
 ghost use Rattle.std.specs.List.{AllByRecursion};
 ghost use Rattle.record_text.specs.Longest.{longest_blob};
 ghost use Rattle.log_codec.specs.declared.command.Command.{Command};
-ghost use Rattle.log_codec.specs.Command.{IsCommand};
-ghost use Rattle.log_codec.specs.Log.{log_text};
+ghost use Rattle.log_codec.specs.Command.{IsPathCommand};
+ghost use Rattle.log_codec.specs.Log.{path_log_text};
 ghost use Rattle.host_core.specs.World.{worker_at};
 ghost use Rattle.host_core.specs.WorldEvent.{with_worker};
 ghost use Rattle.host_world.specs.Shown.{shown_world, digests_of};
@@ -20,8 +20,8 @@ impl<'a, D: Digests> World<'a, D> {
     /// world forgets them. For want of memory world and buffer are as before.
     pub fn hand_out(&mut self, worker: u16, buffer: &mut LogBuffer) -> Result<(), Memory>
         requires there { worker < length (shown_world self.old).workers }
-        ensures handed { OnOk result (buffer.new ≡ buffer.old ++ log_text (log_at self.old worker)) }
-        ensures typed { AllByRecursion (IsCommand longest_blob) (log_at self.old worker) }
+        ensures handed { OnOk result (buffer.new ≡ buffer.old ++ path_log_text (log_at self.old worker)) }
+        ensures typed { AllByRecursion (IsPathCommand longest_blob) (log_at self.old worker) }
         ensures forgotten { OnOk result (shown_world self.new ≡ with_worker (shown_world self.old) worker
             (record (worker_at (host_of (D.functions (digests_of self.old)) self.old) (shown_world self.old) worker) { log = [] })) }
         ensures host { AreOfOneHost self.old self.new }

@@ -3,8 +3,8 @@ ghost use Rattle.std.specs.Prelude.{◌≡◌, ◌≢◌, ◌↔◌, ℕ, ◌-�
 ghost use Rattle.std.specs.List.{flat_map, AllByRecursion};
 ghost use Rattle.lamport_clocks.specs.Clock.{last_epoch};
 ghost use Rattle.record_text.specs.Longest.{longest_blob};
-ghost use Rattle.log_codec.specs.Command.{IsCommand};
-ghost use Rattle.log_codec.specs.Log.{log_text};
+ghost use Rattle.log_codec.specs.Command.{IsPathCommand};
+ghost use Rattle.log_codec.specs.Log.{path_log_text};
 ghost use Rattle.log_codec.specs.declared.command.Command.TheVariants.{NextEpoch};
 ghost use Rattle.host_core.specs.World.{idle, fresh};
 ghost use Rattle.host_core.specs.WorldEvent.{logging, next_clock};
@@ -51,7 +51,7 @@ pub struct Worker {
 impl Model for Worker {
     ghost use Rattle.std.specs.List.{flat_map, AllByRecursion};
     ghost use Rattle.record_text.specs.Longest.{longest_blob};
-    ghost use Rattle.log_codec.specs.Command.{IsCommand};
+    ghost use Rattle.log_codec.specs.Command.{IsPathCommand};
     ghost use Rattle.std.specs.Option.{option_map};
     ghost use Rattle.host_core.specs.World.{Worker};
     ghost use Rattle.host_world.specs.Places.{shown_held};
@@ -67,7 +67,7 @@ impl Model for Worker {
       stuck = w.stuck;
     } };
 
-    ghost invariant = { λ w. AllByRecursion (AllByRecursion (IsCommand longest_blob)) w.log.items };
+    ghost invariant = { λ w. AllByRecursion (AllByRecursion (IsPathCommand longest_blob)) w.log.items };
 }
 
 impl Worker {
@@ -94,7 +94,7 @@ impl Worker {
     ) -> Result<Self, Memory>
         requires some { 0 < shards }
         requires counters { shards ≤ header.now.end }
-        requires typed { AllByRecursion (IsCommand longest_blob) commands }
+        requires typed { AllByRecursion (IsPathCommand longest_blob) commands }
         ensures value { IfOk result (λ worker. worker
             ≡ idle commands (first_clock header.now.first header.now.end shards)) }
     {
@@ -120,9 +120,9 @@ impl Worker {
 
     // The texts of what it logged go behind what a buffer has, and it forgets them. For want of memory both are as before.
     pub(crate) fn hand_out(&mut self, buffer: &mut LogBuffer) -> Result<(), Memory>
-        ensures handed { OnOk result (buffer.new ≡ buffer.old ++ log_text self.old.log) }
+        ensures handed { OnOk result (buffer.new ≡ buffer.old ++ path_log_text self.old.log) }
         ensures forgot { OnOk result (self.new ≡ record self.old { log = [] }) }
-        ensures typed { AllByRecursion (IsCommand longest_blob) self.old.log }
+        ensures typed { AllByRecursion (IsPathCommand longest_blob) self.old.log }
         ensures as_before { OnErr result (self.new ≡ self.old) }
         ensures buffer_as_before { OnErr result (buffer.new ≡ buffer.old) }
     {
@@ -140,7 +140,7 @@ impl Worker {
     /// What it logged, deed by deed. Its log is empty then.
     pub fn lend_log(&mut self, alloc: Global) -> Vec<Commands>
         ensures log { flat_map (λ commands. commands) result.items ≡ self.old.log }
-        ensures typed { AllByRecursion (AllByRecursion (IsCommand longest_blob)) result.items }
+        ensures typed { AllByRecursion (AllByRecursion (IsPathCommand longest_blob)) result.items }
         ensures left { self.new ≡ record self.old { log = [] } }
     {
         replace(&mut self.log, Vec::new(alloc))
@@ -148,7 +148,7 @@ impl Worker {
 
     /// What it did in a phase: its log is this now, and its clock, its count and whether its clock ended are these.
     pub fn note_turns(&mut self, log: Vec<Commands>, clock: Clock, served: u64, stopped: bool)
-        requires typed { AllByRecursion (AllByRecursion (IsCommand longest_blob)) log.items }
+        requires typed { AllByRecursion (AllByRecursion (IsPathCommand longest_blob)) log.items }
         ensures noted { self.new ≡ record self.old {
           log = flat_map (λ commands. commands) log.items;
           clock = clock;
@@ -320,7 +320,7 @@ impl Worker {
 
 // The texts of commands, behind what a buffer has.
 fn push_all(buffer: &mut LogBuffer, commands: &[Command]) -> Result<(), Memory>
-    ensures pushed { OnOk result (buffer.new ≡ buffer.old ++ log_text commands.now) }
+    ensures pushed { OnOk result (buffer.new ≡ buffer.old ++ path_log_text commands.now) }
     // What it had stays, also for want of memory.
     ensures kept { (count : ℕ) → count ≤ length buffer.old → take count buffer.new ≡ take count buffer.old }
 {
@@ -340,7 +340,7 @@ pub(crate) fn workers_for(
     requires verifiers { 0 < header.now.verifiers }
     requires some { 0 < shards }
     requires counters { shards ≤ header.now.end }
-    requires typed { AllByRecursion (IsCommand longest_blob) commands }
+    requires typed { AllByRecursion (IsPathCommand longest_blob) commands }
     ensures workers { IfOk result (λ workers. workers.items
         ≡ idle commands (first_clock header.now.first header.now.end shards)
         ∷ replicate (header.now.verifiers - 1) (fresh header.now)) }

@@ -1,21 +1,21 @@
--- Under which functions, and with how long values, the logs of a bundle are read.
+-- Under which functions, and in which format, the logs of a bundle are read.
 use Rattle.std.specs.Prelude.{ℕ, List}
 use Rattle.lamport_clocks.specs.declared.header.Header.{Header}
 use Rattle.record_hash.specs.Functions.{DigestFunctions}
 use Rattle.record_text.specs.declared.element.Element.{Element}
 use Rattle.record_text.specs.Texts.{element_text}
-use Rattle.record_text.specs.Longest.{longest_of}
+use Rattle.record_text.specs.Format.{LogFormat, format_of}
 use Rattle.merkle_records.specs.Merkle.{Digest}
 
--- the digest of a text, the lanes of an element's text, and the most bytes of a data value
+-- the digest of a text, the lanes of an element's text, and how commands are spelled
 pub record Scheme : Type 0 where
   pub digest : Digest
   pub lanes : List ℕ → List ℕ
-  pub longest : ℕ
+  pub format : LogFormat
 
 -- the scheme of a bundle with this header, whose verifiers compute these functions
 abbrev pub scheme_of : DigestFunctions → Header → Scheme
-scheme_of functions header = record { digest = functions.digest; lanes = functions.lanes; longest = longest_of header }
+scheme_of functions header = record { digest = functions.digest; lanes = functions.lanes; format = format_of header }
 
 -- the lanes of an element: those of its text
 abbrev pub lanes_of : Scheme → Element → List ℕ

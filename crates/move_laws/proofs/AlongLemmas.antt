@@ -76,7 +76,7 @@ same_link link path value taken one two three =
 
 module _ (rules : Rules) (tree before base : Tree) (key : List Bool) (lent : Bool) (last : Value) where
   abbrev longest : ℕ
-  longest = rules.scheme.longest
+  longest = rules.scheme.format.longest
 
   abbrev digest : Digest
   digest = rules.scheme.digest
@@ -257,7 +257,7 @@ module _ (rules : Rules) (tree before base : Tree) (key : List Bool) (lent : Boo
 -- a record that comes back
 pub back_ends : (rules : Rules) (tree before base : Tree) (key : List Bool) (element : Element) (clock : Reading) (at : List Bool) (hold : Hold) (value : Value) (link : Link)
     → ((k : List Bool) → same_path k key ≡ false → base k ≡ before k)
-    → (step : IsStep rules.scheme.longest tree key true at value link) → link.path ≡ key → element.path ≡ key → tree key ≡ Some element.value
+    → (step : IsStep rules.scheme.format.longest tree key true at value link) → link.path ≡ key → element.path ≡ key → tree key ≡ Some element.value
     → element.verifier < rules.verifiers → is_open clock element.stamp.epoch ≡ true → (taking clock element.stamp).at.counter ≤ clock.end
     → IsOnward clock (taking clock element.stamp)
     → Along rules tree before base key false element.value at hold value (link ∷ []) clock (taking clock element.stamp) (come_back element at link) (element ∷ []) []
@@ -339,7 +339,7 @@ back_ends rules tree before base key element clock at hold value link kept step 
 -- a record that becomes hot
 pub hot_ends : (rules : Rules) (tree before base : Tree) (key : List Bool) (last : Value) (clock : Reading) (at : List Bool) (hold : Hold) (value : Value) (link : Link)
     → ((k : List Bool) → same_path k key ≡ false → base k ≡ before k) → before key ≡ tree key
-    → (step : IsStep rules.scheme.longest tree key false at value link) → link.path ≡ key → link.taken ≡ last
+    → (step : IsStep rules.scheme.format.longest tree key false at value link) → link.path ≡ key → link.taken ≡ last
     → step.pointer.digest ≡ rules.scheme.digest (value_text link.taken)
     → (giving clock).at.counter ≤ clock.end
     → Along rules tree before base key true last at hold value (link ∷ []) clock (giving clock) (become_hot (giving clock).at at link) []

@@ -15,7 +15,7 @@ use Rattle.verifier_commands.specs.Change.{Change, did_add_m, did_evict_m, did_a
 use Rattle.verifier_commands.specs.Transition.{Rules}
 use Rattle.soundness.specs.Certified.{sealed_by}
 use Rattle.soundness.specs.Permutation.{count_of}
-use Rattle.soundness.specs.Typed.{IsTyped}
+use Rattle.soundness.specs.Typed.{IsPathTyped}
 use Rattle.host_shard.specs.declared.link.Link.{Link}
 use Rattle.host_shard.specs.declared.content.HotRecord.{HotRecord}
 use Rattle.host_shard.specs.Content.{key_path, vacant}
@@ -159,10 +159,10 @@ module _ (longest : ℕ) (digest : Digest) (worker : ℕ) where
 
   -- what they log is typed
   pub descents_typed : (stage : Stage) (descents : List Descent) → GivesDigests digest → StageMirrors longest digest stage → AreFit stage descents
-      → AreDescents digest worker stage descents → AllByRecursion (IsTyped longest) (commands_by_each digest worker stage descents)
+      → AreDescents digest worker stage descents → AllByRecursion (IsPathTyped longest) (commands_by_each digest worker stage descents)
   descents_typed stage [] digests mirrors fit ways = tt
   descents_typed stage (descent ∷ descents) digests mirrors fit ways =
-      all-append (IsTyped longest) (commands_by stage descent.transfer descent.links) _
+      all-append (IsPathTyped longest) (commands_by stage descent.transfer descent.links) _
       (transfer_typed longest digest stage descent.transfer descent.links mirrors fit.0 ways.0)
       (descents_typed (next stage descent) descents digests (transfer_mirrors longest digest worker stage descent.transfer descent.links digests mirrors fit.0 ways.0) fit.1 ways.1)
 
@@ -207,8 +207,8 @@ pub record DescentsRun (rules : Rules) (entries : List Entry) (room : ℕ) (stag
   pub told : Told
   pub runs : run rules (holding entries room stage) (commands_by_each rules.scheme.digest rules.number stage descents)
       ≡ Ok (told, holding entries room (done_by_each rules.scheme.digest rules.number stage descents))
-  pub added : added_told told ≡ adds_by_each rules.scheme.longest rules.scheme.digest rules.number descents
-  pub evicted : evicted_told told ≡ evicts_by_each rules.scheme.longest rules.scheme.digest rules.number stage descents
+  pub added : added_told told ≡ adds_by_each rules.scheme.format.longest rules.scheme.digest rules.number descents
+  pub evicted : evicted_told told ≡ evicts_by_each rules.scheme.format.longest rules.scheme.digest rules.number stage descents
   pub no_access : accesses_told told ≡ []
   pub unsealed : flat_map (λ (one : Stamp × Change). sealed_by one.1) told ≡ []
   pub within : AllByRecursion (λ (one : Stamp × Change). IsBetween stage.clock (done_by_each rules.scheme.digest rules.number stage descents).clock one.0) told
@@ -224,7 +224,7 @@ all-widen P Q step (one ∷ told) all = (step one.0 all.0, all-widen P Q step to
 module _ (rules : Rules) (entries : List Entry) (room : ℕ) (digests : GivesDigests rules.scheme.digest) (bare : IsBare entries)
     (roomy : key_bits < room) where
   abbrev longest : ℕ
-  longest = rules.scheme.longest
+  longest = rules.scheme.format.longest
 
   abbrev digest : Digest
   digest = rules.scheme.digest
@@ -278,9 +278,9 @@ module _ (rules : Rules) (entries : List Entry) (room : ℕ) (digests : GivesDig
   first-part P (x ∷ xs) ys all = let rest = first-part P xs ys all.1 in ((all.0, rest.0), rest.1)
 
   -- Descents run one after another, where each can be done and the counters that they take don't pass the end.
-  pub descents_run : (stage : Stage) (descents : List Descent) → StageMirrors rules.scheme.longest rules.scheme.digest stage
-      → AreFit rules.scheme.longest rules.scheme.digest rules.number stage descents → AreDescents rules.scheme.digest rules.number stage descents
-      → AllByRecursion (IsTakable rules stage.clock) (adds_by_each rules.scheme.longest rules.scheme.digest rules.number descents)
+  pub descents_run : (stage : Stage) (descents : List Descent) → StageMirrors rules.scheme.format.longest rules.scheme.digest stage
+      → AreFit rules.scheme.format.longest rules.scheme.digest rules.number stage descents → AreDescents rules.scheme.digest rules.number stage descents
+      → AllByRecursion (IsTakable rules stage.clock) (adds_by_each rules.scheme.format.longest rules.scheme.digest rules.number descents)
       → (done_by_each rules.scheme.digest rules.number stage descents).clock.at.counter ≤ stage.clock.end
       → DescentsRun rules entries room stage descents
   descents_run stage [] mirrors fit ways takable within = record {
@@ -307,5 +307,5 @@ module _ (rules : Rules) (entries : List Entry) (room : ℕ) (digests : GivesDig
       same = clock-done rules.scheme.digest rules.number stage descent.transfer descent.links
 
       parts : AllByRecursion (IsTakable rules stage.clock) (adds_by descent.transfer)
-          × AllByRecursion (IsTakable rules stage.clock) (adds_by_each rules.scheme.longest rules.scheme.digest rules.number descents)
-      parts = first-part (IsTakable rules stage.clock) (adds_by descent.transfer) (adds_by_each rules.scheme.longest rules.scheme.digest rules.number descents) takable
+          × AllByRecursion (IsTakable rules stage.clock) (adds_by_each rules.scheme.format.longest rules.scheme.digest rules.number descents)
+      parts = first-part (IsTakable rules stage.clock) (adds_by descent.transfer) (adds_by_each rules.scheme.format.longest rules.scheme.digest rules.number descents) takable

@@ -137,7 +137,7 @@ comes_back rules at hold node on pointer element clock below points to deferred 
     (run-one rules _ (EvictM element.path at) _ (standing front room later after) evicted)
   where
     longest : ℕ
-    longest = rules.scheme.longest
+    longest = rules.scheme.format.longest
 
     digest : Digest
     digest = rules.scheme.digest

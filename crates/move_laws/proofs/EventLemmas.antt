@@ -16,7 +16,7 @@ use Rattle.verifier_commands.specs.Change.{Change, did_add_m, did_evict_m, did_a
 use Rattle.verifier_commands.specs.Changes.{above}
 use Rattle.verifier_commands.specs.Transition.{Rules, Step}
 use Rattle.soundness.specs.History.{Event}
-use Rattle.soundness.specs.StateHistory.{machinery_under}
+use Rattle.soundness.specs.PathHistory.{path_machinery_under}
 use Rattle.soundness.specs.Certified.{added_by, evicted_by, sealed_by, operations_in}
 use Rattle.soundness.specs.Timed.{added_among, evicted_among}
 use Rattle.soundness.specs.Clash.{LastEvicted, is_known, differing, clash_at, first_clash, with_last_evicted}
@@ -34,12 +34,12 @@ same_Ok : {A E : Type 0} (x y : A) → ◌≡◌ {A = Result A E} (Ok x) (Ok y) 
 same_Ok x y is = cc
 
 pub run-state : (rules : Rules) (state last : State) (commands : List Command) (told : Told) → run rules state commands ≡ Ok (told, last)
-    → state_from (machinery_under rules) state commands ≡ last
+    → state_from (path_machinery_under rules) state commands ≡ last
 unfolding state_from
 run-state rules state last [] told is = ap (λ (p : Told × State). p.1) (same_Ok _ (told, last) (sym (run-none rules state) ∙ is))
 run-state rules state last (command ∷ commands) told is =
     let begins = run-begins rules state command commands told last is in
-    ap (λ (r : Step). state_behind state r (λ after. state_from (machinery_under rules) after commands)) begins.step
+    ap (λ (r : Step). state_behind state r (λ after. state_from (path_machinery_under rules) after commands)) begins.step
     ∙ run-state rules begins.next last commands begins.rest begins.further
 
 -- ---- elements, operations, epochs

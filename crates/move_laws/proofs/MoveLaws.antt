@@ -23,7 +23,7 @@ use Rattle.verifier_commands.specs.Change.{Change}
 use Rattle.verifier_commands.specs.Transition.{Rules, is_root}
 use Rattle.soundness.specs.Certified.{sealed_by}
 use Rattle.soundness.specs.Permutation.{count_of}
-use Rattle.soundness.specs.Typed.{IsTyped}
+use Rattle.soundness.specs.Typed.{IsPathTyped}
 use Rattle.host_shard.specs.declared.content.HotRecord.{HotRecord}
 use Rattle.host_shard.specs.Shard.{pending_shard}
 use Rattle.host_shard.specs.Content.{pending_hot}
@@ -139,16 +139,16 @@ module _ (longest : ℕ) (digest : Digest) (worker : ℕ) (threshold : Option �
     mirrors_again = handed_mirrors longest digest worker _ (descents_mirror longest digest worker (begun worker old) descents given.digests begins go_well.fit given.ways)
 
     -- what it logs is typed
-    pub all_typed : AllByRecursion (IsTyped longest) (move_commands digest worker old descents)
+    pub all_typed : AllByRecursion (IsPathTyped longest) (move_commands digest worker old descents)
     all_typed =
-        all-append (IsTyped longest) (renewing_commands old.clock (touched_in old.places)) _
+        all-append (IsPathTyped longest) (renewing_commands old.clock (touched_in old.places)) _
         (renewing-typed old.clock (touched_in old.places) (touched_all (λ found. IsBlob longest found.value) old.places given.mirrors.blobs)) (
           given.mirrors.shard.fits.kinds old.shard.frontier old.shard.value (frontier_there old.shard),
-          all-append (IsTyped longest) _ _ (descents_typed longest digest worker (begun worker old) descents given.digests begins go_well.fit given.ways) (tt, tt),
+          all-append (IsPathTyped longest) _ _ (descents_typed longest digest worker (begun worker old) descents given.digests begins go_well.fit given.ways) (tt, tt),
         )
       where
         renewing-typed : (clock : Reading) (records : List HotRecord) → AllByRecursion (λ found. IsBlob longest found.value) records
-            → AllByRecursion (IsTyped longest) (renewing_commands clock records)
+            → AllByRecursion (IsPathTyped longest) (renewing_commands clock records)
         renewing-typed clock [] blobs = tt
         renewing-typed clock (found ∷ more) blobs =
             ((length-bits_of key_bits found.key, blobs.0), (tt, renewing-typed (renewing clock found.stamp) more blobs.1))
@@ -156,10 +156,10 @@ module _ (longest : ℕ) (digest : Digest) (worker : ℕ) (threshold : Option �
 -- ---- it runs
 
 module _ (rules : Rules) (cache : Held) (threshold : Option ℕ) (old : Stage) (promotable : List ℕ) (descents : List Descent)
-    (given : IsGiven rules.scheme.longest rules.scheme.digest rules.number threshold old promotable descents) (can : CanMove rules cache threshold old)
+    (given : IsGiven rules.scheme.format.longest rules.scheme.digest rules.number threshold old promotable descents) (can : CanMove rules cache threshold old)
     (within : (moved rules.scheme.digest rules.number old descents).clock.at.counter ≤ old.clock.end) where
   abbrev longest : ℕ
-  longest = rules.scheme.longest
+  longest = rules.scheme.format.longest
 
   abbrev digest : Digest
   digest = rules.scheme.digest
@@ -205,7 +205,7 @@ module _ (rules : Rules) (cache : Held) (threshold : Option ℕ) (old : Stage) (
   takable = all-images pending_hot (IsTakable rules old.clock) (hot_records old.places) can.takable.1
 
   -- what comes back can be taken in
-  back_takable : AllByRecursion (IsTakable rules start.clock) (adds_by_each rules.scheme.longest rules.scheme.digest rules.number descents)
+  back_takable : AllByRecursion (IsTakable rules start.clock) (adds_by_each rules.scheme.format.longest rules.scheme.digest rules.number descents)
   back_takable =
       subst (AllByRecursion (IsTakable rules start.clock)) (sym (adds_back longest digest rules.number (untouched_in old.places) _ descents given.transfers))
       (images-all pending_hot (IsTakable rules start.clock) (untouched_in old.places)
@@ -230,7 +230,7 @@ module _ (rules : Rules) (cache : Held) (threshold : Option ℕ) (old : Stage) (
 
   -- how often an element waits in hot places: of those that were renewed, and of those that came back and went
   old-weight : (x : Element) → weight x (hot_records old.places)
-      ≡ weight x (touched_in old.places) + count_of x (adds_by_each rules.scheme.longest rules.scheme.digest rules.number descents)
+      ≡ weight x (touched_in old.places) + count_of x (adds_by_each rules.scheme.format.longest rules.scheme.digest rules.number descents)
   old-weight x =
       omega (
         arith,
@@ -240,7 +240,7 @@ module _ (rules : Rules) (cache : Held) (threshold : Option ℕ) (old : Stage) (
 
   new-weight : (x : Element) → weight x (hot_records last.places)
       ≡ weight x (renewed_each rules.number old.clock (touched_in old.places))
-      + count_of x (evicts_by_each rules.scheme.longest rules.scheme.digest rules.number (begun rules.number old) descents)
+      + count_of x (evicts_by_each rules.scheme.format.longest rules.scheme.digest rules.number (begun rules.number old) descents)
   new-weight x =
       omega (
         arith,
@@ -252,7 +252,7 @@ module _ (rules : Rules) (cache : Held) (threshold : Option ℕ) (old : Stage) (
       )
     where
       apart_hot : AreApart (hot_records old.places)
-      apart_hot = apart_by_number rules.scheme.longest rules.scheme.digest rules.number old given.mirrors
+      apart_hot = apart_by_number rules.scheme.format.longest rules.scheme.digest rules.number old given.mirrors
 
   added_all : (x : Element) → count_of x (added_told told_all) ≡ count_of x (waiting_in old)
   added_all x =
@@ -375,14 +375,14 @@ module _ (longest : ℕ) (digest : Digest) (worker : ℕ) (threshold : Option �
 -- A verifier at rest accepts the commands of a move.
 pub move_runs : (rules : Rules) (cache : Held) (threshold : Option ℕ) (old new : Stage) (commands : List Command)
     → GivesDigests rules.scheme.digest → IfSome threshold (λ least. 0 < least) → CanMove rules cache threshold old
-    → StageMirrors rules.scheme.longest rules.scheme.digest old
+    → StageMirrors rules.scheme.format.longest rules.scheme.digest old
     → IsMove rules.scheme.digest rules.number threshold old commands new
     → MoveRuns rules cache old new commands
 move_runs rules cache threshold old new commands digests some can mirrors is =
     subst (λ (log : List Command). MoveRuns rules cache old new log) (sym is.commands)
     (subst (λ (stage : Stage). MoveRuns rules cache old stage (move_commands rules.scheme.digest rules.number old is.descents)) (sym is.after)
     (is_run rules cache threshold old is.promotable is.descents
-    (move_given rules.scheme.longest rules.scheme.digest rules.number threshold old new commands is digests some mirrors) can
+    (move_given rules.scheme.format.longest rules.scheme.digest rules.number threshold old new commands is digests some mirrors) can
     (subst (λ (stage : Stage). stage.clock.at.counter ≤ old.clock.end) is.after
     (subst (λ (clock : Reading). clock.at.counter ≤ old.clock.end) (sym (move_clock _ rules.number threshold old new commands is))
     (not_past (clock_needed old is.promotable).at.counter old.clock.end (λ over. can.counters (record { promotable = is.promotable; are_promotable = is.are_promotable; past = over })))))))
@@ -398,7 +398,7 @@ move_mirrors longest digest worker threshold old new commands digests some mirro
 -- The values that its commands bring in are of their paths' kinds.
 pub move_typed : (longest : ℕ) (digest : Digest) (worker : ℕ) (threshold : Option ℕ) (old new : Stage) (commands : List Command)
     → GivesDigests digest → IfSome threshold (λ least. 0 < least) → StageMirrors longest digest old
-    → IsMove digest worker threshold old commands new → AllByRecursion (IsTyped longest) commands
+    → IsMove digest worker threshold old commands new → AllByRecursion (IsPathTyped longest) commands
 move_typed longest digest worker threshold old new commands digests some mirrors is =
-    subst (AllByRecursion (IsTyped longest)) (sym is.commands)
+    subst (AllByRecursion (IsPathTyped longest)) (sym is.commands)
     (all_typed longest digest worker threshold old is.promotable is.descents (move_given longest digest worker threshold old new commands is digests some mirrors))

@@ -19,7 +19,7 @@ use Rattle.merkle_records.specs.Merkle.{Digest, GivesDigests}
 use Rattle.verifier_cache.specs.declared.entry.Entry.{Entry}
 use Rattle.verifier_cache.specs.declared.entry.Hold.TheVariants.{B}
 use Rattle.verifier_commands.specs.Transition.{Rules, is_root}
-use Rattle.soundness.specs.Typed.{IsTyped}
+use Rattle.soundness.specs.Typed.{IsPathTyped}
 use Rattle.host_shard.specs.declared.link.Link.{Link}
 use Rattle.host_shard.specs.declared.content.HotRecord.{HotRecord}
 use Rattle.host_shard.specs.Tree.{Tree}
@@ -100,20 +100,20 @@ hot_own longest digest stage mirrors =
 -- ---- what is logged is typed
 
 along_typed : (longest : ℕ) (tree : Tree) (key : List Bool) (late : Bool) (at_end : List Bool → Link → List Command)
-    → ((at : List Bool) (value : Value) (link : Link) → IsStep longest tree key late at value link → link.path ≡ key → AllByRecursion (IsTyped longest) (at_end at link))
+    → ((at : List Bool) (value : Value) (link : Link) → IsStep longest tree key late at value link → link.path ≡ key → AllByRecursion (IsPathTyped longest) (at_end at link))
     → (at : List Bool) (value : Value) (links : List Link) → IsWay longest tree key late at value links
-    → AllByRecursion (IsTyped longest) (visit_but_last at links at_end)
+    → AllByRecursion (IsPathTyped longest) (visit_but_last at links at_end)
 along_typed longest tree key late at_end ends at value [] way = tt
 along_typed longest tree key late at_end ends at value (link ∷ []) way = ends at value link way.0 way.1
 along_typed longest tree key late at_end ends at value (link ∷ next ∷ links) way = (
   subst (IsOf longest link.path) (sym way.0.as_it_is) way.0.kind,
-  all-append (IsTyped longest) (visit_but_last link.path (next ∷ links) at_end) _
+  all-append (IsPathTyped longest) (visit_but_last link.path (next ∷ links) at_end) _
       (along_typed longest tree key late at_end ends link.path link.taken (next ∷ links) way.1) (tt, tt),
 )
 
 pub transfer_typed : (longest : ℕ) (digest : Digest) (stage : Stage) (transfer : Transfer) (links : List Link)
     → StageMirrors longest digest stage → IsFit stage transfer → AreLinks stage.shard transfer links
-    → AllByRecursion (IsTyped longest) (commands_by stage transfer links)
+    → AllByRecursion (IsPathTyped longest) (commands_by stage transfer links)
 transfer_typed longest digest stage (demotes found) links mirrors fit chain =
     along_typed longest (tree_of (with_back stage.shard found)) (key_path found.key) true (come_back (pending_hot found))
     (λ at value link step is_key. ((length-bits_of key_bits found.key, blob longest digest stage mirrors found fit), (tt, tt)))
@@ -126,11 +126,11 @@ transfer_typed longest digest stage (promotes key) links mirrors fit chain =
 -- ---- it runs
 
 runs_back : (rules : Rules) (entries : List Entry) (room : ℕ) (stage : Stage) (found : HotRecord) (links : List Link)
-    → IsBare entries → key_bits < room → StageMirrors rules.scheme.longest rules.scheme.digest stage
+    → IsBare entries → key_bits < room → StageMirrors rules.scheme.format.longest rules.scheme.digest stage
     → IsOne (hot_records stage.places) found → CanDo rules stage (demotes found) → AreLinks stage.shard (demotes found) links
     → TransferRuns rules entries room stage (demotes found) links
 runs_back rules entries room stage found [] bare roomy mirrors is_hot can chain =
-    absurd (apart_from rules.scheme.longest rules.scheme.digest stage mirrors (key_path found.key) (length-bits_of key_bits found.key) chain)
+    absurd (apart_from rules.scheme.format.longest rules.scheme.digest stage mirrors (key_path found.key) (length-bits_of key_bits found.key) chain)
 runs_back rules entries room stage found (link ∷ more) bare roomy mirrors is_hot can chain = record {
   told = way.told;
   runs = way.works entries room (clear-bare entries shard.frontier bare no_root)
@@ -145,7 +145,7 @@ runs_back rules entries room stage found (link ∷ more) bare roomy mirrors is_h
 }
   where
     longest : ℕ
-    longest = rules.scheme.longest
+    longest = rules.scheme.format.longest
 
     shard : Shard
     shard = stage.shard
@@ -162,7 +162,7 @@ runs_back rules entries room stage found (link ∷ more) bare roomy mirrors is_h
     no_root : is_root stage.shard.frontier ≡ false
     no_root = not_root shard.frontier mirrors.shard.fits.below_root
 
-    is_way : IsWay rules.scheme.longest tree key true stage.shard.frontier stage.shard.value (link ∷ more)
+    is_way : IsWay rules.scheme.format.longest tree key true stage.shard.frontier stage.shard.value (link ∷ more)
     is_way = back_way longest rules.scheme.digest stage mirrors found is_hot (link ∷ more) chain
 
     few : length (link ∷ more) + length stage.shard.frontier ≤ length key
@@ -188,11 +188,11 @@ runs_back rules entries room stage found (link ∷ more) bare roomy mirrors is_h
         shard.frontier B shard.value link more based is_way
 
 runs_hot : (rules : Rules) (entries : List Entry) (room : ℕ) (stage : Stage) (key : ℕ) (links : List Link)
-    → IsBare entries → key_bits < room → StageMirrors rules.scheme.longest rules.scheme.digest stage
+    → IsBare entries → key_bits < room → StageMirrors rules.scheme.format.longest rules.scheme.digest stage
     → IsPromotable stage key → CanDo rules stage (promotes key) → AreLinks stage.shard (promotes key) links
     → TransferRuns rules entries room stage (promotes key) links
 runs_hot rules entries room stage key [] bare roomy mirrors fit can chain =
-    absurd (apart_from rules.scheme.longest rules.scheme.digest stage mirrors (key_path key) fit.own.whole chain)
+    absurd (apart_from rules.scheme.format.longest rules.scheme.digest stage mirrors (key_path key) fit.own.whole chain)
 runs_hot rules entries room stage key (link ∷ more) bare roomy mirrors fit can chain = record {
   told = way.told;
   runs = way.works entries room (clear-bare entries shard.frontier bare no_root)
@@ -209,7 +209,7 @@ runs_hot rules entries room stage key (link ∷ more) bare roomy mirrors fit can
 }
   where
     longest : ℕ
-    longest = rules.scheme.longest
+    longest = rules.scheme.format.longest
 
     shard : Shard
     shard = stage.shard
@@ -226,7 +226,7 @@ runs_hot rules entries room stage key (link ∷ more) bare roomy mirrors fit can
     no_root : is_root stage.shard.frontier ≡ false
     no_root = not_root shard.frontier mirrors.shard.fits.below_root
 
-    is_way : IsWay rules.scheme.longest tree path false stage.shard.frontier stage.shard.value (link ∷ more)
+    is_way : IsWay rules.scheme.format.longest tree path false stage.shard.frontier stage.shard.value (link ∷ more)
     is_way = hot_way longest rules.scheme.digest stage mirrors key fit (link ∷ more) chain
 
     few : length (link ∷ more) + length stage.shard.frontier ≤ length path
@@ -239,7 +239,7 @@ runs_hot rules entries room stage key (link ∷ more) bare roomy mirrors fit can
     at_end : tree path ≡ Some last
     at_end = hot_end longest rules.scheme.digest stage mirrors key fit (link ∷ more) chain
 
-    sound : (at : List Bool) (value : Value) (one : Link) → (step : IsStep rules.scheme.longest tree path false at value one)
+    sound : (at : List Bool) (value : Value) (one : Link) → (step : IsStep rules.scheme.format.longest tree path false at value one)
         → (step.pointer.deferred ≡ false) × (step.pointer.digest ≡ rules.scheme.digest (value_text one.taken))
     sound = hot_sound longest rules.scheme.digest stage mirrors key fit (link ∷ more) chain
 
@@ -258,7 +258,7 @@ runs_hot rules entries room stage key (link ∷ more) bare roomy mirrors fit can
 
 -- A transfer runs behind the frontier of its shard.
 pub transfer_runs : (rules : Rules) (entries : List Entry) (room : ℕ) (stage : Stage) (transfer : Transfer) (links : List Link)
-    → IsBare entries → key_bits < room → StageMirrors rules.scheme.longest rules.scheme.digest stage
+    → IsBare entries → key_bits < room → StageMirrors rules.scheme.format.longest rules.scheme.digest stage
     → IsFit stage transfer → CanDo rules stage transfer → AreLinks stage.shard transfer links
     → TransferRuns rules entries room stage transfer links
 transfer_runs rules entries room stage (demotes found) links bare roomy mirrors fit can chain = runs_back rules entries room stage found links bare roomy mirrors fit can chain

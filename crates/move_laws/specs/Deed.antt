@@ -7,7 +7,8 @@ use Rattle.log_codec.specs.declared.command.Command.{Command}
 use Rattle.verifier_cache.specs.Cache.{Held}
 use Rattle.verifier_commands.specs.Transition.{Rules}
 use Rattle.soundness.specs.History.{Event}
-use Rattle.soundness.specs.StateHistory.{events_from, machinery_under}
+use Rattle.soundness.specs.StateHistory.{events_from}
+use Rattle.soundness.specs.PathHistory.{path_machinery_under}
 use Rattle.soundness.specs.Certified.{operations_in, sealed_count}
 use Rattle.soundness.specs.Timed.{added_among, evicted_among}
 use Rattle.soundness.specs.Clash.{LastEvicted, first_clash}
@@ -21,13 +22,13 @@ use Rattle.move_laws.specs.Moved.{waiting_in, at_stage}
 module _ (rules : Rules) (cache : Held) (old new : Stage) (commands : List Command) where
   -- what the verifier of this number does from its log's index on
   abbrev pub events : ℕ → ℕ → List Event
-  events number index = events_from (machinery_under rules) number index (at_stage cache old) commands
+  events number index = events_from (path_machinery_under rules) number index (at_stage cache old) commands
 
   -- The commands are accepted and the verifier is at rest behind them. They add what waited in the old stage, evict what
   -- waits in the new one, do no operation and seal no epoch.
   pub record IsMoveDeed : Type 0 where
-    pub accepted : IsAccepted (machinery_under rules) (at_stage cache old) commands
-    pub rests : state_from (machinery_under rules) (at_stage cache old) commands ≡ at_stage cache new
+    pub accepted : IsAccepted (path_machinery_under rules) (at_stage cache old) commands
+    pub rests : state_from (path_machinery_under rules) (at_stage cache old) commands ≡ at_stage cache new
     pub added : (number index : ℕ) → AreSame (added_among (events number index)) (waiting_in old)
     pub evicted : (number index : ℕ) → AreSame (evicted_among (events number index)) (waiting_in new)
     pub unanswered : (number index : ℕ) → operations_in (events number index) ≡ []

@@ -6,7 +6,7 @@ ghost use Rattle.log_codec.specs.declared.command.Command.{Command};
 ghost use Rattle.merkle_records.specs.Merkle.{Digest, GivesDigests};
 ghost use Rattle.verifier_cache.specs.Cache.{Held};
 ghost use Rattle.verifier_commands.specs.Transition.{Rules};
-ghost use Rattle.soundness.specs.Typed.{IsTyped};
+ghost use Rattle.soundness.specs.Typed.{IsPathTyped};
 ghost use Rattle.protection_moves.specs.Stage.{Stage};
 ghost use Rattle.protection_moves.specs.Transfer.{clock_needed};
 ghost use Rattle.protection_moves.specs.Move.{IsMove};
@@ -18,7 +18,7 @@ ghost use Rattle.move_laws.specs.Moved.{CanMove, MoveRuns};
 /// It is asked that digests have 32 bytes, and that a threshold, if one is given, is at least one touch.
 pub fn a_move_runs()
     ensures runs { (rules : Rules) (cache : Held) (threshold : Option ℕ) (old new : Stage) (commands : List Command)
-        → GivesDigests rules.scheme.digest → IfSome threshold (λ least. 0 < least) → CanMove rules cache threshold old → StageMirrors rules.scheme.longest rules.scheme.digest old
+        → GivesDigests rules.scheme.digest → IfSome threshold (λ least. 0 < least) → CanMove rules cache threshold old → StageMirrors rules.scheme.format.longest rules.scheme.digest old
         → IsMove rules.scheme.digest rules.number threshold old commands new
         → MoveRuns rules cache old new commands }
 {}
@@ -34,7 +34,7 @@ pub fn a_move_mirrors()
 pub fn a_move_is_typed()
     ensures typed { (longest : ℕ) (digest : Digest) (worker : ℕ) (threshold : Option ℕ) (old new : Stage) (commands : List Command)
         → GivesDigests digest → IfSome threshold (λ least. 0 < least) → StageMirrors longest digest old
-        → IsMove digest worker threshold old commands new → AllByRecursion (IsTyped longest) commands }
+        → IsMove digest worker threshold old commands new → AllByRecursion (IsPathTyped longest) commands }
 {}
 
 /// The clock behind a move is the one that is counted from stamps.

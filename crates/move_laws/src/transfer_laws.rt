@@ -6,7 +6,7 @@ ghost use Rattle.tree_keys.specs.Path.{key_bits};
 ghost use Rattle.merkle_records.specs.Merkle.{Digest, GivesDigests};
 ghost use Rattle.verifier_cache.specs.declared.entry.Entry.{Entry};
 ghost use Rattle.verifier_commands.specs.Transition.{Rules};
-ghost use Rattle.soundness.specs.Typed.{IsTyped};
+ghost use Rattle.soundness.specs.Typed.{IsPathTyped};
 ghost use Rattle.host_shard.specs.declared.link.Link.{Link};
 ghost use Rattle.host_laws.specs.Served.{IsBare};
 ghost use Rattle.protection_moves.specs.Stage.{Stage};
@@ -19,7 +19,7 @@ ghost use Rattle.move_laws.specs.Transfers.{CanDo, TransferRuns, IsFit};
 /// the links to its key. Nothing is asked of the digests.
 pub fn a_transfer_runs()
     ensures runs { (rules : Rules) (entries : List Entry) (room : ℕ) (stage : Stage) (transfer : Transfer) (links : List Link)
-        → IsBare entries → key_bits < room → StageMirrors rules.scheme.longest rules.scheme.digest stage
+        → IsBare entries → key_bits < room → StageMirrors rules.scheme.format.longest rules.scheme.digest stage
         → IsFit stage transfer → CanDo rules stage transfer → AreLinks stage.shard transfer links
         → TransferRuns rules entries room stage transfer links }
 {}
@@ -35,5 +35,5 @@ pub fn a_transfer_mirrors()
 pub fn a_transfer_is_typed()
     ensures typed { (longest : ℕ) (digest : Digest) (stage : Stage) (transfer : Transfer) (links : List Link)
         → StageMirrors longest digest stage → IsFit stage transfer → AreLinks stage.shard transfer links
-        → AllByRecursion (IsTyped longest) (commands_by stage transfer links) }
+        → AllByRecursion (IsPathTyped longest) (commands_by stage transfer links) }
 {}

@@ -16,7 +16,7 @@ use Rattle.record_text.specs.Value.{IsOf}
 use Rattle.record_text.specs.Element.{IsStamp}
 use Rattle.record_text.specs.Longest.{longest_blob}
 use Rattle.log_codec.specs.declared.command.Command.{Command}
-use Rattle.log_codec.specs.Command.{IsCommand}
+use Rattle.log_codec.specs.Command.{IsPathCommand}
 use Rattle.merkle_records.specs.Merkle.{Digest, GivesDigests, pointer_to, deferred_pointer}
 use Rattle.merkle_records.proofs.KindLaws.{is_prefix-side, IsOf-with_side}
 use Rattle.host_shard.specs.declared.link.Link.{Link}
@@ -51,8 +51,8 @@ AllByRecursion-append P (x ∷ xs) ys hs gs = (hs.0, AllByRecursion-append P xs 
 -- a chain that is gone along, where what is done at its end is made of commands
 visit_typed : (longest : ℕ) (tree : Tree) (key at : List Bool) (value : Value) (links : List Link) (turn : List Bool → Link → List Command)
     → IsData key → AreOf longest tree → IsOf longest at value → IsChain tree key at value links
-    → ((from : List Bool) (link : Link) → IsPath from → IsOf longest link.path link.value → AllByRecursion (IsCommand longest) (turn from link))
-    → AllByRecursion (IsCommand longest) (visit_but_last at links turn)
+    → ((from : List Bool) (link : Link) → IsPath from → IsOf longest link.path link.value → AllByRecursion (IsPathCommand longest) (turn from link))
+    → AllByRecursion (IsPathCommand longest) (visit_but_last at links turn)
 visit_typed longest tree key at value [] turn whole kinds kind chain typed = tt
 visit_typed longest tree key at value (link ∷ []) turn whole kinds kind chain typed =
     typed at link (length-IsOf longest at value kind) (next_of longest tree key at value link whole kinds kind chain.0).value
@@ -61,17 +61,17 @@ visit_typed longest tree key at value (link ∷ next ∷ links) turn whole kinds
     let above = length-IsOf longest at value kind in
     let path = length-IsOf longest link.path link.value this.value in (
       (this.value, above),
-      AllByRecursion-append (IsCommand longest) (visit_but_last link.path (next ∷ links) turn) _
+      AllByRecursion-append (IsPathCommand longest) (visit_but_last link.path (next ∷ links) turn) _
           (visit_typed longest tree key link.path link.taken (next ∷ links) turn whole kinds this.taken chain.1 typed)
           ((path, above), tt),
     )
 
 come_back_typed : (longest : ℕ) (element : Element) (from : List Bool) (link : Link) → IsOf longest element.path element.value → IsStamp element.stamp → element.verifier < 2 ^ 16
-    → IsPath from → IsOf longest link.path link.value → AllByRecursion (IsCommand longest) (come_back element from link)
+    → IsPath from → IsOf longest link.path link.value → AllByRecursion (IsPathCommand longest) (come_back element from link)
 come_back_typed longest element from link kind stamp verifier above value = ((kind, stamp, verifier), ((length-IsOf longest link.path link.value value, above), tt))
 
 become_hot_typed : (longest : ℕ) (stamp : Stamp) (from : List Bool) (link : Link) → IsStamp stamp
-    → IsPath from → IsOf longest link.path link.value → AllByRecursion (IsCommand longest) (become_hot stamp from link)
+    → IsPath from → IsOf longest link.path link.value → AllByRecursion (IsPathCommand longest) (become_hot stamp from link)
 become_hot_typed longest stamp from link stamped above value = ((value, above), ((length-IsOf longest link.path link.value value, above, stamped), tt))
 
 -- behind commands those of a descent are logged
@@ -79,20 +79,20 @@ pub back_typed : (longest : ℕ) (shard : Shard) (key : List Bool) (links : List
     → IsShard longest shard → IsData key → IsChain (tree_of shard) key shard.frontier shard.value links
     → IsOf longest element.path element.value → IsStamp element.stamp → element.verifier < 2 ^ 16
     → after ≡ before ++ visit_but_last shard.frontier links (come_back element)
-    → AllByRecursion (IsCommand longest) before → AllByRecursion (IsCommand longest) after
+    → AllByRecursion (IsPathCommand longest) before → AllByRecursion (IsPathCommand longest) after
 back_typed longest shard key links element before after fits whole chain kind stamp verifier is typed =
-    subst (AllByRecursion (IsCommand longest)) (sym is)
-    (AllByRecursion-append (IsCommand longest) before _ typed
+    subst (AllByRecursion (IsPathCommand longest)) (sym is)
+    (AllByRecursion-append (IsPathCommand longest) before _ typed
     (visit_typed longest (tree_of shard) key shard.frontier shard.value links (come_back element) whole fits.kinds (frontier_kind longest shard fits.kinds) chain
     (λ from link. come_back_typed longest element from link kind stamp verifier)))
 
 pub hot_typed : (longest : ℕ) (shard : Shard) (key : List Bool) (links : List Link) (stamp : Stamp) (before after : List Command)
     → IsShard longest shard → IsData key → IsChain (tree_of shard) key shard.frontier shard.value links → IsStamp stamp
     → after ≡ before ++ visit_but_last shard.frontier links (become_hot stamp)
-    → AllByRecursion (IsCommand longest) before → AllByRecursion (IsCommand longest) after
+    → AllByRecursion (IsPathCommand longest) before → AllByRecursion (IsPathCommand longest) after
 hot_typed longest shard key links stamp before after fits whole chain stamped is typed =
-    subst (AllByRecursion (IsCommand longest)) (sym is)
-    (AllByRecursion-append (IsCommand longest) before _ typed
+    subst (AllByRecursion (IsPathCommand longest)) (sym is)
+    (AllByRecursion-append (IsPathCommand longest) before _ typed
     (visit_typed longest (tree_of shard) key shard.frontier shard.value links (become_hot stamp) whole fits.kinds (frontier_kind longest shard fits.kinds) chain
     (λ from link. become_hot_typed longest stamp from link stamped)))
 

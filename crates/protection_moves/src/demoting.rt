@@ -6,7 +6,7 @@ ghost use Rattle.arrayvec.specs.ArrayVec.{array_vec_len};
 ghost use Rattle.lamport_clocks.specs.Clock.{is_open};
 ghost use Rattle.record_text.specs.declared.value.Value.TheVariants as values;
 ghost use Rattle.record_text.specs.Value.{IsOf};
-ghost use Rattle.log_codec.specs.Command.{IsCommand};
+ghost use Rattle.log_codec.specs.Command.{IsPathCommand};
 ghost use Rattle.log_codec.specs.declared.command.Command.TheVariants.{EvictB};
 ghost use Rattle.host_shard.specs.Content.{Content, key_path};
 ghost use Rattle.host_shard.specs.Mirrors.{IsShard, IsKeyOf};
@@ -69,8 +69,8 @@ fn rehash_back<D: Digests>(
     ensures back { IfOk result (λ saved. (old : ShownShard) → shown shard.old ≡ with_back old found.now
         → IsReturning (D.functions d.now).digest found.now old commands.old.items commands.new.items (shown shard.new)) }
     ensures saved { IfOk result (λ saved. IsSavedOf (shown shard.old) saved (shown shard.new)) }
-    ensures typed { OnOk result (AllByRecursion (IsCommand longest_blob) commands.old.items
-        → AllByRecursion (IsCommand longest_blob) commands.new.items) }
+    ensures typed { OnOk result (AllByRecursion (IsPathCommand longest_blob) commands.old.items
+        → AllByRecursion (IsPathCommand longest_blob) commands.new.items) }
     ensures fits { OnOk result (IsShard longest_blob (shown shard.new)) }
     ensures frontier { OnOk result (shard.new.frontier ≡ shard.old.frontier) }
     ensures as_before { OnErr result (shown shard.new ≡ shown shard.old) }
@@ -109,8 +109,8 @@ pub(crate) fn demote_each<D: Digests>(
         (EvictB shard.old.frontier (giving (clock_by_each clock.now (map demotes back.now ++ map promotes keys.now))).at) commands.new.items
         (stage_with (shown shard.new) touches (placed_each hot.items (vacated back.now places))
         (clock_by_each clock.now (map demotes back.now ++ map promotes keys.now)))) }
-    ensures typed { OnOk result (AllByRecursion (IsCommand longest_blob) commands.old.items
-        → AllByRecursion (IsCommand longest_blob) commands.new.items) }
+    ensures typed { OnOk result (AllByRecursion (IsPathCommand longest_blob) commands.old.items
+        → AllByRecursion (IsPathCommand longest_blob) commands.new.items) }
     ensures fits { OnOk result (IsShard longest_blob (shown shard.new)) }
     ensures as_before { OnErr result (shown shard.new ≡ shown shard.old) }
 {

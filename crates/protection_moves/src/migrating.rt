@@ -3,7 +3,7 @@ ghost use Rattle.std.specs.Prelude.{◌≡◌, ◌↔◌, ◌<◌, ◌≤◌, �
 ghost use Rattle.std.specs.List.{AllByRecursion};
 ghost use Rattle.lamport_clocks.specs.Clock.{is_open};
 ghost use Rattle.record_text.specs.Longest.{longest_blob};
-ghost use Rattle.log_codec.specs.Command.{IsCommand};
+ghost use Rattle.log_codec.specs.Command.{IsPathCommand};
 ghost use Rattle.host_shard.specs.Content.{key_path};
 ghost use Rattle.host_shard.specs.Mirrors.{IsShard, IsKeyOf};
 ghost use Rattle.host_shard.specs.Shown.{shown, shown_content};
@@ -47,7 +47,7 @@ pub fn migrate<D: Digests>(
     requires threshold { IfSome threshold (λ touches. 0 < touches) }
     ensures moved { IfOk result (λ commands. IsMove (D.functions d.now).digest worker threshold
         (shown_stage shard.old hot.old clock.old) commands (shown_stage shard.new hot.new clock.new)) }
-    ensures typed { IfOk result (λ commands. AllByRecursion (IsCommand longest_blob) commands) }
+    ensures typed { IfOk result (λ commands. AllByRecursion (IsPathCommand longest_blob) commands) }
     ensures clock_end { (result ≡ Err ClockEnd) ↔ IsPastEnd threshold (shown_stage shard.old hot.old clock.old) }
     ensures fits { IsShard longest_blob (shown shard.new) }
     ensures open { (epoch : ℕ) → is_open clock.new epoch ≡ is_open clock.old epoch }

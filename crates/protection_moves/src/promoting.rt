@@ -3,7 +3,7 @@ ghost use Rattle.std.specs.Prelude.{◌≡◌, ◌<◌, ◌≤◌, ℕ, List, []
 ghost use Rattle.std.specs.List.{AllByRecursion};
 ghost use Rattle.record_text.specs.Longest.{longest_blob};
 ghost use Rattle.arrayvec.specs.ArrayVec.{array_vec_len};
-ghost use Rattle.log_codec.specs.Command.{IsCommand};
+ghost use Rattle.log_codec.specs.Command.{IsPathCommand};
 ghost use Rattle.log_codec.specs.declared.command.Command.TheVariants.{EvictB};
 ghost use Rattle.host_shard.specs.Content.{Content, key_path};
 ghost use Rattle.host_shard.specs.Mirrors.{IsShard, IsKeyOf};
@@ -109,8 +109,8 @@ fn promote<D: Digests>(
     ensures lending { IfOk result (λ promotion. IsLending (D.functions d.now).digest worker stamp key (shown shard.old) commands.old.items
         promotion.hot commands.new.items (shown shard.new)) }
     ensures saved { IfOk result (λ promotion. IsSavedOf (shown shard.old) promotion.saved (shown shard.new)) }
-    ensures typed { OnOk result (AllByRecursion (IsCommand longest_blob) commands.old.items
-        → AllByRecursion (IsCommand longest_blob) commands.new.items) }
+    ensures typed { OnOk result (AllByRecursion (IsPathCommand longest_blob) commands.old.items
+        → AllByRecursion (IsPathCommand longest_blob) commands.new.items) }
     ensures fits { OnOk result (IsShard longest_blob (shown shard.new)) }
     ensures frontier { OnOk result (shard.new.frontier ≡ shard.old.frontier) }
     ensures as_before { OnErr result (shown shard.new ≡ shown shard.old) }
@@ -153,8 +153,8 @@ pub(crate) fn promote_each<D: Digests>(
         (EvictB shard.old.frontier (giving (clock_by_each clock.now (map promotes keys.now))).at) commands.new.items
         (stage_with (shown shard.new) touches (placed_each hot.items places) (clock_by_each clock.now (map promotes keys.now)))) }
     ensures len { IfOk result (λ hot. array_vec_len hot ≡ length keys.now) }
-    ensures typed { OnOk result (AllByRecursion (IsCommand longest_blob) commands.old.items
-        → AllByRecursion (IsCommand longest_blob) commands.new.items) }
+    ensures typed { OnOk result (AllByRecursion (IsPathCommand longest_blob) commands.old.items
+        → AllByRecursion (IsPathCommand longest_blob) commands.new.items) }
     ensures fits { OnOk result (IsShard longest_blob (shown shard.new)) }
     ensures as_before { OnErr result (shown shard.new ≡ shown shard.old) }
 {
@@ -188,8 +188,8 @@ fn handed_out(
 ) -> Result<ArrayVec<HotRecord, HOT_PLACES>, Memory>
     ensures none { IfOk result (λ hot. hot.items ≡ []) }
     ensures logged { OnOk result (commands.new.items ≡ commands.old.items ++ EvictB path stamp ∷ []) }
-    ensures typed { OnOk result (AllByRecursion (IsCommand longest_blob) commands.old.items
-        → AllByRecursion (IsCommand longest_blob) commands.new.items) }
+    ensures typed { OnOk result (AllByRecursion (IsPathCommand longest_blob) commands.old.items
+        → AllByRecursion (IsPathCommand longest_blob) commands.new.items) }
 {
     commands.push(Command::EvictB { path, stamp })?;
     Ok(ArrayVec::new())

@@ -5,7 +5,7 @@ ghost use Rattle.lamport_clocks.specs.Clock.{is_open};
 ghost use Rattle.record_text.specs.Value.{IsOf};
 ghost use Rattle.record_text.specs.Element.{IsStamp};
 ghost use Rattle.record_text.specs.Longest.{longest_blob};
-ghost use Rattle.log_codec.specs.Command.{IsCommand};
+ghost use Rattle.log_codec.specs.Command.{IsPathCommand};
 ghost use Rattle.host_shard.specs.Shown.{shown_content};
 ghost use Rattle.host_plan.specs.Visit.{between};
 ghost use Rattle.protection_moves.specs.Renewing.{renewing_commands, renewing_each, renewed_places};
@@ -35,7 +35,7 @@ pub(crate) fn begin(
     requires verifier { element.verifier < 2 ^ 16 }
     ensures logged { IfOk result (λ commands. commands.items
         ≡ renewing_commands clock.now records.now ++ taking_in element ∷ []) }
-    ensures typed { IfOk result (λ commands. AllByRecursion (IsCommand longest_blob) commands.items) }
+    ensures typed { IfOk result (λ commands. AllByRecursion (IsPathCommand longest_blob) commands.items) }
 {
     let mut commands = room_for(alloc, records.len() + 1)?;
     log_renewals(&mut commands, clock, records)?;
@@ -57,8 +57,8 @@ fn log_taking(commands: &mut Vec<Command>, element: Element) -> Result<(), Memor
     requires added { IsStamp element.stamp }
     requires verifier { element.verifier < 2 ^ 16 }
     ensures logged { OnOk result (commands.new.items ≡ commands.old.items ++ taking_in element ∷ []) }
-    ensures typed { OnOk result (AllByRecursion (IsCommand longest_blob) commands.old.items
-        → AllByRecursion (IsCommand longest_blob) commands.new.items) }
+    ensures typed { OnOk result (AllByRecursion (IsPathCommand longest_blob) commands.old.items
+        → AllByRecursion (IsPathCommand longest_blob) commands.new.items) }
 {
     commands.push(Command::AddB {
         path: element.path,
@@ -75,8 +75,8 @@ fn log_renewal(commands: &mut Vec<Command>, element: Element, stamp: Stamp) -> R
     requires added { IsStamp element.stamp }
     requires verifier { element.verifier < 2 ^ 16 }
     ensures logged { OnOk result (commands.new.items ≡ commands.old.items ++ between element stamp []) }
-    ensures typed { OnOk result (AllByRecursion (IsCommand longest_blob) commands.old.items
-        → AllByRecursion (IsCommand longest_blob) commands.new.items) }
+    ensures typed { OnOk result (AllByRecursion (IsPathCommand longest_blob) commands.old.items
+        → AllByRecursion (IsPathCommand longest_blob) commands.new.items) }
 {
     let path = element.path;
     log_taking(commands, element)?;
@@ -94,8 +94,8 @@ fn log_renewals(
     requires within { (renewing_each clock.now records.now).at.counter ≤ clock.now.end }
     ensures logged { OnOk result (commands.new.items
         ≡ commands.old.items ++ renewing_commands clock.now records.now) }
-    ensures typed { OnOk result (AllByRecursion (IsCommand longest_blob) commands.old.items
-        → AllByRecursion (IsCommand longest_blob) commands.new.items) }
+    ensures typed { OnOk result (AllByRecursion (IsPathCommand longest_blob) commands.old.items
+        → AllByRecursion (IsPathCommand longest_blob) commands.new.items) }
 {
     let (first, rest) = match records.split_first() {
         Some(parts) => parts,

@@ -17,7 +17,7 @@ use Rattle.record_text.specs.Value.{IsOf, node_side, initial_value}
 use Rattle.record_text.proofs.SameTestLaws.{same_value-true}
 use Rattle.log_codec.specs.declared.command.Command.{Command}
 use Rattle.log_codec.specs.declared.command.Command.TheVariants.{AddM, EvictM, AddB, EvictB, EvictBM, Get, Put, NextEpoch}
-use Rattle.log_codec.specs.Command.{IsCommand}
+use Rattle.log_codec.specs.Command.{IsPathCommand}
 use Rattle.merkle_records.specs.declared.cases.AddCase.{AddCase}
 use Rattle.merkle_records.specs.declared.cases.AddCase.TheVariants as cases
 use Rattle.merkle_records.specs.Merkle.{Digest, GivesDigests, case_of, Added, after_add}
@@ -37,9 +37,10 @@ use Rattle.verifier_commands.specs.Transition.{Rules, Step, is_root, is_full, tr
 use Rattle.verifier_commands.proofs.InvertLaws.{need-ok, and_then-ok, timed-ok}
 use Rattle.verifier_commands.proofs.TickLaws.{ticks_step}
 use Rattle.soundness.specs.Certified.{added_by}
-use Rattle.soundness.specs.StateHistory.{machinery_under, events_from, events_behind, refusal_from, refusal_behind}
+use Rattle.soundness.specs.StateHistory.{events_from, events_behind, refusal_from, refusal_behind}
+use Rattle.soundness.specs.PathHistory.{path_machinery_under}
 use Rattle.soundness.specs.Timed.{added_among}
-use Rattle.soundness.specs.Typed.{IsTyped}
+use Rattle.soundness.specs.Typed.{IsPathTyped}
 use Rattle.run_reports.proofs.StampLemmas.{IsNarrow, IsStamped, sent_stamp, narrow_after, every-first, every-second}
 
 -- ---- entries
@@ -162,12 +163,12 @@ pub record IsGood (longest : ℕ) (state : State) : Type 0 where
 
 -- the command has a text, where the stamps of what it adds are in their ranges; and the entries stay of their kinds
 pub record Fits (longest : ℕ) (command : Command) (done : Change × State) : Type 0 where
-  pub spelled : AllByRecursion IsStamped (added_by done.0) → IsCommand longest command
+  pub spelled : AllByRecursion IsStamped (added_by done.0) → IsPathCommand longest command
   pub kinds : AllByRecursion (IsKind longest) done.1.cache.entries
 
 module _ (rules : Rules) (digests : GivesDigests rules.scheme.digest) (few : rules.verifiers ≤ 2 ^ 16) where
   abbrev longest : ℕ
-  longest = rules.scheme.longest
+  longest = rules.scheme.format.longest
 
   abbrev digest : Digest
   digest = rules.scheme.digest
@@ -285,7 +286,7 @@ module _ (rules : Rules) (digests : GivesDigests rules.scheme.digest) (few : rul
               (subst (λ (p : List Bool). IsOf longest p value) (sym (entry_of-path path xs entry.0 entry.1)) kind) good.kinds;
         })
 
-    fits : (command : Command) → IsTyped longest command → transition rules state command ≡ Ok done → Fits longest command done
+    fits : (command : Command) → IsPathTyped longest command → transition rules state command ≡ Ok done → Fits longest command done
     fits (AddM path value parent) typed is = fits_add_m path value parent typed is
     fits (EvictM path parent) typed is = fits_evict_m path parent is
     fits (AddB path value stamp verifier) typed is = fits_add_b path value stamp verifier typed is
@@ -297,7 +298,7 @@ module _ (rules : Rules) (digests : GivesDigests rules.scheme.digest) (few : rul
         let turn = timed-ok (advanced state.clock) _ done is in
         IfOk-at_ok (Fits longest NextEpoch) turn.2 (record { spelled = λ stamps. tt; kinds = good.kinds })
 
-    good_after : (command : Command) → IsTyped longest command → transition rules state command ≡ Ok done → IsGood longest done.1
+    good_after : (command : Command) → IsPathTyped longest command → transition rules state command ≡ Ok done → IsGood longest done.1
     good_after command typed is = record {
       kinds = (fits command typed is).kinds;
       narrow = narrow_after state.clock done.1.clock done.0 good.narrow (ticks_step rules state command done is);
@@ -307,25 +308,25 @@ module _ (rules : Rules) (digests : GivesDigests rules.scheme.digest) (few : rul
 
   -- Typed commands that are accepted from a good state on have texts, where the stamps of what they add are in their ranges.
   pub accepted_spelled : (number index : ℕ) (state : State) (commands : List Command) → IsGood longest state
-      → AllByRecursion (IsTyped longest) commands → refusal_from (machinery_under rules) state commands ≡ None
-      → AllByRecursion IsStamped (added_among (events_from (machinery_under rules) number index state commands))
-      → AllByRecursion (IsCommand longest) commands
+      → AllByRecursion (IsPathTyped longest) commands → refusal_from (path_machinery_under rules) state commands ≡ None
+      → AllByRecursion IsStamped (added_among (events_from (path_machinery_under rules) number index state commands))
+      → AllByRecursion (IsPathCommand longest) commands
   unfolding refusal_from events_from
   accepted_spelled number index state [] good typed accepted stamped = tt
   accepted_spelled number index state (command ∷ commands) good typed accepted stamped =
       go (transition rules state command) refl (λ after. accepted_spelled number (suc index) after commands) accepted stamped
     where
       go : (step : Step) → transition rules state command ≡ step
-          → ((after : State) → IsGood longest after → AllByRecursion (IsTyped longest) commands → refusal_from (machinery_under rules) after commands ≡ None
-          → AllByRecursion IsStamped (added_among (events_from (machinery_under rules) number (suc index) after commands))
-          → AllByRecursion (IsCommand longest) commands)
-          → refusal_behind step (λ after. refusal_from (machinery_under rules) after commands) ≡ None
-          → AllByRecursion IsStamped (added_among (events_behind (machinery_under rules) number index step (λ after. events_from (machinery_under rules) number (suc index) after commands)))
-          → AllByRecursion (IsCommand longest) (command ∷ commands)
+          → ((after : State) → IsGood longest after → AllByRecursion (IsPathTyped longest) commands → refusal_from (path_machinery_under rules) after commands ≡ None
+          → AllByRecursion IsStamped (added_among (events_from (path_machinery_under rules) number (suc index) after commands))
+          → AllByRecursion (IsPathCommand longest) commands)
+          → refusal_behind step (λ after. refusal_from (path_machinery_under rules) after commands) ≡ None
+          → AllByRecursion IsStamped (added_among (events_behind (path_machinery_under rules) number index step (λ after. events_from (path_machinery_under rules) number (suc index) after commands)))
+          → AllByRecursion (IsPathCommand longest) (command ∷ commands)
       go (Ok done) is further accepted stamped = (
         (fits state good done command typed.0 is).spelled
-            (every-first IsStamped (added_by done.0) (added_among (events_from (machinery_under rules) number (suc index) done.1 commands)) stamped),
+            (every-first IsStamped (added_by done.0) (added_among (events_from (path_machinery_under rules) number (suc index) done.1 commands)) stamped),
         further done.1 (good_after state good done command typed.0 is) typed.1 accepted
-            (every-second IsStamped (added_by done.0) (added_among (events_from (machinery_under rules) number (suc index) done.1 commands)) stamped),
+            (every-second IsStamped (added_by done.0) (added_among (events_from (path_machinery_under rules) number (suc index) done.1 commands)) stamped),
       )
       go (Err refusal) is further accepted stamped = absurd (none-some refusal (sym accepted))

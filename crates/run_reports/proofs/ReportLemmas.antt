@@ -8,20 +8,21 @@ use Rattle.lamport_clocks.specs.Header.{IsHeader}
 use Rattle.record_hash.specs.Functions.{DigestFunctions}
 use Rattle.record_text.specs.declared.exhibit.Exhibit.TheVariants.{Clean}
 use Rattle.record_text.specs.declared.request.Request.{Request}
-use Rattle.record_text.specs.Longest.{longest_of, longest_blob}
-use Rattle.log_codec.specs.Command.{IsCommand}
+use Rattle.record_text.specs.Longest.{longest_blob}
+use Rattle.record_text.specs.Format.{format_of}
+use Rattle.log_codec.specs.Command.{IsPathCommand}
 use Rattle.log_codec.specs.Log.{read_log}
 use Rattle.merkle_records.specs.Merkle.{GivesDigests}
 use Rattle.report_text.specs.declared.ending.BundleEnd.TheVariants.{Done}
 use Rattle.script_text.specs.declared.task.Task.{Task}
 use Rattle.stamp_order.specs.Serial.{IsSerial}
 use Rattle.verifier_commands.specs.State.{opening, root_entry}
-use Rattle.soundness.specs.History.{Event, log_events, log_refusal, histories_from}
+use Rattle.soundness.specs.History.{Event}
+use Rattle.soundness.specs.PathHistory.{path_log_events, path_log_refusal, path_histories_from}
 use Rattle.soundness.specs.StateHistory.{rules_under}
 use Rattle.soundness.specs.Certified.{all_events, added_by, certified_count, certified_operations}
-use Rattle.soundness.specs.Sound.{AreTyped}
+use Rattle.soundness.specs.Typed.{ArePathsTyped}
 use Rattle.soundness.specs.Timed.{added_among}
-use Rattle.soundness.proofs.StateHistoryLaws.{history-from_state}
 use Rattle.bundle_report.specs.BundleReport.{histories_at, refused_among, end_of}
 use Rattle.bundle_report.specs.Headline.{certified_exhibit, exhibit_at}
 use Rattle.host_rounds.specs.SoFar.{end_due}
@@ -53,40 +54,39 @@ module _ {C R : Type 0} (host : Host C R) where
   -- Logs that are accepted have texts, where their commands are typed and the stamps of what they add are in their ranges.
   logs_spelled : (number : ℕ) (workers : List Worker) (d : Worker) → GivesDigests host.functions.digest → host.header.first < 2 ^ 32 → IsHeader host.header
       → ((i : ℕ) → i < length workers → IsAccepted (machinery host (number + i)) (opening (number + i) host.header) (get_or workers i d).log)
-      → AreTyped longest_blob (map (λ worker. worker.log) workers)
-      → AllByRecursion IsStamped (added_among (all_events (histories_from (scheme host) host.header number (map (λ worker. worker.log) workers))))
-      → AllByRecursion (AllByRecursion (IsCommand longest_blob)) (map (λ worker. worker.log) workers)
+      → ArePathsTyped longest_blob (map (λ worker. worker.log) workers)
+      → AllByRecursion IsStamped (added_among (all_events (path_histories_from (scheme host) host.header number (map (λ worker. worker.log) workers))))
+      → AllByRecursion (AllByRecursion (IsPathCommand longest_blob)) (map (λ worker. worker.log) workers)
   logs_spelled number [] d digests first is accepted typed stamped = tt
   logs_spelled number (worker ∷ workers) d digests first is accepted typed stamped = (
     accepted_spelled (rules_under (scheme host) host.header number) digests (omega (arith, is.verifiers)) number 0 (opening number host.header) worker.log
         (opening_good number first is) typed.0
         (subst (λ (n : ℕ). IsAccepted (machinery host n) (opening n host.header) worker.log) (omega arith) (accepted 0 (omega arith)))
-        (subst (λ (events : List Event). AllByRecursion IsStamped (added_among events)) (history-from_state (scheme host) host.header number worker.log).events
-        (every-first IsStamped (added_among here) (added_among rest) split)),
+        (every-first IsStamped (added_among here) (added_among rest) split),
     logs_spelled (suc number) workers d digests first is
         (λ i within. subst (λ (n : ℕ). IsAccepted (machinery host n) (opening n host.header) (get_or workers i d).log) (omega arith) (accepted (suc i) (omega (arith, within))))
         typed.1 (every-second IsStamped (added_among here) (added_among rest) split),
   )
     where
       here : List Event
-      here = log_events (scheme host) host.header number worker.log
+      here = path_log_events (scheme host) host.header number worker.log
 
       rest : List Event
-      rest = all_events (histories_from (scheme host) host.header (suc number) (map (λ worker. worker.log) workers))
+      rest = all_events (path_histories_from (scheme host) host.header (suc number) (map (λ worker. worker.log) workers))
 
       split : AllByRecursion IsStamped (added_among here ++ added_among rest)
       split = subst (AllByRecursion IsStamped) (flat_map-append (λ (event : Event). added_by event.change) here rest) stamped
 
   -- the history of a worker
   history_at : (number : ℕ) (workers : List Worker) (i : ℕ) (d : Worker) → i < length workers
-      → get_or (histories_from (scheme host) host.header number (map (λ worker. worker.log) workers)) i []
-      ≡ log_events (scheme host) host.header (number + i) (get_or workers i d).log
+      → get_or (path_histories_from (scheme host) host.header number (map (λ worker. worker.log) workers)) i []
+      ≡ path_log_events (scheme host) host.header (number + i) (get_or workers i d).log
   history_at number [] i d within = absurd (omega (arith, within))
   history_at number (worker ∷ workers) zero d within =
-      ap (λ (n : ℕ). log_events (scheme host) host.header n worker.log) (omega arith)
+      ap (λ (n : ℕ). path_log_events (scheme host) host.header n worker.log) (omega arith)
   history_at number (worker ∷ workers) (suc i) d within =
       history_at (suc number) workers i d (omega (arith, within))
-      ∙ ap (λ (n : ℕ). log_events (scheme host) host.header n (get_or workers i d).log) (omega arith)
+      ∙ ap (λ (n : ℕ). path_log_events (scheme host) host.header n (get_or workers i d).log) (omega arith)
 
   log_at : (workers : List Worker) (i : ℕ) (d : Worker) → i < length workers → get_or (map (λ worker. worker.log) workers) i [] ≡ (get_or workers i d).log
   log_at [] i d within = absurd (omega (arith, within))
@@ -95,11 +95,10 @@ module _ {C R : Type 0} (host : Host C R) where
 
   -- no verifier refuses a log
   log_accepted : (world : World C) → AreAccepted host world → (i : ℕ) → i < length world.workers
-      → log_refusal (scheme host) host.header (0 + i) (get_or (logs_of world) i []) ≡ None
+      → path_log_refusal (scheme host) host.header (0 + i) (get_or (logs_of world) i []) ≡ None
   log_accepted world accepted i within =
-      ap (λ (n : ℕ). log_refusal (scheme host) host.header n (get_or (logs_of world) i [])) (omega arith)
-      ∙ ap (log_refusal (scheme host) host.header i) (log_at world.workers i (fresh host.header) within)
-      ∙ (history-from_state (scheme host) host.header i (worker_at host world i).log).refusal
+      ap (λ (n : ℕ). path_log_refusal (scheme host) host.header n (get_or (logs_of world) i [])) (omega arith)
+      ∙ ap (path_log_refusal (scheme host) host.header i) (log_at world.workers i (fresh host.header) within)
       ∙ (accepted i within).0
 
 -- ---- the shipped host
@@ -126,7 +125,7 @@ module _ (keeps : KeepsPromise) (functions : DigestFunctions) (settings : Settin
     promise : IsPromised host world
     promise = keeps functions settings script events can enabled
 
-    spelled : AllByRecursion (AllByRecursion (IsCommand longest_blob)) (logs_of world)
+    spelled : AllByRecursion (AllByRecursion (IsPathCommand longest_blob)) (logs_of world)
     spelled =
         logs_spelled host 0 world.workers (fresh host.header) can.digests first can.in_range.header
         (λ i within. subst (λ (n : ℕ). IsAccepted (machinery host n) (opening n host.header) (worker_at host world i).log) (omega arith) (promise.accepted i within).0)
@@ -136,18 +135,18 @@ module _ (keeps : KeepsPromise) (functions : DigestFunctions) (settings : Settin
         promise.even)
 
     read : histories_at (scheme host) host.header texts ≡ histories host world
-    read = histories_read_back (scheme host) host.header (logs_of world) refl spelled
+    read = histories_read_back functions host.header (logs_of world) can.in_range.by_path spelled
 
-    refused : refused_among (scheme host) host.header 0 (map (read_log (longest_of host.header)) texts) ≡ None
+    refused : refused_among (scheme host) host.header 0 (map (read_log (format_of host.header)) texts) ≡ None
     refused =
-        ap (refused_among (scheme host) host.header 0) (read_texts (logs_of world) spelled)
-        ∙ none_among (scheme host) host.header 0 (logs_of world) []
+        ap (refused_among (scheme host) host.header 0) (read_texts (format_of host.header) (logs_of world) can.in_range.by_path spelled)
+        ∙ none_among (scheme host) host.header 0 (logs_of world) [] can.in_range.by_path
         (λ i within. log_accepted host world promise.accepted i (subst (λ (n : ℕ). i < n) (length-map world.workers (λ (worker : Worker). worker.log)) within))
 
     ends : end_due functions settings.header texts ≡ Done (certified_count (scheme host) host.header.first (histories host world))
     ends =
-        ap (λ (hs : List (List Event)). end_of (scheme host) host.header (map (read_log (longest_of host.header)) texts) hs None) read
-        ∙ end_done (scheme host) host.header (map (read_log (longest_of host.header)) texts) (histories host world) promise.certified refused
+        ap (λ (hs : List (List Event)). end_of (scheme host) host.header (map (read_log (format_of host.header)) texts) hs None) read
+        ∙ end_done (scheme host) host.header (map (read_log (format_of host.header)) texts) (histories host world) promise.certified refused
 
     clean : exhibit_at functions (Some settings.header) texts ≡ Clean
     clean = ap (certified_exhibit (scheme host) host.header.first) read ∙ promise.nothing_to_show
@@ -159,11 +158,11 @@ module _ (keeps : KeepsPromise) (functions : DigestFunctions) (settings : Settin
 
     -- what a check reads of a worker's log
     history_read : (i : ℕ) → i < length world.workers
-        → get_or (histories_at (scheme host) host.header texts) i [] ≡ log_events (scheme host) host.header i (worker_at host world i).log
+        → get_or (histories_at (scheme host) host.header texts) i [] ≡ path_log_events (scheme host) host.header i (worker_at host world i).log
     history_read i within =
         ap (λ (hs : List (List Event)). get_or hs i []) read
         ∙ history_at host 0 world.workers i (fresh host.header) within
-        ∙ ap (λ (n : ℕ). log_events (scheme host) host.header n (worker_at host world i).log) (omega arith)
+        ∙ ap (λ (n : ℕ). path_log_events (scheme host) host.header n (worker_at host world i).log) (omega arith)
 
 -- ---- the laws
 
@@ -171,7 +170,7 @@ module _ (keeps : KeepsPromise) where
   pub reads : HoldsOfRuns (λ host world. histories_at (scheme host) host.header (texts_of (logs_of world)) ≡ histories host world)
   reads = read keeps
 
-  pub refuses_none : HoldsOfRuns (λ host world. refused_among (scheme host) host.header 0 (map (read_log (longest_of host.header)) (texts_of (logs_of world))) ≡ None)
+  pub refuses_none : HoldsOfRuns (λ host world. refused_among (scheme host) host.header 0 (map (read_log (format_of host.header)) (texts_of (logs_of world))) ≡ None)
   refuses_none = refused keeps
 
   pub comes_to_end : HoldsOfRuns (λ host world.

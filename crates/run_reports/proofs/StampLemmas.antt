@@ -16,13 +16,14 @@ use Rattle.stamp_order.proofs.InOrderLaws.{every-append}
 use Rattle.verifier_commands.specs.State.{opening}
 use Rattle.verifier_commands.specs.Change.{Change, did_add_m, did_evict_m, did_add_b, did_evict_b, did_evict_bm, did_get, did_put, did_next_epoch}
 use Rattle.verifier_commands.specs.Ticks.{Ticks}
-use Rattle.soundness.specs.History.{Event, log_events, histories_from}
+use Rattle.soundness.specs.History.{Event}
+use Rattle.soundness.specs.PathHistory.{path_log_events, path_histories_from}
 use Rattle.soundness.specs.Certified.{all_events, evicted_by}
 use Rattle.soundness.specs.Timed.{added_among, evicted_among}
 use Rattle.soundness.specs.Permutation.{same_element, count_of, is_permutation}
 use Rattle.soundness.proofs.PermutationLaws.{same_element-true, same_element-self, count_permuted}
 use Rattle.soundness.specs.IsHistory.{IsTicking}
-use Rattle.soundness.proofs.HistoryLaws.{log-ticks}
+use Rattle.soundness.proofs.HistoryLaws.{path_log-ticks}
 
 -- ---- what is evicted
 
@@ -88,14 +89,14 @@ opening_narrow number header first end = record { epoch = first; end = end }
 
 -- What the logs of a bundle evict is stamped so.
 pub logs_evict : (scheme : Scheme) (header : Header) (number : ℕ) (logs : List (List Command)) → header.first < 2 ^ 32 → header.end < 2 ^ 32
-    → AllByRecursion IsStamped (evicted_among (all_events (histories_from scheme header number logs)))
+    → AllByRecursion IsStamped (evicted_among (all_events (path_histories_from scheme header number logs)))
 logs_evict scheme header number [] first end = tt
 logs_evict scheme header number (log ∷ logs) first end =
-    let here = log_events scheme header number log in
-    let rest = all_events (histories_from scheme header (suc number) logs) in
+    let here = path_log_events scheme header number log in
+    let rest = all_events (path_histories_from scheme header (suc number) logs) in
     subst (AllByRecursion IsStamped) (sym (flat_map-append (λ (event : Event). evicted_by event.change) here rest))
     (every-append IsStamped (evicted_among here) (evicted_among rest)
-    (ticking_stamped number 0 (opening number header).clock here (opening_narrow number header first end) (log-ticks scheme header number log))
+    (ticking_stamped number 0 (opening number header).clock here (opening_narrow number header first end) (path_log-ticks scheme header number log))
     (logs_evict scheme header (suc number) logs first end))
 
 -- ---- what is added

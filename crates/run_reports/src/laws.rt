@@ -4,7 +4,7 @@ ghost use Rattle.std.specs.Prelude.{◌≡◌, ℕ, suc, ◌<◌, ◌≤◌, fal
 ghost use Rattle.record_hash.specs.Functions.{DigestFunctions};
 ghost use Rattle.lamport_clocks.specs.declared.header.Header.{Header};
 ghost use Rattle.record_text.specs.declared.exhibit.Exhibit.TheVariants.{Clean};
-ghost use Rattle.record_text.specs.Longest.{longest_of};
+ghost use Rattle.record_text.specs.Format.{format_of};
 ghost use Rattle.log_codec.specs.Log.{read_log};
 ghost use Rattle.merkle_records.specs.Merkle.{GivesDigests};
 ghost use Rattle.report_text.specs.declared.ending.BundleEnd.TheVariants.{Done};
@@ -28,7 +28,7 @@ pub fn a_check_reads_what_the_host_logged()
     ensures histories { HoldsOfRuns (λ host world.
         histories_at (scheme host) host.header (texts_of (logs_of world)) ≡ histories host world) }
     ensures none_refused { HoldsOfRuns (λ host world.
-        refused_among (scheme host) host.header 0 (map (read_log (longest_of host.header)) (texts_of (logs_of world))) ≡ None) }
+        refused_among (scheme host) host.header 0 (map (read_log (format_of host.header)) (texts_of (logs_of world))) ≡ None) }
 {
     the_shipped_host_keeps_its_promise();
 }

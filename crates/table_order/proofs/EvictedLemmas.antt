@@ -12,12 +12,13 @@ use Rattle.verifier_commands.specs.State.{opening}
 use Rattle.verifier_commands.specs.Change.{Change, did_add_m, did_evict_m, did_add_b, did_evict_b, did_evict_bm, did_get, did_put, did_next_epoch}
 use Rattle.verifier_commands.specs.Ticks.{Ticks}
 use Rattle.stamp_order.proofs.InOrderLaws.{every-append}
-use Rattle.soundness.specs.History.{Event, log_events, histories_from}
+use Rattle.soundness.specs.History.{Event}
+use Rattle.soundness.specs.PathHistory.{path_log_events, path_histories_from}
 use Rattle.soundness.specs.Certified.{all_events, evicted_by}
 use Rattle.soundness.specs.Timed.{evicted_among}
 use Rattle.soundness.specs.Permutation.{same_element, count_of, is_permutation}
 use Rattle.soundness.specs.IsHistory.{IsTicking}
-use Rattle.soundness.proofs.HistoryLaws.{log-ticks}
+use Rattle.soundness.proofs.HistoryLaws.{path_log-ticks}
 use Rattle.soundness.proofs.PermutationLaws.{same_element-true, same_element-self, count_permuted}
 
 -- the element's counter does not pass the end
@@ -58,14 +59,14 @@ ticking_within end number index clock (event ∷ events) is ticks =
 
 -- What all logs evict is stamped within the header's end.
 pub histories_within : (scheme : Scheme) (header : Header) (number : ℕ) (logs : List (List Command))
-    → AllByRecursion (IsWithin header.end) (evicted_among (all_events (histories_from scheme header number logs)))
+    → AllByRecursion (IsWithin header.end) (evicted_among (all_events (path_histories_from scheme header number logs)))
 histories_within scheme header number [] = tt
 histories_within scheme header number (log ∷ logs) =
-    let own : List Event = log_events scheme header number log in
-    let others : List Event = all_events (histories_from scheme header (suc number) logs) in
+    let own : List Event = path_log_events scheme header number log in
+    let others : List Event = all_events (path_histories_from scheme header (suc number) logs) in
     subst (AllByRecursion (IsWithin header.end)) (sym (flat_map-append (λ (event : Event). evicted_by event.change) own others))
     (every-append (IsWithin header.end) (evicted_among own) (evicted_among others)
-    (ticking_within header.end number 0 (opening number header).clock own refl (log-ticks scheme header number log))
+    (ticking_within header.end number 0 (opening number header).clock own refl (path_log-ticks scheme header number log))
     (histories_within scheme header (suc number) logs))
 
 -- ---- the same elements in another order

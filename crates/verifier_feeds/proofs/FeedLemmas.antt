@@ -7,8 +7,8 @@ use Rattle.std.proofs.lemmas.Grind.{flat_map-append}
 use Rattle.record_hash.specs.Functions.{DigestFunctions}
 use Rattle.record_text.specs.declared.operation.Operation.{Operation}
 use Rattle.log_codec.specs.declared.command.Command.{Command}
-use Rattle.log_codec.specs.Command.{command_text}
-use Rattle.log_codec.specs.Log.{log_text}
+use Rattle.log_codec.specs.Command.{path_command_text}
+use Rattle.log_codec.specs.Log.{path_log_text}
 use Rattle.merkle_records.specs.Scheme.{Scheme, scheme_of}
 use Rattle.lamport_clocks.specs.declared.header.Header.{Header}
 use Rattle.verifier_run.specs.Kept.{keeps_operations}
@@ -104,18 +104,18 @@ oldest old new found x some is = is ∙ ap (λ (o : Option _). option_to_list o 
 
 -- commands that are written, with one more
 pub written-more : (commands : List Command) (k n : ℕ) (command : Command) (queued buffer after first : List ℕ) → n ≡ suc k → k < length commands
-    → command ≡ get_or commands k command → queued ++ buffer ≡ first ++ log_text (take k commands) → after ≡ buffer ++ command_text command
-    → queued ++ after ≡ first ++ log_text (take n commands)
+    → command ≡ get_or commands k command → queued ++ buffer ≡ first ++ path_log_text (take k commands) → after ≡ buffer ++ path_command_text command
+    → queued ++ after ≡ first ++ path_log_text (take n commands)
 written-more commands k n command queued buffer after first next there is so_far pushed =
     ap (λ (bytes : List ℕ). queued ++ bytes) pushed
-    ∙ sym (append_assoc queued buffer (command_text command))
-    ∙ ap (λ (bytes : List ℕ). bytes ++ command_text command) so_far
-    ∙ append_assoc first (log_text (take k commands)) (command_text command)
+    ∙ sym (append_assoc queued buffer (path_command_text command))
+    ∙ ap (λ (bytes : List ℕ). bytes ++ path_command_text command) so_far
+    ∙ append_assoc first (path_log_text (take k commands)) (path_command_text command)
     ∙ ap (λ (bytes : List ℕ). first ++ bytes)
-    (ap (λ (bytes : List ℕ). log_text (take k commands) ++ bytes) (sym (append-nil (command_text command)))
-    ∙ sym (flat_map-append command_text (take k commands) (command ∷ []))
-    ∙ sym (ap (λ (m : ℕ). log_text (take m commands)) next
-    ∙ ap log_text (take-suc commands k command there ∙ ap (λ (c : Command). take k commands ++ c ∷ []) (sym is))))
+    (ap (λ (bytes : List ℕ). path_log_text (take k commands) ++ bytes) (sym (append-nil (path_command_text command)))
+    ∙ sym (flat_map-append path_command_text (take k commands) (command ∷ []))
+    ∙ sym (ap (λ (m : ℕ). path_log_text (take m commands)) next
+    ∙ ap path_log_text (take-suc commands k command there ∙ ap (λ (c : Command). take k commands ++ c ∷ []) (sym is))))
 
 -- ---- how long parcels are
 

@@ -30,12 +30,12 @@ pub struct Outbox {
 impl Outbox {
     ghost use Rattle.std.specs.Prelude.{◌≡◌, ◌<◌, ◌≤◌, false, [], ◌∷◌, ◌++◌, length, OnOk};
     ghost use Rattle.record_text.specs.Longest.{longest_blob};
-    ghost use Rattle.log_codec.specs.Log.{log_text};
+    ghost use Rattle.log_codec.specs.Log.{path_log_text};
     ghost use Rattle.verifier_feeds.specs.Feeds.{put_in, queued, rest_of, AreLongEnough, HasEnded, SameOutbox, WaitsForRoom};
 
     /// Puts commands in, behind what is there. Where that makes a parcel of 4,096 bytes or more, it goes on its way.
     pub fn put(&mut self, commands: &[Command]) -> Result<(), Memory>
-        ensures put { OnOk result (put_in self.new ≡ put_in self.old ++ log_text commands.now) }
+        ensures put { OnOk result (put_in self.new ≡ put_in self.old ++ path_log_text commands.now) }
         ensures rest { OnOk result (length (rest_of self.new) < 4096) }
         ensures enough { AreLongEnough self.new }
         ensures waits { WaitsForRoom self.new }
@@ -61,7 +61,7 @@ impl Outbox {
 
     // Writes commands behind what is in no parcel yet.
     fn write(&mut self, commands: &[Command]) -> Result<(), Memory>
-        ensures put { OnOk result (put_in self.new ≡ put_in self.old ++ log_text commands.now) }
+        ensures put { OnOk result (put_in self.new ≡ put_in self.old ++ path_log_text commands.now) }
         ensures lane { SameOutbox self.old self.new }
     {
         for command in commands {

@@ -4,8 +4,8 @@ use Rattle.std.specs.List.{AllByRecursion}
 use Rattle.std.proofs.lemmas.List.{append-nil, length-map}
 use Rattle.std.proofs.lemmas.List.Concat.{flat_map-append}
 use Rattle.log_codec.specs.declared.command.Command.{Command}
-use Rattle.log_codec.specs.Command.{command_text}
-use Rattle.log_codec.specs.Log.{log_text}
+use Rattle.log_codec.specs.Command.{path_command_text}
+use Rattle.log_codec.specs.Log.{path_log_text}
 use Rattle.host_core.specs.World.{Worker, World, logs_of}
 use Rattle.host_world.specs.Behind.{logged_before, before_each, with_logs}
 use Rattle.host_rounds.specs.Round.{logs_with}
@@ -104,12 +104,12 @@ buffers-next n next texts buffers now cleared new text d is each there empty too
 
 -- the text of the log of a worker of the list
 pub text-at : (workers : List Worker) (n : ℕ) (d : Worker) → n < length workers
-    → get_or (map (λ log. log_text log) (map (λ worker. worker.log) workers)) n [] ≡ log_text (get_or workers n d).log
+    → get_or (map (λ log. path_log_text log) (map (λ worker. worker.log) workers)) n [] ≡ path_log_text (get_or workers n d).log
 text-at [] n d there = absurd (omega (arith, there))
 text-at (worker ∷ workers) zero d there = refl
 text-at (worker ∷ workers) (suc n) d there = text-at workers n d (omega (arith, there))
 
-pub texts-length : (workers : List Worker) → length (map log_text (map (λ worker. worker.log) workers)) ≡ length workers
+pub texts-length : (workers : List Worker) → length (map path_log_text (map (λ worker. worker.log) workers)) ≡ length workers
 texts-length [] = refl
 texts-length (worker ∷ workers) = ap suc (texts-length workers)
 
@@ -125,8 +125,8 @@ pub logged_with-texts : (logs round : List (List Command)) → texts_of (logged_
 logged_with-texts [] round = refl
 logged_with-texts (log ∷ logs) [] = refl
 logged_with-texts (log ∷ logs) (next ∷ round) =
-    ap (λ (text : List ℕ). text ∷ texts_of (logged_with logs round)) (flat_map-append command_text log next)
-    ∙ ap (λ (rest : List (List ℕ)). (log_text log ++ log_text next) ∷ rest) (logged_with-texts logs round)
+    ap (λ (text : List ℕ). text ∷ texts_of (logged_with logs round)) (flat_map-append path_command_text log next)
+    ∙ ap (λ (rest : List (List ℕ)). (path_log_text log ++ path_log_text next) ∷ rest) (logged_with-texts logs round)
 
 before-handed : (logs : List (List Command)) (workers : List Worker) → length logs ≡ length workers
     → before_each (logged_with logs (map (λ worker. worker.log) workers)) (map with_no_log workers) ≡ before_each logs workers

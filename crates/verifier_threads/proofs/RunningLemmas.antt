@@ -4,7 +4,7 @@ use Rattle.std.proofs.lemmas.List.{length-map}
 use Rattle.fv_outside.specs.Written.{Grows}
 use Rattle.record_hash.specs.Functions.{DigestFunctions}
 use Rattle.record_text.specs.declared.request.Request.{Request}
-use Rattle.log_codec.specs.Log.{log_text}
+use Rattle.log_codec.specs.Log.{path_log_text}
 use Rattle.bundle_report.specs.Report.{told_by}
 use Rattle.host_core.specs.Host.{Host}
 use Rattle.host_core.specs.World.{World, logs_of, set_up}
@@ -92,7 +92,7 @@ module _ (receipts : Bool) (functions : DigestFunctions) (settings : Settings) (
   -- as many workers as verifiers, and as many runs
   pub running-workers : length world.workers ≡ settings.header.verifiers
   running-workers =
-      sym running.each ∙ sym (length-map running.logs log_text) ∙ running.keeps.runs.taken.whole
+      sym running.each ∙ sym (length-map running.logs path_log_text) ∙ running.keeps.runs.taken.whole
 
   -- events lead on
   pub running-led : (later : World Content) (next : Option ClockEnd) → GoesOn own_host world later end next

@@ -4,7 +4,7 @@ use Rattle.fv_outside.specs.Written.{Grows, GrowsByFront}
 use Rattle.lamport_clocks.specs.declared.header.Header.{Header}
 use Rattle.record_hash.specs.Functions.{DigestFunctions}
 use Rattle.log_codec.specs.declared.command.Command.{Command}
-use Rattle.log_codec.specs.Log.{log_text}
+use Rattle.log_codec.specs.Log.{path_log_text}
 use Rattle.report_text.specs.declared.status.Status.{Status}
 use Rattle.report_text.specs.declared.status.Status.TheVariants as statuses
 use Rattle.report_text.specs.Status.{last_line}
@@ -52,7 +52,7 @@ setup_end settings = record { worker = 0; at = record { epoch = settings.header.
 
 -- the bytes of logs
 abbrev pub texts_of : List (List Command) → List (List ℕ)
-texts_of logs = map log_text logs
+texts_of logs = map path_log_text logs
 
 module _ (functions : DigestFunctions) (settings : Settings) (script : List (List Task)) (rounds : List Logs) (logs : Logs) (end : Option ClockEnd) where
   -- The logs of a world to which enabled events in rounds lead from the setup, and in which no more can be done. Where no clock

@@ -1,6 +1,6 @@
 //! What all workers logged, handed out.
 ghost use Rattle.std.specs.Prelude.{◌≡◌, ◌≤◌, length, OnOk};
-ghost use Rattle.log_codec.specs.Log.{log_text};
+ghost use Rattle.log_codec.specs.Log.{path_log_text};
 ghost use Rattle.host_core.specs.World.{logs_of};
 ghost use Rattle.host_world.specs.Shown.{shown_world};
 ghost use Rattle.host_world.specs.Behind.{AreOfOneHost};

@@ -4,8 +4,8 @@ use Rattle.std.specs.List.{flat_map, AllByRecursion}
 use Rattle.std.proofs.lemmas.Grind.{flat_map-append}
 use Rattle.record_hash.specs.Functions.{DigestFunctions}
 use Rattle.log_codec.specs.declared.command.Command.{Command}
-use Rattle.log_codec.specs.Command.{command_text}
-use Rattle.log_codec.specs.Log.{log_text}
+use Rattle.log_codec.specs.Command.{path_command_text}
+use Rattle.log_codec.specs.Log.{path_log_text}
 use Rattle.verifier_run.specs.Progress.{weight}
 use Rattle.certified_epochs.specs.declared.fed_run.FedRun.{FedRun}
 use Rattle.host_core.specs.World.{Worker}
@@ -14,19 +14,19 @@ use Rattle.worker_threads.specs.Participants.{HaveReadLogs}
 
 -- what is logged with one deed more
 pub logged-more : (deeds : List (List Command)) (commands : List Command)
-    → log_text (flat_map (λ c. c) (deeds ++ commands ∷ [])) ≡ log_text (flat_map (λ c. c) deeds) ++ log_text commands
+    → path_log_text (flat_map (λ c. c) (deeds ++ commands ∷ [])) ≡ path_log_text (flat_map (λ c. c) deeds) ++ path_log_text commands
 logged-more deeds commands =
-    ap log_text (flat_map-append (λ (c : List Command). c) deeds (commands ∷ []) ∙ ap (λ (cs : List Command). flat_map (λ c. c) deeds ++ cs) (append-nil commands))
-    ∙ flat_map-append command_text (flat_map (λ c. c) deeds) commands
+    ap path_log_text (flat_map-append (λ (c : List Command). c) deeds (commands ∷ []) ∙ ap (λ (cs : List Command). flat_map (λ c. c) deeds ++ cs) (append-nil commands))
+    ∙ flat_map-append path_command_text (flat_map (λ c. c) deeds) commands
 
 -- the runs of all verifiers took what is in their workers' logs
 pub all_take : (functions : DigestFunctions) (workers : List Worker) (old new : List FedRun) → HaveReadLogs functions workers old new
-    → AllRead functions (map log_text (map (λ worker. worker.log) workers)) old new
+    → AllRead functions (map path_log_text (map (λ worker. worker.log) workers)) old new
 all_take functions workers old new took = go workers old new took.olds took.news took.each
   where
     go : (workers : List Worker) (old new : List FedRun) → length old ≡ length workers → length new ≡ length workers
-        → ((i : ℕ) (d : Worker) (run : FedRun) → i < length workers → Reads functions (log_text (get_or workers i d).log) (get_or old i run) (get_or new i run))
-        → AllRead functions (map log_text (map (λ worker. worker.log) workers)) old new
+        → ((i : ℕ) (d : Worker) (run : FedRun) → i < length workers → Reads functions (path_log_text (get_or workers i d).log) (get_or old i run) (get_or new i run))
+        → AllRead functions (map path_log_text (map (λ worker. worker.log) workers)) old new
     go [] [] [] olds news each = tt
     go [] [] (run ∷ new) olds news each = absurd (omega (arith, news))
     go [] (run ∷ old) new olds news each = absurd (omega (arith, olds))

@@ -5,7 +5,7 @@ use Rattle.std.proofs.lemmas.List as lists
 use Rattle.std.proofs.lemmas.List.{length-map, map_push, get_or_default}
 use Rattle.std.proofs.lemmas.List.Elements.{All-push, All-get_or, All-from_get_or}
 use Rattle.record_hash.specs.Functions.{DigestFunctions}
-use Rattle.log_codec.specs.Log.{log_text}
+use Rattle.log_codec.specs.Log.{path_log_text}
 use Rattle.verifier_run.specs.Progress.{weight}
 use Rattle.certified_epochs.specs.declared.fed_run.FedRun.{FedRun}
 use Rattle.host_rounds.specs.Feeding.{Reads}
@@ -195,7 +195,7 @@ module _ (functions : DigestFunctions) (threads later : List WorkerPair) (worker
     ap (λ (rs : List FedRun). length rs) news_are ∙ length-map later run_in ∙ many,
   )
 
-  each_took : (i : ℕ) (e : Worker) (run : FedRun) → i < length workers → Reads functions (log_text (get_or workers i e).log) (get_or old i run) (get_or new i run)
+  each_took : (i : ℕ) (e : Worker) (run : FedRun) → i < length workers → Reads functions (path_log_text (get_or workers i e).log) (get_or old i run) (get_or new i run)
   each_took i e run within =
       let there : i < length threads = omega (arith, within, counts.1) in
       let d = first_of threads i there in
@@ -206,9 +206,9 @@ module _ (functions : DigestFunctions) (threads later : List WorkerPair) (worker
       get_or_default old i run (run_in d) (omega (arith, there, counts.0)) ∙ ap (λ (rs : List FedRun). get_or rs i (run_in d)) (sym olds_are) ∙ get_or-map run_in threads i d in
       let after : get_or new i run ≡ run_in (get_or later i d) =
       get_or_default new i run (run_in d) (omega (arith, there, counts.2)) ∙ ap (λ (rs : List FedRun). get_or rs i (run_in d)) news_are ∙ get_or-map run_in later i d in
-      subst (λ (w : Worker). Reads functions (log_text w.log) (get_or old i run) (get_or new i run)) (sym worker)
-      (subst (λ (r : FedRun). Reads functions (log_text (get_or later i d).thread.worker.log) r (get_or new i run)) (sym before)
-      (subst (λ (r : FedRun). Reads functions (log_text (get_or later i d).thread.worker.log) (run_in (get_or threads i d)) r) (sym after)
+      subst (λ (w : Worker). Reads functions (path_log_text w.log) (get_or old i run) (get_or new i run)) (sym worker)
+      (subst (λ (r : FedRun). Reads functions (path_log_text (get_or later i d).thread.worker.log) r (get_or new i run)) (sym before)
+      (subst (λ (r : FedRun). Reads functions (path_log_text (get_or later i d).thread.worker.log) (run_in (get_or threads i d)) r) (sym after)
       (fed i d there all.worker all.verifier)))
 
   -- Each took what is in its worker's log.

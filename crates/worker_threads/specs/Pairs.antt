@@ -1,7 +1,7 @@
 -- A worker and its verifier beside it, before a phase and behind it.
 use Rattle.std.specs.Prelude.{◌≡◌, ℕ, false, []}
 use Rattle.record_hash.specs.Functions.{DigestFunctions}
-use Rattle.log_codec.specs.Log.{log_text}
+use Rattle.log_codec.specs.Log.{path_log_text}
 use Rattle.atomic_table.specs.Seated.{TableId}
 use Rattle.certified_epochs.specs.declared.fed_run.FedRun.{FedRun}
 use Rattle.host_rounds.specs.Feeding.{Reads}
@@ -41,7 +41,7 @@ pub record IsPairReady (terms : Terms) (table : TableId) (pair : WorkerPair) : T
 abbrev pub HasFed : DigestFunctions → WorkerPair → WorkerPair → Type 0
 HasFed functions old new =
     new.thread.wanting ≡ false → is_wanting new.inbox ≡ false
-    → Reads functions (log_text new.thread.worker.log) (run_in old) (run_in new)
+    → Reads functions (path_log_text new.thread.worker.log) (run_in old) (run_in new)
 
 -- what a pair asks of its phase
 pub record CanMeet {D : Type 0} (functions : D → DigestFunctions) (shared : SharedPhase D) (pair : WorkerPair) : Type 0 where

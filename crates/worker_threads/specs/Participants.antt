@@ -1,7 +1,7 @@
 -- The workers, hands and runs of pairs, and what all workers did at a table.
 use Rattle.std.specs.Prelude.{◌≡◌, ℕ, ◌<◌, ◌≤◌, false, List, length, map, get_or, All}
 use Rattle.record_hash.specs.Functions.{DigestFunctions}
-use Rattle.log_codec.specs.Log.{log_text}
+use Rattle.log_codec.specs.Log.{path_log_text}
 use Rattle.atomic_table.specs.Seated.{TableId}
 use Rattle.script_text.specs.declared.task.Task.{Task}
 use Rattle.verifier_run.specs.Progress.{weight}
@@ -52,4 +52,4 @@ pub record HaveReadLogs (functions : DigestFunctions) (workers : List Worker) (o
   pub olds : length old ≡ length workers
   pub news : length new ≡ length workers
   pub each : (i : ℕ) (d : Worker) (run : FedRun) → i < length workers
-      → Reads functions (log_text (get_or workers i d).log) (get_or old i run) (get_or new i run)
+      → Reads functions (path_log_text (get_or workers i d).log) (get_or old i run) (get_or new i run)

@@ -5,7 +5,7 @@ use Rattle.std.specs.Option.{ForSome}
 use Rattle.lamport_clocks.specs.Reading.{Reading}
 use Rattle.record_text.specs.declared.request.Request.{Request}
 use Rattle.log_codec.specs.declared.command.Command.{Command}
-use Rattle.log_codec.specs.Log.{log_text}
+use Rattle.log_codec.specs.Log.{path_log_text}
 use Rattle.atomic_table.specs.Seated.{TableId}
 use Rattle.script_text.specs.declared.task.Task.{Task}
 use Rattle.host_core.specs.World.{Worker}
@@ -81,5 +81,5 @@ pub record IsThrough (table : TableId) (tasks : List Task) (old new : WorkerThre
 
 -- Where memory was not wanting its outbox has just what is in its log.
 pub record HasPutAll (old new : WorkerThread) : Type 0 where
-  pub put : new.wanting ≡ false → put_in new.outbox ≡ log_text new.worker.log
+  pub put : new.wanting ≡ false → put_in new.outbox ≡ path_log_text new.worker.log
   pub lane : SameOutbox old.outbox new.outbox

@@ -5,8 +5,8 @@ use Rattle.lamport_clocks.specs.Reading.{Reading}
 use Rattle.record_hash.specs.Functions.{DigestFunctions}
 use Rattle.record_text.specs.declared.request.Request.{Request}
 use Rattle.record_text.specs.Longest.{longest_blob}
-use Rattle.log_codec.specs.Command.{IsCommand}
-use Rattle.log_codec.specs.Log.{log_text}
+use Rattle.log_codec.specs.Command.{IsPathCommand}
+use Rattle.log_codec.specs.Log.{path_log_text}
 use Rattle.base_words.specs.declared.memory.Memory.{Memory}
 use Rattle.atomic_table.specs.Seated.{TableId}
 use Rattle.host_core.specs.World.{Worker}
@@ -61,11 +61,11 @@ pub record IsAtWork (terms : Terms) (table : TableId) (hand : Hand) (state : Wor
   pub clock : IsClockOf terms state.clock
   pub chained : TakesUp (services hand) state.clock
   pub going : state.stopped ≡ false → stop hand ≡ None
-  pub typed : AllByRecursion (AllByRecursion (IsCommand longest_blob)) state.log.items
+  pub typed : AllByRecursion (AllByRecursion (IsPathCommand longest_blob)) state.log.items
 
 -- the bytes of what it logged
 abbrev pub logged_by : WorkerState → List ℕ
-logged_by state = log_text (flat_map (λ commands. commands) state.log.items)
+logged_by state = path_log_text (flat_map (λ commands. commands) state.log.items)
 
 -- the outbox has just these
 abbrev pub HasPutIn : WorkerState → Outbox → Type 0

@@ -2,7 +2,7 @@
 ghost use Rattle.std.specs.Prelude.{◌≡◌, ◌≤◌, ◌<◌, List, IfOk, IfSome, OnOk, Ok, None, length, map, get_or};
 ghost use Rattle.std.specs.List.{AllByRecursion};
 ghost use Rattle.log_codec.specs.declared.command.Command.{Command};
-ghost use Rattle.log_codec.specs.Log.{log_text};
+ghost use Rattle.log_codec.specs.Log.{path_log_text};
 ghost use Rattle.verifier_run.specs.Progress.{weight};
 ghost use Rattle.host_core.specs.World.{logs_of};
 ghost use Rattle.host_rounds.specs.Feeding.{AllRead};
@@ -106,7 +106,7 @@ pub fn serve_phase_at_once<R: Threads + Wait + Sync, D: Digests + Sync, G: Gate 
     ensures behind { OnOk result (StandsBehind (D.functions (digests_of world.new)) world.new) }
     ensures goes_on { OnOk result ((logs : List (List Command)) → StandsWith (D.functions (digests_of world.old)) world.old logs
         → StandsWith (D.functions (digests_of world.new)) world.new logs) }
-    ensures taken { OnOk result (AllRead (D.functions (digests_of world.old)) (map log_text (logs_of (shown_world world.new)))
+    ensures taken { OnOk result (AllRead (D.functions (digests_of world.old)) (map path_log_text (logs_of (shown_world world.new)))
         runs.old.items runs.new.items) }
     ensures parcels { OnOk result (length parcels.new.items ≡ length parcels.old.items) }
 {

@@ -26,7 +26,7 @@ impl<D: Digests> SharedPhase<'_, D> {
     ghost use Rattle.std.specs.Prelude.{◌≡◌, None, Some, Ok};
     ghost use Rattle.std.specs.List.{AllByRecursion};
     ghost use Rattle.record_text.specs.Longest.{longest_blob};
-    ghost use Rattle.log_codec.specs.Command.{IsCommand};
+    ghost use Rattle.log_codec.specs.Command.{IsPathCommand};
     ghost use Rattle.host_plan.specs.declared.plans.Plan.{Plan};
     ghost use Rattle.host_table.specs.Hands.{IsFree, services, stop};
     ghost use Rattle.host_table.specs.Table.{table, terms};
@@ -54,7 +54,7 @@ impl<D: Digests> SharedPhase<'_, D> {
         ensures clock { IsClockOf (terms D.functions self.now.records.now) clock.new }
         ensures chained { TakesUp (services hand.new) clock.new }
         ensures comes_to { ComesTo (terms D.functions self.now.records.now) hand.old place request.now clock.old result hand.new clock.new }
-        ensures typed { (plan : Plan) → result ≡ Ok (Some plan) → AllByRecursion (IsCommand longest_blob) plan.commands }
+        ensures typed { (plan : Plan) → result ≡ Ok (Some plan) → AllByRecursion (IsPathCommand longest_blob) plan.commands }
     {
         for _ in rt.forever() {
             match self

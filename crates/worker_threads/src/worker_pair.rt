@@ -19,7 +19,7 @@ pub struct WorkerPair {
 impl WorkerPair {
     ghost use Rattle.std.specs.Prelude.{◌≡◌, [], false};
     ghost use Rattle.record_text.specs.Longest.{longest_blob};
-    ghost use Rattle.log_codec.specs.Log.{log_text};
+    ghost use Rattle.log_codec.specs.Log.{path_log_text};
     ghost use Rattle.host_table.specs.Table.{table, terms};
     ghost use Rattle.host_rounds.specs.Feeding.{Reads};
     ghost use Rattle.log_rings.specs.Lanes.{received_by};

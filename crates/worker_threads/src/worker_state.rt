@@ -26,7 +26,7 @@ impl WorkerState {
     ghost use Rattle.std.specs.Prelude.{◌≡◌, [], ◌∷◌, ◌++◌, OnOk};
     ghost use Rattle.std.specs.List.{AllByRecursion};
     ghost use Rattle.record_text.specs.Longest.{longest_blob};
-    ghost use Rattle.log_codec.specs.Command.{IsCommand};
+    ghost use Rattle.log_codec.specs.Command.{IsPathCommand};
     ghost use Rattle.host_table.specs.Hands.{worker_of};
     ghost use Rattle.host_table.specs.Table.{table, terms};
     ghost use Rattle.host_table.specs.Terms.{IsPlaceOf};
@@ -37,7 +37,7 @@ impl WorkerState {
     /// What a worker has that has done nothing in the phase yet. The worker lends its log.
     pub(crate) fn new(alloc: Global, worker: &mut Worker) -> Self
         ensures begun { noted worker.old result ≡ worker.old }
-        ensures typed { AllByRecursion (AllByRecursion (IsCommand longest_blob)) result.log.items }
+        ensures typed { AllByRecursion (AllByRecursion (IsPathCommand longest_blob)) result.log.items }
         ensures lent { worker.new ≡ record worker.old { log = [] } }
     {
         let log = worker.lend_log(alloc);
@@ -51,7 +51,7 @@ impl WorkerState {
 
     /// Gives the worker what it has now.
     pub(crate) fn note(self, worker: &mut Worker)
-        requires typed { AllByRecursion (AllByRecursion (IsCommand longest_blob)) self.log.items }
+        requires typed { AllByRecursion (AllByRecursion (IsPathCommand longest_blob)) self.log.items }
         ensures has { worker.new ≡ noted worker.old self }
     {
         worker.note_turns(self.log, self.clock, self.served, self.stopped);

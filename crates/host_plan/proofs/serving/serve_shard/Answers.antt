@@ -5,7 +5,7 @@ use Rattle.record_text.specs.declared.value.Value.{Value}
 use Rattle.record_text.specs.declared.value.Value.TheVariants as values
 use Rattle.record_text.specs.Value.{IsOf}
 use Rattle.record_text.specs.Longest.{longest_blob}
-use Rattle.log_codec.specs.Command.{IsCommand}
+use Rattle.log_codec.specs.Command.{IsPathCommand}
 use Rattle.host_shard.specs.declared.link.Link.{Link}
 use Rattle.host_shard.specs.Chain.{IsChain, last_value}
 use Rattle.host_shard.specs.Content.{key_path}
@@ -44,7 +44,7 @@ returns-clause-typed g c =
     (frontier_kind longest_blob (shown c.args.shard.now) c.requires.own.0.kinds) in
     let chain = subst (λ (element : Element). IsChain tree key element.path element.value links) (sym c.pending-element.ensures.value)
     (subst (λ (ls : List Link). IsChain tree key c.args.shard.now.frontier c.args.shard.now.value ls) (sym c.as_slice-2.ensures.value) c.in_ok-links.ensures.chain) in
-    subst (AllByRecursion (IsCommand longest_blob)) (sym c.in_ok-commands.ensures.commands)
+    subst (AllByRecursion (IsPathCommand longest_blob)) (sym c.in_ok-commands.ensures.commands)
     (chain_typed longest_blob tree key c.pending-element.result links c.command_of-command.result c.at.result c.requires.own.1.whole c.requires.own.0.kinds kind chain
     c.pending-element.ensures.stamp c.pending-element.ensures.verifier c.in_ok-commands.ensures.stamp c.command_of-command.ensures.typed)
 

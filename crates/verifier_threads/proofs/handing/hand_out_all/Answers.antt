@@ -1,6 +1,6 @@
 use Rattle.std.proofs.Common.{◌≡◌, ℕ, suc, ◌+◌, ◌<◌, ◌++◌, List, [], length, map, get_or, set, refl, sym, ◌∙◌, ap, subst, arith}
 use Rattle.std.proofs.lemmas.List.{length-map}
-use Rattle.log_codec.specs.Log.{log_text}
+use Rattle.log_codec.specs.Log.{path_log_text}
 use Rattle.host_core.specs.World.{Worker, World, fresh, logs_of}
 use Rattle.host_core.specs.WorldEvent.{with_worker}
 use Rattle.host_shard.specs.Content.{Content}
@@ -38,8 +38,8 @@ loop-worker-preserved g c =
           (texts-length old.workers ∙ sym c.requires.each)
           (omega (arith, there, texts-length old.workers))
           c.clear.ensures.empty c.in_ok-hand_out.ensures.handed
-          (ap (λ (ws : List Worker). log_text (get_or ws n d).log) workers_are
-          ∙ ap (λ (w : Worker). log_text w.log) (changed-not with_no_log n old.workers d)
+          (ap (λ (ws : List Worker). path_log_text (get_or ws n d).log) workers_are
+          ∙ ap (λ (w : Worker). path_log_text w.log) (changed-not with_no_log n old.workers d)
           ∙ sym (text-at old.workers n d there))
           next;
     }

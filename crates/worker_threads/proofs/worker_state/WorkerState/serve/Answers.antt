@@ -1,7 +1,7 @@
 use Rattle.std.proofs.Common.{◌≡◌, ℕ, ◌+◌, true, List, [], ◌∷◌, ◌++◌, refl, sym, ◌∙◌, ap, rules}
 use Rattle.std.specs.List.{flat_map}
 use Rattle.log_codec.specs.declared.command.Command.{Command}
-use Rattle.log_codec.specs.Log.{log_text}
+use Rattle.log_codec.specs.Log.{path_log_text}
 use Rattle.verifier_feeds.specs.Feeds.{put_in}
 use Rattle.host_table.specs.Calls.{told_by}
 use Rattle.worker_threads.specs.declared.worker_state.WorkerState.{WorkerState}
@@ -24,9 +24,9 @@ returns-in_ok-put-in-Some-2-clause-goes_on g c = λ before worker has.
 pub returns-in_ok-put-in-Some-2-clause-put : goal.returns-in_ok-put-in-Some-2-clause-put
 returns-in_ok-put-in-Some-2-clause-put g c = λ before.
     let log : c.push_reserved.new.self.items ≡ c.args.self.now.log.items ++ c.in-Some-2.plan.commands ∷ [] = search rules in
-    let put : put_in c.put.new.self ≡ put_in c.args.outbox.now ++ log_text c.in-Some-2.plan.commands = search rules in
-    put ∙ ap (λ (bytes : List ℕ). bytes ++ log_text c.in-Some-2.plan.commands) before
-    ∙ sym (ap (λ (deeds : List (List Command)). log_text (flat_map (λ c. c) deeds)) log ∙ logged-more c.args.self.now.log.items c.in-Some-2.plan.commands)
+    let put : put_in c.put.new.self ≡ put_in c.args.outbox.now ++ path_log_text c.in-Some-2.plan.commands = search rules in
+    put ∙ ap (λ (bytes : List ℕ). bytes ++ path_log_text c.in-Some-2.plan.commands) before
+    ∙ sym (ap (λ (deeds : List (List Command)). path_log_text (flat_map (λ c. c) deeds)) log ∙ logged-more c.args.self.now.log.items c.in-Some-2.plan.commands)
 
 pub returns-in-None-clause-goes_on : goal.returns-in-None-clause-goes_on
 returns-in-None-clause-goes_on g c = λ before worker has.

@@ -1,5 +1,5 @@
 use Rattle.std.proofs.Common.{[], ◌∙◌, sym, ap, subst}
-use Rattle.log_codec.specs.Log.{log_text}
+use Rattle.log_codec.specs.Log.{path_log_text}
 use Rattle.host_core.specs.World.{Worker}
 use Rattle.host_table.specs.Calls.{told_by}
 use Rattle.host_table.specs.Hands.{worker_of}
@@ -25,7 +25,7 @@ returns g c =
       put = record {
         put = λ fine.
             at_ok c.serve_part.result (sym c.is_err-self.ensures.value ∙ fine) c.serve_part.ensures.put
-            ∙ sym (ap (λ (w : Worker). log_text w.log) has);
+            ∙ sym (ap (λ (w : Worker). path_log_text w.log) has);
         lane = c.serve_part.ensures.lane;
       };
     }
