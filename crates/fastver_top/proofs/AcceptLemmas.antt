@@ -24,7 +24,7 @@ use Rattle.report_text.specs.Answer.{Answer, Reading, Writing}
 use Rattle.fv_outside.specs.declared.failure.Failure.{Failure}
 use Rattle.fv_outside.specs.declared.failure.Failure.TheVariants as failures
 use Rattle.report_text.specs.Ending.{failure_status}
-use Rattle.fastver_top.specs.Accepting.{are_tagged, is_within, acceptance_of, acceptance_answer, evidence_answer, accept_answer, IsAnswered, IsBeforeAnswer, AnswersWhole}
+use Rattle.fastver_top.specs.Accepting.{are_tagged, is_within, acceptance_of, acceptance_answer, evidence_answer, accept_answer, IsAcceptStatus, IsAnswered, IsBeforeAnswer, AnswersWhole}
 use Rattle.fastver_top.proofs.ReadLemmas.{all_taken}
 
 -- ---- the one answer to a receipt and a certificate
@@ -82,13 +82,13 @@ evidence-answered functions (Err bad) = tt
 pub answer-answered : (functions : DigestFunctions) (bytes : List ℕ) (status : Status) → status ≡ (accept_answer functions bytes).status → IsAnswered status
 answer-answered functions bytes status is = subst IsAnswered (sym is) (evidence-answered functions (evidence_of bytes))
 
--- a reading that stopped is before any answer
-pub stop-before : (limit : ℕ) (stop : Failure) → (stop ≡ failures.VaultFault → ⊥) → (stop ≡ failures.WriteFault → ⊥) → IsBeforeAnswer (failure_status limit stop)
-stop-before limit failures.Memory vault sink = tt
-stop-before limit failures.ReadFault vault sink = tt
-stop-before limit failures.InputLimit vault sink = tt
-stop-before limit failures.VaultFault vault sink = absurd (vault refl)
-stop-before limit failures.WriteFault vault sink = absurd (sink refl)
+-- a reading that stopped ends as an acceptance can
+pub stop-accept : (limit : ℕ) (stop : Failure) → (stop ≡ failures.VaultFault → ⊥) → (stop ≡ failures.WriteFault → ⊥) → IsAcceptStatus (failure_status limit stop)
+stop-accept limit failures.Memory vault sink = tt
+stop-accept limit failures.ReadFault vault sink = tt
+stop-accept limit failures.InputLimit vault sink = tt
+stop-accept limit failures.VaultFault vault sink = absurd (vault refl)
+stop-accept limit failures.WriteFault vault sink = absurd (sink refl)
 
 -- what is written of a receipt and a certificate comes behind what was read
 pub acceptance-not_before : (acceptance : Acceptance) → IsBeforeAnswer (acceptance_answer acceptance).status → ⊥

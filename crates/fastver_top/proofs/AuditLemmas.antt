@@ -9,7 +9,7 @@ use Rattle.lamport_clocks.specs.declared.header.Header.{Header}
 use Rattle.record_text.specs.declared.exhibit.Exhibit.{Exhibit}
 use Rattle.record_text.specs.declared.exhibit.Exhibit.TheVariants.{Clean}
 use Rattle.record_text.specs.declared.operation.Operation.{Operation}
-use Rattle.record_text.specs.Longest.{longest_blob}
+use Rattle.record_text.specs.Format.{LogFormat, format_of}
 use Rattle.report_text.specs.declared.ending.BundleEnd.{BundleEnd}
 use Rattle.report_text.specs.declared.ending.BundleEnd.TheVariants as bundles
 use Rattle.report_text.specs.Ending.{status_of, failure_status}
@@ -19,7 +19,7 @@ use Rattle.report_text.proofs.AnsweringLaws.{of_taken_any, took_more, answers-en
 use Rattle.bundle_frames.specs.Extent.{reading_end}
 use Rattle.fv_outside.specs.declared.failure.Failure.{Failure}
 use Rattle.fv_outside.specs.declared.failure.Failure.TheVariants as failures
-use Rattle.log_codec.specs.declared.command.Command.{Command}
+use Rattle.log_codec.specs.declared.log_command.LogCommand.{LogCommand}
 use Rattle.log_codec.specs.Log.{Log, read_log}
 use Rattle.soundness.specs.History.{histories_of}
 use Rattle.soundness.specs.Collision.{Collides}
@@ -37,16 +37,16 @@ use Rattle.fastver_top.specs.Auditing.{audit_end_status, audit_answer_by, audit_
 -- ---- what was read
 
 -- the commands of logs, read one by one, are those of the logs that were read
-commands_read : (logs : List (List ℕ)) → commands_of longest_blob logs ≡ map (λ (log : Log). log.commands) (map (read_log longest_blob) logs)
-commands_read [] = refl
-commands_read (log ∷ logs) = ap (λ (more : List (List Command)). (read_log longest_blob log).commands ∷ more) (commands_read logs)
+commands_read : (format : LogFormat) (logs : List (List ℕ)) → commands_of format logs ≡ map (λ (log : Log). log.commands) (map (read_log format) logs)
+commands_read format [] = refl
+commands_read format (log ∷ logs) = ap (λ (more : List (List LogCommand)). (read_log format log).commands ∷ more) (commands_read format logs)
 
 -- the exhibit over the certified epochs of logs is that of what was read
 pub exhibit_read : (functions : DigestFunctions) (found : Option Header) (header : Header) (logs : List (List ℕ)) (certified : ℕ)
     → found ≡ Some header → certified ≡ certified_at functions found logs
     → exhibit_of header.first certified (histories_read (scheme_of functions header) header logs) ≡ exhibit_at functions found logs
 exhibit_read functions found header logs certified is count =
-    ap (λ (commands : List (List Command)). exhibit_of header.first certified (histories_of (scheme_of functions header) header commands)) (commands_read logs)
+    ap (λ (commands : List (List LogCommand)). exhibit_of header.first certified (histories_of (scheme_of functions header) header commands)) (commands_read (format_of header) logs)
     ∙ ap (λ (n : ℕ). exhibit_of header.first n (histories_at (scheme_of functions header) header logs))
     (count ∙ ap (λ (o : Option Header). certified_at functions o logs) is)
     ∙ sym (ap (λ (o : Option Header). exhibit_at functions o logs) is)

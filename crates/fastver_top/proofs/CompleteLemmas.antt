@@ -17,10 +17,10 @@ use Rattle.host_world.specs.declared.settings.Settings.{Settings}
 use Rattle.verifier_threads.specs.declared.ending.RunEnd.{RunEnd}
 use Rattle.verifier_threads.specs.InRounds.{Logs}
 use Rattle.verifier_threads.specs.Serving.{AreOfRun, end_by, status_at}
-use Rattle.fastver_top.specs.Running.{Keeping, RunsTo, settings_for}
+use Rattle.fastver_top.specs.Running.{Keeping, IsRunStatus, RunsTo, settings_for}
 use Rattle.fastver_top.specs.Generating.{GensTo, IsGenStatus, script_for}
 use Rattle.fastver_top.specs.Accepting.{AnswersWhole, IsAnswered, IsAcceptStatus}
-use Rattle.fastver_top.specs.Answers.{IsAuditStatus, IsRunStatus}
+use Rattle.fastver_top.specs.Auditing.{IsAuditStatus}
 use Rattle.fastver_top.specs.Complete.{Had, IsOrWantsMemory, NoClockEnds, NoneFailed}
 
 -- ---- what was read
@@ -66,31 +66,42 @@ module _ (most : ℕ) (bytes : List ℕ) (reading : Reading) (writing : Writing)
 
     pub audit-answered : (result : Status) → IsAuditStatus result → AnswersTo answer reading_end most result reading writing
         → IsOrWantsMemory result (answer bytes).status
-    audit-answered result (inl can) answers = check-answered result can answers
-    audit-answered result (inr is) answers = ends-so result answers (subst IsEnd (sym is) tt)
+    audit-answered (statuses.Done epochs) can answers = check-answered (statuses.Done epochs) can answers
+    audit-answered statuses.Usage can answers = check-answered statuses.Usage can answers
+    audit-answered statuses.Memory can answers = check-answered statuses.Memory can answers
+    audit-answered statuses.ReadFault can answers = check-answered statuses.ReadFault can answers
+    audit-answered statuses.WriteFault can answers = check-answered statuses.WriteFault can answers
+    audit-answered statuses.VaultFault can answers = check-answered statuses.VaultFault can answers
+    audit-answered (statuses.BadScript line cause) can answers = check-answered (statuses.BadScript line cause) can answers
+    audit-answered (statuses.BadBundle offset) can answers = check-answered (statuses.BadBundle offset) can answers
+    audit-answered (statuses.Refused verifier index refusal) can answers = check-answered (statuses.Refused verifier index refusal) can answers
+    audit-answered (statuses.Unbalanced epoch added evicted) can answers = check-answered (statuses.Unbalanced epoch added evicted) can answers
+    audit-answered (statuses.ClockEnd worker at) can answers = check-answered (statuses.ClockEnd worker at) can answers
+    audit-answered statuses.NotTagged can answers = check-answered statuses.NotTagged can answers
+    audit-answered statuses.NotCertified can answers = check-answered statuses.NotCertified can answers
+    audit-answered statuses.Exhibit can answers = ends-so statuses.Exhibit answers tt
+    audit-answered (statuses.InputLimit taken) can answers = check-answered (statuses.InputLimit taken) can answers
 
     said-so : (result : Status) → AnswersWhole answer most result reading writing → IsAnswered result → IsOrWantsMemory result (answer bytes).status
     said-so result answers said = inl (of_bytes (λ b. result ≡ (answer b).status) reading.left bytes had.bytes_are (answers.status said))
 
     pub accept-answered : (result : Status) → IsAcceptStatus result → AnswersWhole answer most result reading writing
         → IsOrWantsMemory result (answer bytes).status
-    accept-answered result (inl said) answers = said-so result answers said
-    accept-answered result (inr (inr is)) answers = absurd (fine.sink (answers.write_fault is))
-    accept-answered (statuses.Done epochs) (inr (inl can)) answers = absurd can
-    accept-answered statuses.Usage (inr (inl can)) answers = absurd can
-    accept-answered statuses.Memory (inr (inl can)) answers = inr refl
-    accept-answered statuses.ReadFault (inr (inl can)) answers = absurd (fine.source (answers.read_fault refl))
-    accept-answered statuses.WriteFault (inr (inl can)) answers = absurd can
-    accept-answered statuses.VaultFault (inr (inl can)) answers = absurd can
-    accept-answered (statuses.BadScript line cause) (inr (inl can)) answers = said-so (statuses.BadScript line cause) answers tt
-    accept-answered (statuses.BadBundle offset) (inr (inl can)) answers = absurd can
-    accept-answered (statuses.Refused verifier index refusal) (inr (inl can)) answers = absurd can
-    accept-answered (statuses.Unbalanced epoch added evicted) (inr (inl can)) answers = absurd can
-    accept-answered (statuses.ClockEnd worker at) (inr (inl can)) answers = absurd can
-    accept-answered statuses.NotTagged (inr (inl can)) answers = absurd can
-    accept-answered statuses.NotCertified (inr (inl can)) answers = absurd can
-    accept-answered statuses.Exhibit (inr (inl can)) answers = absurd can
-    accept-answered (statuses.InputLimit taken) (inr (inl can)) answers =
+    accept-answered (statuses.Done epochs) can answers = said-so (statuses.Done epochs) answers tt
+    accept-answered statuses.Usage can answers = absurd can
+    accept-answered statuses.Memory can answers = inr refl
+    accept-answered statuses.ReadFault can answers = absurd (fine.source (answers.read_fault refl))
+    accept-answered statuses.WriteFault can answers = absurd (fine.sink (answers.write_fault refl))
+    accept-answered statuses.VaultFault can answers = absurd can
+    accept-answered (statuses.BadScript line cause) can answers = said-so (statuses.BadScript line cause) answers tt
+    accept-answered (statuses.BadBundle offset) can answers = absurd can
+    accept-answered (statuses.Refused verifier index refusal) can answers = absurd can
+    accept-answered (statuses.Unbalanced epoch added evicted) can answers = absurd can
+    accept-answered (statuses.ClockEnd worker at) can answers = absurd can
+    accept-answered statuses.NotTagged can answers = said-so statuses.NotTagged answers tt
+    accept-answered statuses.NotCertified can answers = said-so statuses.NotCertified answers tt
+    accept-answered statuses.Exhibit can answers = absurd can
+    accept-answered (statuses.InputLimit taken) can answers =
         absurd (not_past most bytes reading.left reading.left_after had.bytes_are had.few (answers.limit taken refl).1)
 
 -- ---- a run and a load

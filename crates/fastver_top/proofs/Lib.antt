@@ -8,3 +8,4 @@ mod LoadLemmas
 mod AcceptLemmas
 mod AnswerLemmas
 mod CompleteLemmas
+mod RulesLemmas

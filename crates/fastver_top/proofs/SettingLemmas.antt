@@ -22,6 +22,7 @@ settings_in_range numbers are = record {
     some_end = are.some_end;
     end = are.end;
   };
+  by_path = refl;
   cache = refl;
   shards = record { bits = are.shards.bits; some = are.shards.some; most = are.shards.most; power = are.shards.power };
   hot = some_touches numbers.hot 1000000 are.hot;

@@ -1,5 +1,5 @@
 -- What is answered to a receipt and a certificate that are handed in as text: whether the receipt is accepted.
-use Rattle.std.specs.Prelude.{◌≡◌, ◌≢◌, ◌⊎◌, ℕ, ◌+◌, ◌&&◌, nat_le, Bool, List, [], ◌++◌, IfSome, Result, Ok, Err, codes, if◌then◌else◌}
+use Rattle.std.specs.Prelude.{◌≡◌, ◌≢◌, ◌⊎◌, ℕ, ◌+◌, ◌&&◌, nat_le, Bool, List, [], ◌∷◌, ◌++◌, IfSome, Result, Ok, Err, codes, if◌then◌else◌}
 use Rattle.std.specs.Io.KnownBytes.{IsAtEnd}
 use Rattle.fv_outside.specs.Consumed.{TookAtMost, TookJust}
 use Rattle.fv_outside.specs.Faults.{Rose}
@@ -18,6 +18,8 @@ use Rattle.receipt_lines.specs.declared.evidence.BadLine.{BadLine}
 use Rattle.receipt_lines.specs.Evidence.{evidence_of}
 use Rattle.report_text.specs.declared.status.Status.{Status}
 use Rattle.report_text.specs.declared.status.Status.TheVariants as statuses
+use Rattle.report_text.specs.Kinds.{StatusKind, IsOneOf}
+use Rattle.report_text.specs.Kinds as kinds
 use Rattle.report_text.specs.Answer.{Answer, Reading, Writing}
 use Rattle.report_text.specs.Lines.{operation_line}
 use Rattle.report_text.specs.Status.{last_line}
@@ -68,45 +70,29 @@ sha_accept_answer key bytes = accept_answer (sha_under key) bytes
 
 -- ---- statuses
 
+-- the kinds of status that come with the answer to all that was read
+abbrev pub answered_kinds : List StatusKind
+answered_kinds = kinds.done ∷ kinds.bad_script ∷ kinds.not_tagged ∷ kinds.not_certified ∷ []
+
+-- those that come only where no receipt and certificate were read, so that nothing is written
+abbrev pub before_answer_kinds : List StatusKind
+before_answer_kinds = kinds.memory ∷ kinds.read_fault ∷ kinds.bad_script ∷ kinds.input_limit ∷ []
+
+-- the kinds of status that an acceptance can end with
+abbrev pub accept_kinds : List StatusKind
+accept_kinds = kinds.write_fault ∷ kinds.done ∷ kinds.not_tagged ∷ kinds.not_certified ∷ before_answer_kinds
+
 -- a status that comes with the answer to all that was read
 abbrev pub IsAnswered : Status → Type 0
-IsAnswered (statuses.Done epochs) = Unit {0}
-IsAnswered statuses.Usage = ⊥
-IsAnswered statuses.Memory = ⊥
-IsAnswered statuses.ReadFault = ⊥
-IsAnswered statuses.WriteFault = ⊥
-IsAnswered statuses.VaultFault = ⊥
-IsAnswered (statuses.BadScript line cause) = Unit {0}
-IsAnswered (statuses.BadBundle offset) = ⊥
-IsAnswered (statuses.Refused verifier index refusal) = ⊥
-IsAnswered (statuses.Unbalanced epoch added evicted) = ⊥
-IsAnswered (statuses.ClockEnd worker at) = ⊥
-IsAnswered statuses.NotTagged = Unit {0}
-IsAnswered statuses.NotCertified = Unit {0}
-IsAnswered statuses.Exhibit = ⊥
-IsAnswered (statuses.InputLimit taken) = ⊥
+IsAnswered = IsOneOf answered_kinds
 
--- a status that comes only where no receipt and certificate were read, so that nothing is written
+-- a status that comes only where no receipt and certificate were read
 abbrev pub IsBeforeAnswer : Status → Type 0
-IsBeforeAnswer (statuses.Done epochs) = ⊥
-IsBeforeAnswer statuses.Usage = ⊥
-IsBeforeAnswer statuses.Memory = Unit {0}
-IsBeforeAnswer statuses.ReadFault = Unit {0}
-IsBeforeAnswer statuses.WriteFault = ⊥
-IsBeforeAnswer statuses.VaultFault = ⊥
-IsBeforeAnswer (statuses.BadScript line cause) = Unit {0}
-IsBeforeAnswer (statuses.BadBundle offset) = ⊥
-IsBeforeAnswer (statuses.Refused verifier index refusal) = ⊥
-IsBeforeAnswer (statuses.Unbalanced epoch added evicted) = ⊥
-IsBeforeAnswer (statuses.ClockEnd worker at) = ⊥
-IsBeforeAnswer statuses.NotTagged = ⊥
-IsBeforeAnswer statuses.NotCertified = ⊥
-IsBeforeAnswer statuses.Exhibit = ⊥
-IsBeforeAnswer (statuses.InputLimit taken) = Unit {0}
+IsBeforeAnswer = IsOneOf before_answer_kinds
 
 -- a status that an acceptance can end with
 abbrev pub IsAcceptStatus : Status → Type 0
-IsAcceptStatus status = IsAnswered status ⊎ (IsBeforeAnswer status ⊎ status ≡ statuses.WriteFault)
+IsAcceptStatus = IsOneOf accept_kinds
 
 -- ---- the whole
 

@@ -1,19 +1,17 @@
 -- What the program answers to what it was asked.
-use Rattle.std.specs.Prelude.{◌≡◌, ◌⊎◌, ℕ, List, Option, None}
+use Rattle.std.specs.Prelude.{ℕ, List, Option, None}
 use Rattle.record_hash.specs.ShaDigests.{sha_under}
 use Rattle.program_words.specs.declared.words.Asked.{Asked}
 use Rattle.program_words.specs.declared.words.Asked.TheVariants.{Check, Audit, Run, Gen, Accept}
 use Rattle.report_text.specs.declared.status.Status.{Status}
-use Rattle.report_text.specs.declared.status.Status.TheVariants as statuses
 use Rattle.report_text.specs.Answer.{Reading, Writing, AnswersTo}
 use Rattle.bundle_frames.specs.Extent.{reading_end}
-use Rattle.check_core.specs.Outcomes.{IsCheckStatus}
 use Rattle.bundle_report.specs.Answer.{sha_check_answer}
 use Rattle.bundle_report.specs.Headline.{IsShaSound}
 use Rattle.fastver_top.specs.Auditing.{sha_audit_answer, ExhibitCollides}
 use Rattle.fastver_top.specs.Running.{Keeping, RunsTo}
-use Rattle.fastver_top.specs.Generating.{GensTo, IsGenStatus}
-use Rattle.fastver_top.specs.Accepting.{sha_accept_answer, AnswersWhole, IsAcceptStatus}
+use Rattle.fastver_top.specs.Generating.{GensTo}
+use Rattle.fastver_top.specs.Accepting.{sha_accept_answer, AnswersWhole}
 
 -- the key that was given
 abbrev pub asked_key : Asked → List ℕ
@@ -32,41 +30,6 @@ AnswersFor (Audit key) most result reading writing keeping = AnswersTo (sha_audi
 AnswersFor (Run run) most result reading writing keeping = RunsTo (sha_under run.key) run most result reading writing keeping
 AnswersFor (Gen load) most result reading writing keeping = GensTo (sha_under load.key) load result writing keeping
 AnswersFor (Accept key) most result reading writing keeping = AnswersWhole (sha_accept_answer key) most result reading writing
-
--- a status that an audit can end with
-abbrev pub IsAuditStatus : Status → Type 0
-IsAuditStatus status = IsCheckStatus status ⊎ status ≡ statuses.Exhibit
-
--- a status that a run can end with
-abbrev pub IsRunStatus : Status → Type 0
-IsRunStatus (statuses.Done epochs) = Unit {0}
-IsRunStatus statuses.Usage = ⊥
-IsRunStatus statuses.Memory = Unit {0}
-IsRunStatus statuses.ReadFault = Unit {0}
-IsRunStatus statuses.WriteFault = Unit {0}
-IsRunStatus statuses.VaultFault = Unit {0}
-IsRunStatus (statuses.BadScript line cause) = Unit {0}
-IsRunStatus (statuses.BadBundle offset) = ⊥
-IsRunStatus (statuses.Refused verifier index refusal) = ⊥
-IsRunStatus (statuses.Unbalanced epoch added evicted) = ⊥
-IsRunStatus (statuses.ClockEnd worker at) = Unit {0}
-IsRunStatus statuses.NotTagged = ⊥
-IsRunStatus statuses.NotCertified = ⊥
-IsRunStatus statuses.Exhibit = ⊥
-IsRunStatus (statuses.InputLimit taken) = Unit {0}
-
--- a status that the program can end with
-abbrev pub IsProgramStatus : Status → Type 0
-IsProgramStatus status =
-    IsAuditStatus status ⊎ (IsRunStatus status ⊎ (IsGenStatus status ⊎ (IsAcceptStatus status ⊎ status ≡ statuses.Usage)))
-
--- a status that the program can end with, by what was asked
-abbrev pub IsStatusOf : Asked → Status → Type 0
-IsStatusOf (Check check) status = IsCheckStatus status
-IsStatusOf (Audit key) status = IsAuditStatus status
-IsStatusOf (Run run) status = IsRunStatus status
-IsStatusOf (Gen load) status = IsGenStatus status
-IsStatusOf (Accept key) status = IsAcceptStatus status
 
 -- the bundle that it is about: what the source has, and of a run or a load what the vault then holds; an acceptance is about
 -- none

@@ -1,5 +1,5 @@
 -- What an audit answers to bytes: what there is to exhibit, how the report of a check ends, and the status.
-use Rattle.std.specs.Prelude.{ℕ, false, List, [], ◌++◌}
+use Rattle.std.specs.Prelude.{ℕ, false, List, [], ◌∷◌, ◌++◌}
 use Rattle.record_hash.specs.Functions.{DigestFunctions}
 use Rattle.record_hash.specs.ShaDigests.{sha_under}
 use Rattle.record_text.specs.declared.exhibit.Exhibit.{Exhibit}
@@ -7,10 +7,13 @@ use Rattle.record_text.specs.declared.exhibit.Exhibit.TheVariants.{Clean, String
 use Rattle.report_text.specs.declared.status.Status.{Status}
 use Rattle.report_text.specs.declared.status.Status.TheVariants as statuses
 use Rattle.report_text.specs.declared.ending.BundleEnd.{BundleEnd}
+use Rattle.report_text.specs.Kinds.{StatusKind, IsOneOf}
+use Rattle.report_text.specs.Kinds as kinds
 use Rattle.report_text.specs.Ending.{status_of}
 use Rattle.report_text.specs.Answer.{Answer}
 use Rattle.report_text.specs.Exhibit.{exhibit_text}
 use Rattle.report_text.specs.Status.{last_line}
+use Rattle.check_core.specs.Outcomes.{check_kinds}
 use Rattle.bundle_report.specs.Logged.{Logged, logged_of}
 use Rattle.bundle_report.specs.Answer.{certified_at, answer_by}
 use Rattle.fastver_top.specs.declared.audit_end.AuditEnd.{AuditEnd}
@@ -52,6 +55,20 @@ audit_answer functions bytes = audit_answer_by functions (logged_of bytes)
 -- the same with SHA-256, and with HMAC under a key
 abbrev pub sha_audit_answer : List ℕ → List ℕ → Answer
 sha_audit_answer key bytes = audit_answer (sha_under key) bytes
+
+-- ---- statuses
+
+-- the kinds of status that an audit can end with: those of a check, and `exhibit`
+abbrev pub audit_kinds : List StatusKind
+audit_kinds = kinds.exhibit ∷ check_kinds
+
+-- those with which not all was read, so that nothing is written
+abbrev pub unaudited_kinds : List StatusKind
+unaudited_kinds = kinds.memory ∷ kinds.read_fault ∷ kinds.input_limit ∷ []
+
+-- a status that an audit can end with
+abbrev pub IsAuditStatus : Status → Type 0
+IsAuditStatus = IsOneOf audit_kinds
 
 -- the exhibit of bytes is a real collision: two different strings with one digest, or two different multisets with one sum
 abbrev pub ExhibitCollides : DigestFunctions → List ℕ → Type 0

@@ -1,11 +1,13 @@
 -- What a load that is made of a seed does: which load it is, how it is served, and what stands in the vault and the sink then.
-use Rattle.std.specs.Prelude.{◌≡◌, ◌⊎◌, List}
+use Rattle.std.specs.Prelude.{◌≡◌, ◌⊎◌, List, [], ◌∷◌}
 use Rattle.fv_outside.specs.Faults.{Rose}
 use Rattle.record_hash.specs.Functions.{DigestFunctions}
 use Rattle.program_words.specs.declared.load_words.GenWords.{GenWords}
 use Rattle.program_words.specs.declared.load_words.LoadNumbers.{LoadNumbers}
 use Rattle.report_text.specs.declared.status.Status.{Status}
 use Rattle.report_text.specs.declared.status.Status.TheVariants as statuses
+use Rattle.report_text.specs.Kinds.{StatusKind, IsOneOf}
+use Rattle.report_text.specs.Kinds as kinds
 use Rattle.report_text.specs.Answer.{IsEnd, Writing}
 use Rattle.script_text.specs.declared.shape.Shape.{Shape}
 use Rattle.script_text.specs.declared.task.Task.{Task}
@@ -42,23 +44,13 @@ account_for numbers = accounts.Summary (load_for numbers)
 
 -- ---- how it ends
 
+-- the kinds of status that it can end with
+abbrev pub gen_kinds : List StatusKind
+gen_kinds = kinds.done ∷ kinds.memory ∷ kinds.write_fault ∷ kinds.vault_fault ∷ kinds.clock_end ∷ []
+
 -- a status that it can end with
 abbrev pub IsGenStatus : Status → Type 0
-IsGenStatus (statuses.Done epochs) = Unit {0}
-IsGenStatus statuses.Usage = ⊥
-IsGenStatus statuses.Memory = Unit {0}
-IsGenStatus statuses.ReadFault = ⊥
-IsGenStatus statuses.WriteFault = Unit {0}
-IsGenStatus statuses.VaultFault = Unit {0}
-IsGenStatus (statuses.BadScript line cause) = ⊥
-IsGenStatus (statuses.BadBundle offset) = ⊥
-IsGenStatus (statuses.Refused verifier index refusal) = ⊥
-IsGenStatus (statuses.Unbalanced epoch added evicted) = ⊥
-IsGenStatus (statuses.ClockEnd worker at) = Unit {0}
-IsGenStatus statuses.NotTagged = ⊥
-IsGenStatus statuses.NotCertified = ⊥
-IsGenStatus statuses.Exhibit = ⊥
-IsGenStatus (statuses.InputLimit taken) = ⊥
+IsGenStatus = IsOneOf gen_kinds
 
 -- The load is served, and the status says how that ended.
 pub record EndsSummed (functions : DigestFunctions) (words : GenWords) (result : Status) (outputs : Outputs) : Type 0 where

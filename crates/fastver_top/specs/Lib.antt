@@ -3,6 +3,7 @@ pub mod Auditing
 pub mod Running
 pub mod Generating
 pub mod Accepting
+pub mod Rules
 pub mod Answers
 pub mod Complete
 pub use Rattle.check_core.specs

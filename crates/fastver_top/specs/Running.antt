@@ -1,5 +1,5 @@
 -- What a run of a script does: what it reads, how it serves it, and what stands in the vault and the sink then.
-use Rattle.std.specs.Prelude.{◌≡◌, Bool, ◌⊎◌, ◌≢◌, ℕ, ◌+◌, List, ◌++◌, Option, None, Some, IfSome, Result, Ok, Err, IfOk}
+use Rattle.std.specs.Prelude.{◌≡◌, Bool, ◌⊎◌, ◌≢◌, ℕ, ◌+◌, List, [], ◌∷◌, ◌++◌, Option, None, Some, IfSome, Result, Ok, Err, IfOk}
 use Rattle.std.specs.Io.KnownBytes.{IsAtEnd}
 use Rattle.fv_outside.specs.Consumed.{TookAtMost, TookJust}
 use Rattle.fv_outside.specs.Faults.{Rose}
@@ -11,6 +11,8 @@ use Rattle.program_words.specs.declared.host_words.HostNumbers.{HostNumbers}
 use Rattle.program_words.specs.declared.host_words.RunWords.{RunWords}
 use Rattle.report_text.specs.declared.status.Status.{Status}
 use Rattle.report_text.specs.declared.status.Status.TheVariants as statuses
+use Rattle.report_text.specs.Kinds.{StatusKind, IsOneOf}
+use Rattle.report_text.specs.Kinds as kinds
 use Rattle.report_text.specs.Answer.{IsEnd, Reading, Writing}
 use Rattle.report_text.specs.Status.{last_line}
 use Rattle.fv_outside.specs.declared.failure.Failure.TheVariants as failures
@@ -40,41 +42,31 @@ abbrev pub script_stopped : ℕ → ScriptStop → Status
 script_stopped limit (scripts.Failure failure) = failure_status limit failure
 script_stopped limit (scripts.BadScript line cause) = statuses.BadScript line cause
 
+-- the kinds of status that a run can end with
+abbrev pub run_kinds : List StatusKind
+run_kinds =
+    kinds.done ∷ kinds.memory ∷ kinds.read_fault ∷ kinds.write_fault ∷ kinds.vault_fault
+    ∷ kinds.bad_script ∷ kinds.clock_end ∷ kinds.input_limit ∷ []
+
+-- those that come only where no whole and good script was read
+abbrev pub before_run_kinds : List StatusKind
+before_run_kinds = kinds.read_fault ∷ kinds.bad_script ∷ kinds.input_limit ∷ []
+
+-- those that come only behind a whole and good script
+abbrev pub behind_script_kinds : List StatusKind
+behind_script_kinds = kinds.done ∷ kinds.write_fault ∷ kinds.vault_fault ∷ kinds.clock_end ∷ []
+
+-- a status that a run can end with
+abbrev pub IsRunStatus : Status → Type 0
+IsRunStatus = IsOneOf run_kinds
+
 -- a status that comes only where no whole and good script was read
 abbrev pub IsBeforeRun : Status → Type 0
-IsBeforeRun (statuses.Done epochs) = ⊥
-IsBeforeRun statuses.Usage = ⊥
-IsBeforeRun statuses.Memory = ⊥
-IsBeforeRun statuses.ReadFault = Unit {0}
-IsBeforeRun statuses.WriteFault = ⊥
-IsBeforeRun statuses.VaultFault = ⊥
-IsBeforeRun (statuses.BadScript line cause) = Unit {0}
-IsBeforeRun (statuses.BadBundle offset) = ⊥
-IsBeforeRun (statuses.Refused verifier index refusal) = ⊥
-IsBeforeRun (statuses.Unbalanced epoch added evicted) = ⊥
-IsBeforeRun (statuses.ClockEnd worker at) = ⊥
-IsBeforeRun statuses.NotTagged = ⊥
-IsBeforeRun statuses.NotCertified = ⊥
-IsBeforeRun statuses.Exhibit = ⊥
-IsBeforeRun (statuses.InputLimit taken) = Unit {0}
+IsBeforeRun = IsOneOf before_run_kinds
 
 -- a status that comes only behind a whole and good script
 abbrev pub IsBehindScript : Status → Type 0
-IsBehindScript (statuses.Done epochs) = Unit {0}
-IsBehindScript statuses.Usage = ⊥
-IsBehindScript statuses.Memory = ⊥
-IsBehindScript statuses.ReadFault = ⊥
-IsBehindScript statuses.WriteFault = Unit {0}
-IsBehindScript statuses.VaultFault = Unit {0}
-IsBehindScript (statuses.BadScript line cause) = ⊥
-IsBehindScript (statuses.BadBundle offset) = ⊥
-IsBehindScript (statuses.Refused verifier index refusal) = ⊥
-IsBehindScript (statuses.Unbalanced epoch added evicted) = ⊥
-IsBehindScript (statuses.ClockEnd worker at) = Unit {0}
-IsBehindScript statuses.NotTagged = ⊥
-IsBehindScript statuses.NotCertified = ⊥
-IsBehindScript statuses.Exhibit = ⊥
-IsBehindScript (statuses.InputLimit taken) = ⊥
+IsBehindScript = IsOneOf behind_script_kinds
 
 -- ---- what is read
 

@@ -14,8 +14,7 @@ ghost use Rattle.collision_exhibit.specs.Audited.{AreAudited, audited_courses};
 ghost use Rattle.check_core.specs.Intake.{logs_in, logged};
 ghost use Rattle.bundle_report.specs.Answer.{certified_at, EndsAs};
 ghost use Rattle.bundle_report.specs.Headline.{exhibit_at};
-ghost use Rattle.fastver_top.specs.Auditing.{audit_end, audit_end_status, audit_of, audit_answer_by, audit_answer, ExhibitCollides};
-ghost use Rattle.fastver_top.specs.Answers.{IsAuditStatus};
+ghost use Rattle.fastver_top.specs.Auditing.{audit_end, audit_end_status, audit_of, audit_answer_by, audit_answer, ExhibitCollides, IsAuditStatus};
 
 use crate::audit_end::AuditEnd;
 use base_words::Memory;

@@ -1,5 +1,5 @@
-//! What can keep the program from its answer. This function does nothing: its contract is the law.
-ghost use Rattle.std.specs.Prelude.{◌≡◌, ℕ, List, length, Ok};
+//! What can keep the program from its answer, and which words are refused. These functions do nothing: their contracts are the laws.
+ghost use Rattle.std.specs.Prelude.{◌≡◌, ◌⊎◌, ℕ, List, length, Ok, None, Option};
 ghost use Rattle.record_hash.specs.ShaDigests.{sha_under};
 ghost use Rattle.program_words.specs.declared.words.Asked.{Asked};
 ghost use Rattle.program_words.specs.declared.words.CheckWords.{CheckWords};
@@ -14,7 +14,8 @@ ghost use Rattle.fastver_top.specs.Auditing.{sha_audit_answer};
 ghost use Rattle.fastver_top.specs.Running.{Keeping, settings_for};
 ghost use Rattle.fastver_top.specs.Generating.{script_for};
 ghost use Rattle.fastver_top.specs.Accepting.{sha_accept_answer};
-ghost use Rattle.fastver_top.specs.Answers.{AnswersFor, IsStatusOf};
+ghost use Rattle.fastver_top.specs.Answers.{AnswersFor};
+ghost use Rattle.fastver_top.specs.Rules.{CanEndWith, IsStatusOf, rules_for};
 ghost use Rattle.fastver_top.specs.Complete.{Had, IsOrWantsMemory, NoClockEnds, NoneFailed};
 
 /// Where words are accepted, no object failed and the input is within the limit, nothing but want of memory keeps the program
@@ -43,4 +44,12 @@ pub fn only_memory_may_be_wanting()
         → IsStatusOf (Asked.Accept key) result → AnswersFor (Asked.Accept key) most result reading writing keeping
         → NoneFailed reading writing keeping → Had most bytes reading
         → IsOrWantsMemory result (sha_accept_answer key bytes).status }
+{}
+
+/// What the table of rules says of words that ask for nothing, by the clause `asked` of `fastver`: they alone are refused, and for
+/// want of memory nothing else comes.
+#[tactic(auto, using(crate::proofs::RulesLemmas::refusals))]
+pub fn only_words_that_ask_for_nothing_are_refused()
+    ensures usage { (asked : Option Asked) (result : Status) → CanEndWith (rules_for asked) result → result ≡ Status.Usage → asked ≡ None }
+    ensures refused { (result : Status) → CanEndWith (rules_for None) result → result ≡ Status.Usage ⊎ result ≡ Status.Memory }
 {}

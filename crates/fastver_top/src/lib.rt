@@ -6,7 +6,7 @@
 //! in `generating.rt` serves a load that is made of a seed in place of a script, and writes its summary. `accept_text` in
 //! `accepting.rt` reads a receipt and a certificate by `receipt_lines`, and says by `receipts` whether the receipt is accepted.
 //! The crate stands on these, and on the objects of `fv_outside`. Begin with `fastver`, beside
-//! `specs/Answers.antt`.
+//! `specs/Rules.antt`, the table of what each command may do, and `specs/Answers.antt`, what each answers.
 #![tactic(auto)]
 
 mod accepting;
@@ -23,7 +23,7 @@ pub use accepting::accept_text;
 pub use audit_end::AuditEnd;
 pub use auditing::audit_text;
 pub use generating::serve_generated;
-pub use laws::only_memory_may_be_wanting;
+pub use laws::{only_memory_may_be_wanting, only_words_that_ask_for_nothing_are_refused};
 pub use reading::read_all;
 pub use record_text::{Exhibit, Refusal};
 pub use report_text::Status;

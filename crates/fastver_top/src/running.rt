@@ -5,8 +5,7 @@ ghost use Rattle.host_world.specs.Settings.{IsSettings};
 ghost use Rattle.program_words.specs.HostWords.{AreHostNumbers};
 ghost use Rattle.script_text.specs.Text.{AreTasks};
 ghost use Rattle.verifier_threads.specs.Serving.{ServesTo};
-ghost use Rattle.fastver_top.specs.Answers.{IsRunStatus};
-ghost use Rattle.fastver_top.specs.Running.{IsBeforeRun, IsNamedFor, IsUntouched, RunsTo, settings_for};
+ghost use Rattle.fastver_top.specs.Running.{IsBeforeRun, IsNamedFor, IsRunStatus, IsUntouched, RunsTo, settings_for};
 
 use crate::scripts::read_script;
 use fv_outside::{Failed, Failure, Gate, Sink, Source, Vault};

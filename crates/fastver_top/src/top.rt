@@ -1,15 +1,11 @@
 //! The program as a call: its words, what it reads and what it writes.
-ghost use Rattle.std.specs.Prelude.{◌≡◌, ◌≢◌, ◌^◌, ℕ, List, map, None, Some, IfSome, ◌⊎◌};
+ghost use Rattle.std.specs.Prelude.{◌≡◌, ◌≢◌, ◌^◌, ℕ, List, map, Some, IfSome};
 ghost use Rattle.record_hash.specs.Hmac.{key_block};
 ghost use Rattle.program_words.specs.Words.{asked_of};
 ghost use Rattle.program_words.specs.declared.words.Asked.{Asked};
-ghost use Rattle.program_words.specs.declared.host_words.RunWords.{RunWords};
-ghost use Rattle.program_words.specs.declared.load_words.GenWords.{GenWords};
 ghost use Rattle.fv_outside.specs.Consumed.{TookAtMost};
-ghost use Rattle.report_text.specs.Answer.{IsEnd};
-ghost use Rattle.fastver_top.specs.Answers.{AnswersFor, bundle_for, CollidesFor, IsProgramStatus, IsSoundFor, IsStatusOf};
-ghost use Rattle.fastver_top.specs.Running.{IsBeforeRun};
-ghost use Rattle.fastver_top.specs.Accepting.{IsBeforeAnswer};
+ghost use Rattle.fastver_top.specs.Answers.{AnswersFor, bundle_for, CollidesFor, IsSoundFor};
+ghost use Rattle.fastver_top.specs.Rules.{rules_by, CanEndWith, LeavesSink, LeavesSource, LeavesVault, ReadsWhole};
 
 use crate::accepting::accept_text;
 use crate::auditing::audit_text;
@@ -48,11 +44,15 @@ pub fn fastver<R: Threads + Wait + Sync, S: Source, O: Sink, V: Vault, G: Gate +
 ) -> Status
     requires fresh { V.fresh vault.old }
 
-    // Which statuses can come. The words are refused just where they ask for nothing, but for want of memory.
-    ensures outcomes { IsProgramStatus result }
-    ensures asked { (asked : Asked) → asked_of (map (λ word. word.now) words.now) ≡ Some asked → IsStatusOf asked result }
-    ensures usage { result ≡ Status.Usage → asked_of (map (λ word. word.now) words.now) ≡ None }
-    ensures refused { asked_of (map (λ word. word.now) words.now) ≡ None → result ≡ Status.Usage ⊎ result ≡ Status.Memory }
+    // By the row of what the words ask for, in the table of `Rules`: which statuses can come, where nothing is read, with which
+    // of them nothing is written and the vault is neither named nor written, and whether all is read before anything is written:
+    // then no more is taken than the limit, but where the input is longer.
+    ensures asked { CanEndWith (rules_by (map (λ word. word.now) words.now)) result }
+    ensures unread { LeavesSource (rules_by (map (λ word. word.now) words.now)) → source.new ≡ source.old }
+    ensures unwritten { LeavesSink (rules_by (map (λ word. word.now) words.now)) result → out.new ≡ out.old }
+    ensures vault { LeavesVault (rules_by (map (λ word. word.now) words.now)) result → vault.new ≡ vault.old }
+    ensures within { ReadsWhole (rules_by (map (λ word. word.now) words.now))
+        → result ≢ Status.InputLimit (2 ^ 40) → TookAtMost (2 ^ 40) (S.left source.old) (S.left source.new) }
 
     // Where they ask for something: what is written, the status, what was taken of the source, and the faults. A check and an
     // audit answer to the source's bytes, a run serves them as a script, and a load is served as one, under the key of the words.
@@ -61,32 +61,6 @@ pub fn fastver<R: Threads + Wait + Sync, S: Source, O: Sink, V: Vault, G: Gate +
         (record { left = S.left source.old; left_after = S.left source.new; faults = S.faults source.old; faults_after = S.faults source.new })
         (record { held = O.held out.old; held_after = O.held out.new; faults = O.faults out.old; faults_after = O.faults out.new })
         (record { held = V.held vault.old; held_after = V.held vault.new; name = V.name vault.old; name_after = V.name vault.new; faults = V.faults vault.old; faults_after = V.faults vault.new }) }
-
-    // An audit writes nothing before all is read, and takes no more than the limit but where the input is longer.
-    ensures audit_unwritten { (key : List ℕ) → asked_of (map (λ word. word.now) words.now) ≡ Some (Asked.Audit key)
-        → (IsEnd result → ⊥) → result ≢ Status.WriteFault → out.new ≡ out.old }
-    ensures audit_within { (key : List ℕ) → asked_of (map (λ word. word.now) words.now) ≡ Some (Asked.Audit key)
-        → result ≢ Status.InputLimit (2 ^ 40) → TookAtMost (2 ^ 40) (S.left source.old) (S.left source.new) }
-
-    // An acceptance writes nothing before a receipt and a certificate are read.
-    ensures accept_unwritten { (key : List ℕ) → asked_of (map (λ word. word.now) words.now) ≡ Some (Asked.Accept key)
-        → IsBeforeAnswer result → out.new ≡ out.old }
-
-    // A run writes nothing and names no vault before a whole and good script is read.
-    ensures run_unwritten { (run : RunWords) → asked_of (map (λ word. word.now) words.now) ≡ Some (Asked.Run run)
-        → IsBeforeRun result → out.new ≡ out.old }
-    ensures run_unnamed { (run : RunWords) → asked_of (map (λ word. word.now) words.now) ≡ Some (Asked.Run run)
-        → IsBeforeRun result → vault.new ≡ vault.old }
-
-    // A load is made of its seed: nothing is read.
-    ensures gen_unread { (load : GenWords) → asked_of (map (λ word. word.now) words.now) ≡ Some (Asked.Gen load) → source.new ≡ source.old }
-
-    // Where they ask for nothing, nothing is read and nothing written, whatever the answer. But by a run and by a load the vault
-    // is never named or written.
-    ensures unread { asked_of (map (λ word. word.now) words.now) ≡ None → source.new ≡ source.old }
-    ensures unwritten { asked_of (map (λ word. word.now) words.now) ≡ None → out.new ≡ out.old }
-    ensures vault { ((run : RunWords) → asked_of (map (λ word. word.now) words.now) ≢ Some (Asked.Run run))
-        → ((load : GenWords) → asked_of (map (λ word. word.now) words.now) ≢ Some (Asked.Gen load)) → vault.new ≡ vault.old }
 
     // The headline, of any bytes and with nothing premised of who made them: the answer lines of a check, of the source's bytes or
     // of those that a run or a load wrote to its vault, are all the operations of the certified epochs, in an order that keeps

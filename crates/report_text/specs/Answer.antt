@@ -1,11 +1,13 @@
 -- What a call answers that reads a source and writes to a sink: a text, what of it is due where reading stops, and the
 -- status with which it ends.
-use Rattle.std.specs.Prelude.{◌≡◌, ◌≢◌, ◌⊎◌, ⊤, ℕ, ◌+◌, ◌-◌, min, List, length, take, Option, None, Some, IfSome}
+use Rattle.std.specs.Prelude.{◌≡◌, ◌≢◌, ◌⊎◌, ⊤, ℕ, ◌+◌, ◌-◌, min, List, [], ◌∷◌, length, take, Option, None, Some, IfSome}
 use Rattle.fv_outside.specs.Consumed.{TookAtMost, TookJust, TookToEnd, StopsAtEnd, EndsBehind}
 use Rattle.fv_outside.specs.Faults.{Rose}
 use Rattle.fv_outside.specs.Written.{Grows, GrowsByFront}
 use Rattle.report_text.specs.declared.status.Status.{Status}
-use Rattle.report_text.specs.declared.status.Status.TheVariants.{Done, Usage, Memory, ReadFault, WriteFault, VaultFault, BadScript, BadBundle, Refused, Unbalanced, ClockEnd, NotTagged, NotCertified, Exhibit, InputLimit}
+use Rattle.report_text.specs.declared.status.Status.TheVariants.{Memory, ReadFault, WriteFault, InputLimit}
+use Rattle.report_text.specs.Kinds.{StatusKind, IsOneOf}
+use Rattle.report_text.specs.Kinds as kinds
 
 -- The text that is written, and the status. Of the text the lines that are due are written also where no more can be
 -- read: what they say stays, whatever follows the bytes that were taken.
@@ -14,23 +16,13 @@ pub record Answer : Type 0 where
   pub due : List ℕ
   pub status : Status
 
--- a status that comes with a whole answer: all of its text was written
+-- the kinds of status that come with a whole answer: all of its text was written
+abbrev pub end_kinds : List StatusKind
+end_kinds = kinds.done ∷ kinds.bad_bundle ∷ kinds.refused ∷ kinds.unbalanced ∷ kinds.clock_end ∷ kinds.exhibit ∷ []
+
+-- a status that comes with a whole answer
 abbrev pub IsEnd : Status → Type 0
-IsEnd (Done epochs) = Unit {0}
-IsEnd Usage = ⊥
-IsEnd Memory = ⊥
-IsEnd ReadFault = ⊥
-IsEnd WriteFault = ⊥
-IsEnd VaultFault = ⊥
-IsEnd (BadScript line cause) = ⊥
-IsEnd (BadBundle offset) = Unit {0}
-IsEnd (Refused verifier index refusal) = Unit {0}
-IsEnd (Unbalanced epoch added evicted) = Unit {0}
-IsEnd (ClockEnd worker at) = Unit {0}
-IsEnd NotTagged = ⊥
-IsEnd NotCertified = ⊥
-IsEnd Exhibit = Unit {0}
-IsEnd (InputLimit taken) = ⊥
+IsEnd = IsOneOf end_kinds
 
 -- what a call did to a source: the bytes left, where it tells them, and its count of faults, before and after
 pub record Reading : Type 0 where

@@ -8,25 +8,12 @@ use Rattle.record_text.specs.declared.cause.Cause.{Cause}
 use Rattle.record_text.specs.declared.refusal.Refusal.{Refusal}
 use Rattle.report_text.specs.declared.status.Status.{Status}
 use Rattle.report_text.specs.declared.status.Status.TheVariants.{Done, Usage, Memory, ReadFault, WriteFault, VaultFault, BadScript, BadBundle, Refused, Unbalanced, ClockEnd, NotTagged, NotCertified, Exhibit, InputLimit}
+use Rattle.report_text.specs.Kinds.{kind_of, kind_number}
 use Rattle.report_text.specs.Lines.{stamp_words, line_end}
 
 -- the exit status of the program
 abbrev pub status_number : Status → ℕ
-status_number (Done epochs) = 0
-status_number Usage = 1
-status_number Memory = 2
-status_number ReadFault = 3
-status_number WriteFault = 4
-status_number VaultFault = 5
-status_number (BadScript line cause) = 6
-status_number (BadBundle offset) = 7
-status_number (Refused verifier index refusal) = 8
-status_number (Unbalanced epoch added evicted) = 9
-status_number (ClockEnd worker at) = 10
-status_number NotTagged = 11
-status_number NotCertified = 12
-status_number Exhibit = 13
-status_number (InputLimit taken) = 14
+status_number status = kind_number (kind_of status)
 
 -- which command of which log is refused, and why
 abbrev pub refused_words : ℕ → ℕ → Refusal → List ℕ

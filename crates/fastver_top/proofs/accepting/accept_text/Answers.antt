@@ -1,13 +1,16 @@
-use Rattle.std.proofs.Common.{Err, is_ok, true≢false, refl, inl, inr, ap, subst, sym}
+use Rattle.std.proofs.Common.{Err, is_ok, true≢false, refl, ap, subst, sym}
 use Rattle.std.specs.Io.KnownBytes.{Consumes}
 use Rattle.report_text.specs.declared.status.Status.{Status}
 use Rattle.report_text.specs.Answer.{Reading, Writing}
 use Rattle.fastver_top.specs.Accepting.{accept_answer, AnswersWhole, IsAcceptStatus}
-use Rattle.fastver_top.proofs.AcceptLemmas.{answer-answered, stop-before, answers-whole, answers-cut, answers-unread}
+use Rattle.fastver_top.proofs.AcceptLemmas.{answer-answered, stop-accept, answers-whole, answers-cut, answers-unread}
+use Rattle.fastver_top.proofs.RulesLemmas.{answered-accept}
 use Rattle.fastver_top.proofs.accepting.accept_text.Goals as goal
 
 pub returns-in-Err-clause-outcomes : goal.returns-in-Err-clause-outcomes
-returns-in-Err-clause-outcomes g c = subst IsAcceptStatus (sym c.of_failure.ensures.value) (inr (inl (stop-before c.args.limit c.in-Err.failure (λ is. c.in-Err.ensures.failure.vault (ap Err is)) (λ is. c.in-Err.ensures.failure.sink (ap Err is)))))
+returns-in-Err-clause-outcomes g c =
+    subst IsAcceptStatus (sym c.of_failure.ensures.value)
+    (stop-accept c.args.limit c.in-Err.failure (λ is. c.in-Err.ensures.failure.vault (ap Err is)) (λ is. c.in-Err.ensures.failure.sink (ap Err is)))
 
 pub returns-in-Err-clause-answers : goal.returns-in-Err-clause-answers
 returns-in-Err-clause-answers g c =
@@ -27,7 +30,8 @@ returns-in-Err-clause-answers g c =
 
 pub returns-in-Ok-answer-clause-outcomes : goal.returns-in-Ok-answer-clause-outcomes
 returns-in-Ok-answer-clause-outcomes g c =
-    inl (answer-answered (g.D.Digests.functions c.args.d.now) c.deref.result.now c.in-Ok-answer.status c.in-Ok-answer.ensures.status)
+    answered-accept c.in-Ok-answer.status
+    (answer-answered (g.D.Digests.functions c.args.d.now) c.deref.result.now c.in-Ok-answer.status c.in-Ok-answer.ensures.status)
 
 pub returns-in-Ok-answer-clause-answers : goal.returns-in-Ok-answer-clause-answers
 returns-in-Ok-answer-clause-answers g c =
