@@ -4,11 +4,12 @@ ghost use Rattle.bundle_rows.specs.declared.bundles.TheConstants.{LONGEST_BODY};
 
 use crate::commands::command_of;
 use crate::fault::RowFault;
+use crate::slot_commands::slot_command_of;
 use bundle_frames::{write_frame, write_header};
 use fv_outside::{MemorySink, write_all};
 use hex::FromHexError;
 use lamport_clocks::Header;
-use log_codec::write;
+use log_codec::{write_path_command, write_slot_command};
 use std::alloc::Global;
 
 // The most bytes of all frames.
@@ -73,7 +74,7 @@ impl Draft {
     fn take_row<'a>(&mut self, alloc: Global, row: &'a str) -> Result<(), RowFault<'a>> {
         let (form, rest) = row.split_once(' ').unwrap_or((row, ""));
         match form {
-            "verifiers" | "cache" | "first" | "end" => {
+            "version" | "verifiers" | "cache" | "first" | "end" => {
                 self.header = header_of(self.header, row).ok_or(RowFault::BadRow(row))?;
                 Ok(())
             }
@@ -128,8 +129,12 @@ fn push_log_row<'a>(alloc: Global, log: &mut Vec<u8>, row: &'a str) -> Result<()
         }
         _ if row.is_empty() => {}
         _ => {
+            if let Some(command) = slot_command_of(row) {
+                log.extend_from_slice(write_slot_command(&command).as_slice())?;
+                return Ok(());
+            }
             let command = command_of(row).ok_or(RowFault::BadRow(row))?;
-            log.extend_from_slice(write(&command).as_slice())?;
+            log.extend_from_slice(write_path_command(&command).as_slice())?;
         }
     }
     Ok(())
@@ -139,12 +144,13 @@ fn push_log_row<'a>(alloc: Global, log: &mut Vec<u8>, row: &'a str) -> Result<()
 fn header_of(header: Header, row: &str) -> Option<Header> {
     let mut header = header;
     let mut words = row.split_whitespace();
-    for _ in 0..4 {
+    for _ in 0..5 {
         let Some(name) = words.next() else {
             return Some(header);
         };
         let number = words.next()?;
         match name {
+            "version" => header.version = number.parse().ok()?,
             "verifiers" => header.verifiers = number.parse().ok()?,
             "cache" => header.cache = number.parse().ok()?,
             "first" => header.first = number.parse().ok()?,

@@ -1,4 +1,4 @@
-//! The fields of a row: paths, values, stamps and verifiers, each of them one word.
+//! The fields of a row: paths, slots, values, stamps and verifiers, each of them one word.
 use lamport_clocks::Stamp;
 use record_text::{Blob, LONGEST_BLOB, Node, Pointer, Value, initial};
 use tree_keys::{KEY_BITS, Path};
@@ -59,6 +59,14 @@ pub(crate) fn value_of(path: &Path, word: &str) -> Option<Value> {
     }
 }
 
+/// The data value of a word.
+pub(crate) fn data_value_of(word: &str) -> Option<Blob> {
+    match value_of(&Path::of_key(0), word)? {
+        Value::Blob(blob) => Some(blob),
+        Value::Node(_) => None,
+    }
+}
+
 // The data value of these digits.
 fn blob_of(digits: &str) -> Option<Blob> {
     let len = digits.len() / 2;
@@ -104,6 +112,11 @@ pub(crate) fn stamp_of(word: &str) -> Option<Stamp> {
         epoch: epoch.parse().ok()?,
         counter: counter.parse().ok()?,
     })
+}
+
+/// The slot of a word, as in `s1`.
+pub(crate) fn slot_of(word: &str) -> Option<u16> {
+    word.strip_prefix('s')?.parse().ok()
 }
 
 /// The verifier of a word, as in `v2`.

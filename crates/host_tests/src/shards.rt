@@ -9,7 +9,7 @@ use bundle_rows::log_of;
 use host_plan::plan;
 use host_shard::{Content, Link, Shard, chain};
 use lamport_clocks::{Clock, Stamp};
-use log_codec::{Command, write};
+use log_codec::{Command, write_path_command};
 use record_hash::Digests;
 use record_text::{Blob, Request};
 use std::alloc::Global;
@@ -152,7 +152,7 @@ pub fn serve<D: Digests>(
 /// Adds the bytes of these commands to a log.
 pub fn push_all(rt: &impl Abort, log: &mut Vec<u8>, commands: &[Command]) {
     for command in commands {
-        log.extend_from_slice(write(command).as_slice())
+        log.extend_from_slice(write_path_command(command).as_slice())
             .expect(rt, "memory");
     }
 }

@@ -174,8 +174,10 @@ fn counters_may_end_at_the_last_number(rt: HostRuntime) {
 const HEADERS: &str = "
 1 | 1 | 4 | 1 | true
 1 | 64 | 65536 | 16777215 | true
+2 | 1 | 4 | 1 | true
+2 | 64 | 65536 | 16777215 | true
 0 | 1 | 4 | 1 | false
-2 | 1 | 4 | 1 | false
+3 | 1 | 4 | 1 | false
 1 | 0 | 4 | 1 | false
 1 | 65 | 4 | 1 | false
 1 | 1 | 3 | 1 | false

@@ -7,7 +7,7 @@ use std::thread::{Threads, join};
 
 // The bytes that a field means: behind `0x` those of its digits, and behind these a `*` with how many times they
 // stand there; else those of its characters.
-fn bytes_of(rt: &impl Abort, alloc: Global, text: &str) -> Vec<u8> {
+pub(crate) fn bytes_of(rt: &impl Abort, alloc: Global, text: &str) -> Vec<u8> {
     let Some(spelled) = text.strip_prefix("0x") else {
         return Vec::from_slice(alloc, text.as_bytes()).expect(rt, "memory");
     };
@@ -72,7 +72,7 @@ fn text_digests(rt: HostRuntime) {
 }
 
 // A key, a text, and their HMAC.
-const HMACS: &str = "
+pub(crate) const HMACS: &str = "
 0x0b*20 | Hi There | b0344c61d8db38535ca8afceaf0bf12b881dc200c9833da726e9376c2e32cff7
 Jefe | what do ya want for nothing? | 5bdcc146bf60754e6a042426089575c75a003f089d2739839dec58b964ec3843
 0xaa*20 | 0xdd*50 | 773ea91e36800e46854db8ebd09181a72959098b3ef8c122d9635514ced565fe

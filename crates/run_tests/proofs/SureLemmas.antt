@@ -8,7 +8,8 @@ use Rattle.report_text.specs.declared.status.Status.{Status}
 use Rattle.report_text.specs.declared.status.Status.TheVariants as statuses
 use Rattle.report_text.specs.Answer.{Reading, Writing}
 use Rattle.fastver_top.specs.Running.{Keeping}
-use Rattle.fastver_top.specs.Answers.{AnswersFor, IsStatusOf}
+use Rattle.fastver_top.specs.Answers.{AnswersFor}
+use Rattle.fastver_top.specs.Rules.{CanEndWith, IsStatusOf, rules_for}
 
 -- a count that stays 0 didn't rise
 still : (before now : ℕ) → before ≡ 0 → now ≡ 0 → Rose before now → ⊥
@@ -36,38 +37,38 @@ write (Accept key) most reading writing keeping answers = answers.write_fault re
 vault : (asked : Asked) (most : ℕ) (reading : Reading) (writing : Writing) (keeping : Keeping)
     → IsStatusOf asked statuses.VaultFault → AnswersFor asked most statuses.VaultFault reading writing keeping → Rose keeping.faults keeping.faults_after
 vault (Check check) most reading writing keeping of answers = absurd of
-vault (Audit key) most reading writing keeping of answers = ⊎_elim (λ is. absurd is) (λ is. absurd (cc)) of
+vault (Audit key) most reading writing keeping of answers = absurd of
 vault (Run run) most reading writing keeping of answers = answers.vault_fault refl
 vault (Gen load) most reading writing keeping of answers = answers.vault_fault refl
-vault (Accept key) most reading writing keeping of answers = ⊎_elim (λ is. absurd is) (λ rest. ⊎_elim (λ is. absurd is) (λ is. absurd (cc)) rest) of
+vault (Accept key) most reading writing keeping of answers = absurd of
 
 module _ (o : Option Asked) (status : Status) (reading : Reading) (writing : Writing) (keeping : Keeping)
-    (nothing : o ≡ None → (status ≡ statuses.Usage) ⊎ (status ≡ statuses.Memory))
-    (of : (asked : Asked) → o ≡ Some asked → IsStatusOf asked status)
+    (can : CanEndWith (rules_for o) status)
     (answers : (asked : Asked) → o ≡ Some asked → AnswersFor asked (2 ^ 40) status reading writing keeping) where
-  of_fault : (asked : Asked) (fault : Status) → o ≡ Some asked → status ≡ fault → IsStatusOf asked fault
-  of_fault asked fault known is = subst (IsStatusOf asked) is (of asked known)
+  can_fault : (found : Option Asked) (fault : Status) → o ≡ found → status ≡ fault → CanEndWith (rules_for found) fault
+  can_fault found fault known is =
+      subst (CanEndWith (rules_for found)) is (subst (λ (own : Option Asked). CanEndWith (rules_for own) status) known can)
 
   answers_fault : (asked : Asked) (fault : Status) → o ≡ Some asked → status ≡ fault → AnswersFor asked (2 ^ 40) fault reading writing keeping
   answers_fault asked fault known is = subst (λ (s : Status). AnswersFor asked (2 ^ 40) s reading writing keeping) is (answers asked known)
 
   -- by what the words ask for, a source whose count stays 0 is not blamed
   pub no_read_fault : (found : Option Asked) → o ≡ found → reading.faults ≡ 0 → reading.faults_after ≡ 0 → status ≡ statuses.ReadFault → ⊥
-  no_read_fault None known was now is = ⊎_elim (λ (usage : status ≡ statuses.Usage). absurd (cc)) (λ (memory : status ≡ statuses.Memory). absurd (cc)) (nothing known)
+  no_read_fault None known was now is = can_fault None statuses.ReadFault known is
   no_read_fault (Some asked) known was now is =
       still reading.faults reading.faults_after was now
-      (read asked (2 ^ 40) reading writing keeping (of_fault asked statuses.ReadFault known is) (answers_fault asked statuses.ReadFault known is))
+      (read asked (2 ^ 40) reading writing keeping (can_fault (Some asked) statuses.ReadFault known is) (answers_fault asked statuses.ReadFault known is))
 
   -- nor is a sink
   pub no_write_fault : (found : Option Asked) → o ≡ found → writing.faults ≡ 0 → writing.faults_after ≡ 0 → status ≡ statuses.WriteFault → ⊥
-  no_write_fault None known was now is = ⊎_elim (λ (usage : status ≡ statuses.Usage). absurd (cc)) (λ (memory : status ≡ statuses.Memory). absurd (cc)) (nothing known)
+  no_write_fault None known was now is = can_fault None statuses.WriteFault known is
   no_write_fault (Some asked) known was now is =
       still writing.faults writing.faults_after was now
       (write asked (2 ^ 40) reading writing keeping (answers_fault asked statuses.WriteFault known is))
 
   -- nor a vault
   pub no_vault_fault : (found : Option Asked) → o ≡ found → keeping.faults ≡ 0 → keeping.faults_after ≡ 0 → status ≡ statuses.VaultFault → ⊥
-  no_vault_fault None known was now is = ⊎_elim (λ (usage : status ≡ statuses.Usage). absurd (cc)) (λ (memory : status ≡ statuses.Memory). absurd (cc)) (nothing known)
+  no_vault_fault None known was now is = can_fault None statuses.VaultFault known is
   no_vault_fault (Some asked) known was now is =
       still keeping.faults keeping.faults_after was now
-      (vault asked (2 ^ 40) reading writing keeping (of_fault asked statuses.VaultFault known is) (answers_fault asked statuses.VaultFault known is))
+      (vault asked (2 ^ 40) reading writing keeping (can_fault (Some asked) statuses.VaultFault known is) (answers_fault asked statuses.VaultFault known is))

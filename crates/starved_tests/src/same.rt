@@ -1,6 +1,6 @@
 //! What is compared: contents, and commands with the bytes that they are written as.
 use host_shard::{Content, Records};
-use log_codec::{Command, write};
+use log_codec::{Command, write_path_command};
 
 /// Both contents wait with the same element and have the same records, touched as often.
 pub fn are_same(content: &Content, other: &Content) -> bool {
@@ -33,7 +33,7 @@ fn have_same(records: &Records, others: &Records) -> bool {
 pub fn are_written_as(commands: &[Command], bytes: &[u8]) -> bool {
     let mut rest = bytes;
     for command in commands {
-        match rest.strip_prefix(write(command).as_slice()) {
+        match rest.strip_prefix(write_path_command(command).as_slice()) {
             Some(more) => rest = more,
             None => return false,
         }

@@ -8,7 +8,7 @@ use crate::turns::Served;
 use host_plan::{Commands, Plan, plan};
 use host_shard::Content;
 use lamport_clocks::Clock;
-use log_codec::write;
+use log_codec::write_path_command;
 use record_hash::Digests;
 use std::alloc::Global;
 use std::collections::BTreeMap;
@@ -121,7 +121,7 @@ fn are_same(commands: &Commands, others: &Commands) -> bool {
         return false;
     }
     for (command, other) in commands.as_slice().iter().zip(others.as_slice()) {
-        if write(command).as_slice() != write(other).as_slice() {
+        if write_path_command(command).as_slice() != write_path_command(other).as_slice() {
             return false;
         }
     }

@@ -171,7 +171,7 @@ const BAD_HEADERS: &str = "
 46564231 0001 00000004 00000000 00000000 | an end of 0
 46564231 0001 00000004 00000000 01000000 | an end of 16,777,216
 46564230 0001 00000004 00000000 00000001 | version 0
-46564232 0001 00000004 00000000 00000001 | version 2
+46564233 0001 00000004 00000000 00000001 | version 3
 4656422f 0001 00000004 00000000 00000001 | no digit
 46564201 0001 00000004 00000000 00000001 | a version that is no digit
 46564331 0001 00000004 00000000 00000001 | another prefix
@@ -202,20 +202,22 @@ fn headers_out_of_range_are_bad(rt: HostRuntime) {
     }
 }
 
-// A header, and its four numbers.
+// A header, its four numbers, and its version.
 const GOOD_HEADERS: &str = "
-46564231 0001 00000004 00000000 00000001 | 1 | 4 | 0 | 1
-46564231 0040 00010000 ffffffff 00ffffff | 64 | 65536 | 4294967295 | 16777215
+46564231 0001 00000004 00000000 00000001 | 1 | 4 | 0 | 1 | 1
+46564231 0040 00010000 ffffffff 00ffffff | 64 | 65536 | 4294967295 | 16777215 | 1
+46564232 0001 00000004 00000000 00000001 | 1 | 4 | 0 | 1 | 2
 ";
 
 // The header of a row.
 fn header_of(rt: &impl Abort, row: &str) -> Header {
-    Header::by_path(
-        number(rt, row, 1),
-        number(rt, row, 2),
-        number(rt, row, 3),
-        number(rt, row, 4),
-    )
+    Header {
+        version: number(rt, row, 5),
+        verifiers: number(rt, row, 1),
+        cache: number(rt, row, 2),
+        first: number(rt, row, 3),
+        end: number(rt, row, 4),
+    }
 }
 
 #[test]

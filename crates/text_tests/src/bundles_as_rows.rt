@@ -53,6 +53,13 @@ put 5 initial: 07 400000000000000005 00
 get root initial: 06 000000000000000000 0000
 next: 08
 bytes 0aff: 0a ff
+addM s1 5 none s0: 01 0001 400000000000000005 00 0000
+evictM s258 s3: 02 0102 0003
+addB s9 /01 empty 1.2 v3: 03 0009 024000000000000000 0000 00000001 00000002 0003
+evictB s65535 258.1: 04 ffff 00000102 00000001
+evictBM s4 s5 0.1: 05 0004 0005 00000000 00000001
+get s1 .: 06 0001 0100
+put s1 6162: 07 0001 01026162
 ";
 
 // A row has its bytes.
@@ -64,7 +71,7 @@ fn assert_row(rt: &impl Abort, alloc: Global, line: &str) {
 
 #[test]
 fn rows_have_their_bytes(rt: HostRuntime) {
-    same(&rt, "rows", &COMMANDS.lines().count(), &11);
+    same(&rt, "rows", &COMMANDS.lines().count(), &18);
     for line in COMMANDS.lines() {
         assert_row(&rt, rt.alloc(), line);
     }
@@ -106,7 +113,11 @@ log x
 frames 0
 frames 65537
 verifiers
-verifiers 1 cache 4 first 0 end 1 end 1
+version 1 verifiers 1 cache 4 first 0 end 1 end 1
+addM s1 5 none root
+evictM s65536 s0
+get s1 root
+get s1 empty
 caches 4
 bytes 0
 raw 0g

@@ -1,21 +1,39 @@
 //! Commands whose bytes were written out by hand, from the table of tags and fields.
 use crate::rows::{bytes_of, data_value, field, same, same_bytes, stamp};
-use log_codec::{Command, Decoded, LONGEST_COMMAND_TEXT, read, write};
+use lamport_clocks::Header;
+use log_codec::{
+    Command, Decoded, LONGEST_PATH_COMMAND_TEXT, LogCommand, read_command, write_path_command,
+};
 use record_text::{Blob, Node, Pointer, Value};
 use std::process::Abort;
 use tree_keys::Path;
 
+// What bytes of a log of version 1 begin with.
+fn read_by_path(bytes: &[u8]) -> Decoded<LogCommand> {
+    read_command(&Header::by_path(1, 4, 0, 16_777_215), bytes)
+}
+
 // A command has this text, and is read from it, also where a byte follows, and from no front of it.
 fn assert_command(rt: &impl Abort, command: Command, mut text: Vec<u8>, row: &str) {
     let len = text.len();
-    same_bytes(rt, row, write(&command).as_slice(), text.as_slice());
+    same_bytes(
+        rt,
+        row,
+        write_path_command(&command).as_slice(),
+        text.as_slice(),
+    );
     for cut in 0..len {
-        same(rt, row, &read(&text[..cut]), &Decoded::Truncated);
+        same(rt, row, &read_by_path(&text[..cut]), &Decoded::Truncated);
     }
-    let whole = read(&text);
+    let whole = read_by_path(&text);
     text.push(8).expect(rt, "memory");
-    same(rt, row, &read(&text), &whole);
-    same(rt, row, &whole, &Decoded::Read(command, len));
+    same(rt, row, &read_by_path(&text), &whole);
+    same(
+        rt,
+        row,
+        &whole,
+        &Decoded::Read(LogCommand::ByPath(command), len),
+    );
 }
 
 // A command of a node by its name.
@@ -140,7 +158,12 @@ fn the_longest_has_104_bytes(rt: HostRuntime) {
         verifier: 0x090a,
     };
     let text = bytes_of(&rt, rt.alloc(), LONGEST);
-    same(&rt, "LONGEST_COMMAND_TEXT", &LONGEST_COMMAND_TEXT, &104);
+    same(
+        &rt,
+        "LONGEST_PATH_COMMAND_TEXT",
+        &LONGEST_PATH_COMMAND_TEXT,
+        &104,
+    );
     same(&rt, "text.len()", &text.len(), &104);
     assert_command(&rt, command, text, "the longest")
 }
@@ -164,12 +187,12 @@ ff
 fn fields_are_malformed_where_they_stand(rt: HostRuntime) {
     for row in MALFORMED.trim().lines() {
         let mut text = bytes_of(&rt, rt.alloc(), row);
-        same(&rt, row, &read(&text), &Decoded::Malformed);
+        same(&rt, row, &read_by_path(&text), &Decoded::Malformed);
         let front = text
             .get(..text.len().saturating_sub(1))
             .expect(&rt, "short");
-        same(&rt, row, &read(front), &Decoded::Truncated);
+        same(&rt, row, &read_by_path(front), &Decoded::Truncated);
         text.extend_from_slice(&[0; 40]).expect(&rt, "memory");
-        same(&rt, row, &read(&text), &Decoded::Malformed);
+        same(&rt, row, &read_by_path(&text), &Decoded::Malformed);
     }
 }

@@ -4,8 +4,8 @@
 //! Bundles are rows, which `bundle_rows` reads, in tables of cases with their reports. What each must come to was
 //! worked out by hand, or found by the slow program. `lying_log_tests.rt` has one log for each way in which a host
 //! may lie to a verifier, in frames that are cut at each byte, and pairs of logs whose frames come in any order, by
-//! `framed.rt`; `bundle_tests.rt` and `tree_tests.rt` have other bundles; these are checked, and what isn't
-//! done is audited too. Under digests that collide at will `audit_tests.rt` has audits, `exhibit_tests.rt` what is
+//! `framed.rt`; `bundle_tests.rt` and `tree_tests.rt` have other bundles, and `version_tests.rt` those whose
+//! commands name slots; these are checked, and what isn't done is audited too. Under digests that collide at will `audit_tests.rt` has audits, `exhibit_tests.rt` what is
 //! exhibited of a log, and `collision_tests.rt` checks that certify what is not serial. In `object_tests.rt` bundles
 //! are cut, and no more is read than the limit; in `fault_tests.rt` reads and writes fail one by one. `word_tests.rt`
 //! has the program's words. Begin with `running.rt`, which runs a bundle.
@@ -31,5 +31,7 @@ mod object_tests;
 mod running;
 #[cfg(test)]
 mod tree_tests;
+#[cfg(test)]
+mod version_tests;
 #[cfg(test)]
 mod word_tests;

@@ -3,7 +3,7 @@ ghost use Rattle.std.specs.Prelude.{◌≡◌, ◌≤◌};
 
 use crate::rows::same;
 use lamport_clocks::Header;
-use log_codec::{Decoded, SlotCommand, read_slot_command, write_slot_command};
+use log_codec::{Decoded, LogCommand, SlotCommand, read_command, write_slot_command};
 use record_hash::ToyDigests;
 use std::alloc::Global;
 use std::process::Abort;
@@ -13,7 +13,10 @@ use verifier_commands::SlotState;
 fn header() -> Header
     ensures some { 1 ≤ result.cache }
 {
-    Header::by_path(1, 4, 0, 16_777_215)
+    Header {
+        version: 2,
+        ..Header::by_path(1, 4, 0, 16_777_215)
+    }
 }
 
 // A row is a command's digits, a bar, and its answer: `ok`, or the name of the refusal.
@@ -46,12 +49,15 @@ fn command_of(rt: &impl Abort, alloc: Global, row: &str) -> SlotCommand {
         same(
             rt,
             row,
-            &read_slot_command(&text[..cut]),
+            &read_command(&header(), &text[..cut]),
             &Decoded::Truncated,
         );
     }
-    let Decoded::Read(command, len) = read_slot_command(&text) else {
+    let Decoded::Read(found, len) = read_command(&header(), &text) else {
         panic!(rt; "a row that is no command");
+    };
+    let LogCommand::BySlot(command) = found else {
+        panic!(rt; "a command that names paths");
     };
     same(rt, row, &len, &text.len());
     let written = write_slot_command(&command);
@@ -153,6 +159,11 @@ const MALFORMED: &str = "
 fn fields_of_slot_commands_are_malformed_where_they_stand(rt: HostRuntime) {
     for row in MALFORMED.trim().lines() {
         let text = bytes_of(&rt, rt.alloc(), row);
-        same(&rt, row, &read_slot_command(&text), &Decoded::Malformed);
+        same(
+            &rt,
+            row,
+            &read_command(&header(), &text),
+            &Decoded::Malformed,
+        );
     }
 }

@@ -11,7 +11,7 @@ use std::alloc::Global;
 use std::process::Abort;
 use tree_keys::Path;
 use verifier_cache::{Entry, Hold};
-use verifier_commands::{Effect, Verifier};
+use verifier_commands::{Effect, EitherState, Verifier};
 
 // A verifier of two, whose caches hold four entries, before its first command.
 fn opened(rt: &impl Abort, alloc: Global, number: u16, first: u32) -> Verifier
@@ -26,9 +26,17 @@ fn start_of(epoch: u32) -> Stamp {
     Stamp { epoch, counter: 0 }
 }
 
+// How many entries a verifier has by their paths.
+fn entries_of(rt: &impl Abort, verifier: &Verifier) -> usize {
+    match verifier.state() {
+        EitherState::ByPath(state) => state.cache.len(),
+        EitherState::BySlot(_) => panic!(rt; "a verifier of slots"),
+    }
+}
+
 // The one entry of a verifier is the empty root.
 fn assert_root_alone(rt: &impl Abort, verifier: &Verifier) {
-    same(rt, "one entry", &verifier.entries().len(), &1);
+    same(rt, "one entry", &entries_of(rt, verifier), &1);
     let root = Path::root();
     let wanted = Entry {
         path: root,
@@ -36,7 +44,7 @@ fn assert_root_alone(rt: &impl Abort, verifier: &Verifier) {
         hold: Hold::Root,
         kids: [false, false],
     };
-    let found = verifier.entries().entry(&root).expect(rt, "no root");
+    let found = verifier.entry_of(&root).expect(rt, "no root");
     same(rt, "the root", found, &wanted);
 }
 
@@ -44,7 +52,7 @@ fn assert_root_alone(rt: &impl Abort, verifier: &Verifier) {
 fn the_root_is_cached_by_verifier_0_alone(rt: HostRuntime) {
     assert_root_alone(&rt, &opened(&rt, rt.alloc(), 0, 7));
     let second = opened(&rt, rt.alloc(), 1, 7);
-    same(&rt, "no entries", &second.entries().len(), &0);
+    same(&rt, "no entries", &entries_of(&rt, &second), &0);
     same(&rt, "the clock", &second.clock(), &start_of(7));
 }
 

@@ -4,12 +4,12 @@ use Rattle.run_tests.proofs.sure_objects.run_surely.Goals as goal
 
 pub returns-clause-no_read_fault : goal.returns-clause-no_read_fault
 returns-clause-no_read_fault g c =
-    no_read_fault _ c.fastver.result _ _ _ c.fastver.ensures.refused c.fastver.ensures.asked c.fastver.ensures.answers _ refl refl refl
+    no_read_fault _ c.fastver.result _ _ _ c.fastver.ensures.asked c.fastver.ensures.answers _ refl refl refl
 
 pub returns-clause-no_write_fault : goal.returns-clause-no_write_fault
 returns-clause-no_write_fault g c =
-    no_write_fault _ c.fastver.result _ _ _ c.fastver.ensures.refused c.fastver.ensures.asked c.fastver.ensures.answers _ refl refl refl
+    no_write_fault _ c.fastver.result _ _ _ c.fastver.ensures.asked c.fastver.ensures.answers _ refl refl refl
 
 pub returns-clause-no_vault_fault : goal.returns-clause-no_vault_fault
 returns-clause-no_vault_fault g c =
-    no_vault_fault _ c.fastver.result _ _ _ c.fastver.ensures.refused c.fastver.ensures.asked c.fastver.ensures.answers _ refl refl refl
+    no_vault_fault _ c.fastver.result _ _ _ c.fastver.ensures.asked c.fastver.ensures.answers _ refl refl refl
