@@ -1,19 +1,27 @@
-"""Times two built programs on the same bundles, in turn: the best wall time of five, and how many times as long the other takes.
+"""Times two built programs on the same inputs, in turn: the least processor and wall time of many runs, and the second by the first.
 
-usage: tools/run bench.beside FOLDER OLD NEW [SIZE]
+usage: tools/run bench.beside FOLDER OLD NEW [SIZE [TURNS]]
 
-OLD and NEW are programs, as crates/fastver_cli/out/fastver_cli of two commits. Bundles of SIZE MiB, 64 where none is named, are
-checked, and those of 16 MiB audited; they are made in FOLDER where they aren't there (bench/bundles.py says what they are). What
-else is at work on the machine hits both, since they take turns. A line has nanoseconds a byte of the old and of the new program,
-and the second by the first. The last lines say how many times as fast each program checks with four verifiers as with one.
+OLD and NEW are programs, as crates/fastver_cli/out/fastver_cli of two commits. Bundles of SIZE MiB, 16 where none is named, are
+checked and audited, and a load of 50,000 requests of one worker is served, plainly and with `--hot 2`; the bundles are made in
+FOLDER where they aren't there (bench/bundles.py says what they are). The two take turns, TURNS times, 11 where none is named, in
+turns forwards and backwards, so that what else is at work on the machine hits both. Processor time, which the system counts for
+the program alone, swings less on a busy machine than wall time does, and instructions don't swing at all: where valgrind is there,
+those of a check and an audit of 1 MiB of one verifier are counted too.
+
+A line has the least processor time of the old and of the new program and the second by the first, in nanoseconds a byte or of a load in
+microseconds a request, then the same of wall time; or instructions a byte. Behind the checks it says how many times as fast each
+program checks with four verifiers as with one, by wall time.
 """
 import os
 import sys
 
 from bench import bundles
-from bench.run import timed
+from bench.run import words
+from bench.runs import HOST
+from bench.spent import instructions, least
 
-TURNS, AUDITED = 5, 16  # and MiB
+SIZE, TURNS, REQUESTS = 16, 11, 50000  # MiB, runs of each
 
 
 def bundle(folder, mix, verifiers, size):
@@ -24,31 +32,49 @@ def bundle(folder, mix, verifiers, size):
     return path
 
 
-def best(programs, command, path):
-    """The best wall time of each program, in nanoseconds a byte."""
-    runs = [[timed(program, command, path) for program in programs] for _ in range(TURNS)]
-    if any(status for turn in runs for _, status in turn):
-        raise SystemExit(f"{path}: {command} answered otherwise than done")
-    return [1e9 * min(seconds for seconds, _ in column) / os.path.getsize(path) for column in zip(*runs)]
+def tell(name, both, scale):
+    """Prints a line of the old and the new program."""
+    old, new = both
+    pairs = (old.processor, new.processor), (old.wall, new.wall)
+    times = [f"{scale * a:8.2f} {scale * b:8.2f} {b / a:6.3f}" for a, b in pairs]
+    print(f"{name:30} {'  '.join(times)}", flush=True)
 
 
-def measure(programs, command, folder, mix, verifiers, size):
-    """Prints a line of a bundle; the nanoseconds a byte."""
-    old, new = best(programs, command, bundle(folder, mix, verifiers, size))
-    print(f"{command:5} {size:2} MiB {mix.__name__:4} {verifiers} verifiers {old:8.1f} {new:8.1f} {new / old:6.2f}", flush=True)
-    return old, new
+def measure(programs, command, path, turns):
+    """Prints a line of a bundle; what both programs take."""
+    both = least([(words(program, command), path) for program in programs], turns)
+    tell(f"{command} {os.path.basename(path)}", both, 1e9 / os.path.getsize(path))
+    return both
+
+
+def count(programs, command, path):
+    """Prints a line of the instructions that both programs take of a bundle."""
+    old, new = (instructions(words(program, command), path) for program in programs)
+    if old is not None:
+        size = os.path.getsize(path)
+        print(f"{f'{command} {os.path.basename(path)}':30} {old / size:8.2f} {new / size:8.2f} {new / old:6.3f}  instructions", flush=True)
+
+
+def measure_load(programs, name, more, turns):
+    """Prints a line of a load."""
+    load = ["gen", *HOST, "--seed", "1", "--ops", str(REQUESTS), "--keys", "1000", *more]
+    tell(name, least([([program, *load], os.devnull) for program in programs], turns), 1e6 / REQUESTS)
 
 
 def main():
     folder, programs = sys.argv[1], [os.path.abspath(path) for path in sys.argv[2:4]]
-    size = int(sys.argv[4]) if len(sys.argv) > 4 else 64
+    size, turns = (int(word) for word in sys.argv[4:6] + [SIZE, TURNS][len(sys.argv[4:6]) :])
     os.makedirs(folder, exist_ok=True)
-    print("                           old ns/byte  new  new by old")
+    print("                               proc.old      new  ratio  wall old      new  ratio")
     for mix in (bundles.cold, bundles.hot):
-        for command, of in (("check", size), ("audit", AUDITED)):
-            one, four = (measure(programs, command, folder, mix, verifiers, of) for verifiers in (1, 4))
-            if command == "check":
-                print(f"{mix.__name__}: with 4 verifiers {one[0] / four[0]:.2f} times as fast as with 1, and {one[1] / four[1]:.2f} times")
+        one, four = (measure(programs, "check", bundle(folder, mix, verifiers, size), turns) for verifiers in (1, 4))
+        faster = [alone.wall / shared.wall for alone, shared in zip(one, four)]
+        print(f"{mix.__name__}: with 4 verifiers {faster[0]:.2f} times as fast as with 1, and {faster[1]:.2f} times")
+        measure(programs, "audit", bundle(folder, mix, 1, size), turns)
+        for command in ("check", "audit"):
+            count(programs, command, bundle(folder, mix, 1, 1))
+    measure_load(programs, "gen, cold", [], turns)
+    measure_load(programs, "gen, hot", ["--hot", "2"], turns)
     return 0
 
 

@@ -18,7 +18,8 @@ import os
 import random
 import sys
 
-from tools.slow import verifier as slow
+from tools.slow.bundles import Header, header_text
+from tools.slow.texts import Pointer, initial, path_text, side, stamp_text, value_text, with_side
 
 MIB = 2**20
 FRAME, EPOCH = 65536, 8 * MIB
@@ -35,7 +36,7 @@ class Bundle:
         self.file, self.size, self.commands = file, 0, 0
         self.epoch, self.counters = FIRST, [0] * verifiers
         self.waiting = [bytearray() for _ in range(verifiers)]
-        file.write(slow.header_text((verifiers, cache, FIRST, END)))
+        file.write(header_text(Header(verifiers, cache, FIRST, END)))
 
     def log(self, verifier, *texts):
         waiting = self.waiting[verifier]
@@ -67,10 +68,6 @@ class Bundle:
             self.frame(verifier, FRAME)
 
 
-def stamp_text(stamp):
-    return stamp[0].to_bytes(4, "big") + stamp[1].to_bytes(4, "big")
-
-
 class Tree:
     """What a verifier has at the root of its records and below, and the commands that walk there."""
 
@@ -90,30 +87,30 @@ class Tree:
 
     def point(self, parent, path, deferred=False):
         """Has the parent's pointer lead to a path with its value."""
-        digest = hashlib.sha256(slow.value_text(path, self.values[path])).digest()
-        pointer = slow.Pointer(path, digest, deferred)
-        self.values[parent] = slow.with_side(self.values[parent], slow.side(parent, path), pointer)
+        digest = hashlib.sha256(value_text(self.values[path])).digest()
+        pointer = Pointer(path, digest, deferred)
+        self.values[parent] = with_side(self.values[parent], side(parent, path), pointer)
 
     def bring_in(self, path, parent):
-        value = self.values.get(path, slow.initial(path))
-        below = self.values[parent][slow.side(parent, path)]
+        value = self.values.get(path, initial(path))
+        below = self.values[parent][side(parent, path)]
         self.bundle.log(
-            self.verifier, b"\x01", slow.path_text(path), slow.value_text(path, value), slow.path_text(parent)
+            self.verifier, b"\x01", path_text(path), value_text(value), path_text(parent)
         )
         if path not in self.values:
             self.values[path] = value
             self.point(parent, path)
             if below is not None:
-                self.values[path] = slow.with_side(value, slow.side(path, below.path), below)
+                self.values[path] = with_side(value, side(path, below.path), below)
 
     def send_back(self, path, parent):
         self.point(parent, path)
-        self.bundle.log(self.verifier, b"\x02", slow.path_text(path), slow.path_text(parent))
+        self.bundle.log(self.verifier, b"\x02", path_text(path), path_text(parent))
 
     def defer(self, path, parent):
         self.point(parent, path, deferred=True)
         stamp = self.bundle.stamp(self.verifier)
-        self.bundle.log(self.verifier, b"\x05", slow.path_text(path), slow.path_text(parent), stamp_text(stamp))
+        self.bundle.log(self.verifier, b"\x05", path_text(path), path_text(parent), stamp_text(stamp))
         return stamp
 
     def walk(self, key, use):
@@ -131,16 +128,16 @@ def request(chance, bundle, verifier, key, value):
     """A get of a key that has the value, or a put; the value after it."""
     if chance.random() < 0.5:
         value = chance.randbytes(8)
-        bundle.log(verifier, b"\x07", slow.path_text(key), slow.value_text(key, value))
+        bundle.log(verifier, b"\x07", path_text(key), value_text(value))
     else:
-        bundle.log(verifier, b"\x06", slow.path_text(key), slow.value_text(key, value))
+        bundle.log(verifier, b"\x06", path_text(key), value_text(value))
     return value
 
 
 def add_by_stamp(bundle, verifier, path, value, sent):
     stamp, sender = sent
     bundle.received(verifier, stamp)
-    texts = slow.path_text(path), slow.value_text(path, value), stamp_text(stamp), sender.to_bytes(2, "big")
+    texts = path_text(path), value_text(value), stamp_text(stamp), sender.to_bytes(2, "big")
     bundle.log(verifier, b"\x03", *texts)
 
 
@@ -198,7 +195,7 @@ def hot(chance, bundle, verifiers, size):
         if asked:
             values[key] = request(chance, bundle, verifier, key, values[key])
         sent[key] = (bundle.stamp(verifier), verifier)
-        bundle.log(verifier, b"\x04", slow.path_text(key), stamp_text(sent[key][0]))
+        bundle.log(verifier, b"\x04", path_text(key), stamp_text(sent[key][0]))
 
     def close():
         bundle.next_epoch()
@@ -268,7 +265,7 @@ def full_under_stamps(chance, bundle, cache, size):
     while bundle.size < end:
         key = chance.choice(keys)
         sent[key] = (bundle.stamp(0), 0)
-        bundle.log(0, b"\x04", slow.path_text(key), stamp_text(sent[key][0]))
+        bundle.log(0, b"\x04", path_text(key), stamp_text(sent[key][0]))
         add_by_stamp(bundle, 0, key, values[key], sent[key])
         key = chance.choice(keys)
         values[key] = request(chance, bundle, 0, key, values[key])
@@ -281,11 +278,11 @@ def repeated(chance, bundle, epochs):
 
     def put(key, parent):
         tree.values[key] = chance.randbytes(8)
-        bundle.log(0, b"\x07", slow.path_text(key), slow.value_text(key, tree.values[key]))
+        bundle.log(0, b"\x07", path_text(key), value_text(tree.values[key]))
         tree.send_back(key, parent)
 
     def get(key, parent):
-        bundle.log(0, b"\x06", slow.path_text(key), slow.value_text(key, tree.values[key]))
+        bundle.log(0, b"\x06", path_text(key), value_text(tree.values[key]))
         tree.send_back(key, parent)
 
     for key in keys:

@@ -27,8 +27,8 @@ import sys
 from collections import Counter
 
 from bench.runs import KEY, PROGRAM, timed
+from tools.slow.bundles import read_bundle
 from tools.slow.load import draws
-from tools.slow.verifier import Bytes, read_bundle
 
 REQUESTS, SEED, TURNS = 100000, 1, 3
 EVERY, COUNTED = 10000, 20000  # requests of an epoch, and of a run whose digests are counted
@@ -145,11 +145,11 @@ def measure_hot_close(program, folder, workers, shards, phases):
 # ---- what is hashed
 
 
-def deeds(log):
+def deeds(header, log):
     """The names of the commands of each deed behind the first close."""
-    text, deed, outer, closed, later = Bytes(log), [], None, False, False
+    text, deed, outer, closed, later = header.reader(log), [], None, False, False
     while text.at < len(log):
-        name, path, *_ = text.command() + (None,)
+        name, path, *_ = header.command(text) + (None,)
         closed |= name == "nextEpoch"
         if outer is None and name == "addB":
             deed, outer = [], path
@@ -168,9 +168,9 @@ def is_request(deed):
 def digests(vault):
     """The values that verifiers hash, those that the host hashes, and the elements, by request: of requests, and of the close."""
     with open(vault, "rb") as file:
-        _, logs, _ = read_bundle(file.read())
+        header, logs, _ = read_bundle(file.read())
     asked, other = Counter(), Counter()
-    for deed in (deed for log in logs for deed in deeds(log)):
+    for deed in (deed for log in logs for deed in deeds(header, log)):
         (asked if is_request(deed) else other).update(deed)
     requests = asked["get"] + asked["put"]
     return [

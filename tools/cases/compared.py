@@ -8,8 +8,10 @@ import subprocess
 import tempfile
 from typing import NamedTuple
 
-from tools.cases import write
-from tools.slow import fastver, judge
+from tools.cases.later import is_there, wanted
+from tools.slow import fastver, judge, words
+from tools.slow.script import BadScript
+from tools.slow.texts import bits_of
 
 VAULT = "vault"  # where the vault goes that is looked at
 SECONDS = 600  # how long a program may take for one input, also beside other work
@@ -33,45 +35,47 @@ def files_in(folder):
     return found
 
 
-def got_from(program, words, given, environment=None):
+def got_from(program, asked, given, environment=None):
     """What a program answers in a folder of its own."""
     with tempfile.TemporaryDirectory() as folder:
         around = {"cwd": folder, "env": environment, "timeout": SECONDS}
         try:
-            ran = subprocess.run([program, *words], input=given, capture_output=True, check=False, **around)
+            ran = subprocess.run([program, *asked], input=given, capture_output=True, check=False, **around)
         except subprocess.TimeoutExpired as late:
             return Got(late.stdout or b"", -1, b"it takes too long", files_in(folder))
         return Got(ran.stdout, ran.returncode, ran.stderr, files_in(folder))
 
 
-def wanted_for(words, given):
+def wanted_for(asked, given):
     """What the slow program answers, in a folder of its own where it has a vault."""
-    answer, path = fastver.fastver(words if write.is_there(words) else [], given)
+    answer, path = wanted(asked, given)
     files = {}
     if path is not None:
         with tempfile.TemporaryDirectory() as folder, contextlib.chdir(folder):
             answer = fastver.stored(answer, path)
             files = files_in(folder)
-    return Got(answer.written.encode(), answer.status, answer.said.encode(), files)
+    if answer.device is not None:
+        files[fastver.DEVICE] = f"{answer.device}\n".encode()
+    return Got(answer.written, answer.status, answer.said.encode(), files)
 
 
-def meeting(words, given):
+def meeting(asked, given):
     """The options of a run in which two workers come to one shard in a phase, if that is asked for."""
     try:
-        options = fastver.options_of(words)
-        if "--shards" not in options or not write.is_there(words):
+        options = words.options_of(asked)
+        if "--shards" not in options or not is_there(asked):
             return None
-        phases = fastver.phases_of(words[0], options, given)
-    except (fastver.Usage, fastver.BadScript):
+        phases = fastver.phases_of(asked[0], options, given)
+    except (words.Usage, BadScript):
         return None
     bits = options["--shards"].bit_length() - 1
-    came = [{(path[:bits], worker) for worker, _, path, _ in phase} for phase in phases]
+    came = [{(bits_of(request.path)[:bits], request.worker) for request in phase} for phase in phases]
     return options if any(len(pairs) > len({shard for shard, _ in pairs}) for pairs in came) else None
 
 
-def misjudged(words, given, got):
+def misjudged(asked, given, got):
     """What is wrong where workers met: their vault, what was printed, and what was said beside."""
-    wrong = judge.faults(words, given, got.files.get(VAULT, b""), got.output, got.status)
+    wrong = judge.faults(asked, given, got.files.get(VAULT, b""), got.output, got.status)
     last = b"fastver: " + got.output.splitlines(keepends=True)[-1] if got.status and got.output else b""
     return wrong + (["what was said beside is not the last line"] if got.said != last else [])
 

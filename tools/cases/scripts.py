@@ -3,12 +3,11 @@
 There are few keys, so that requests meet; counters that end early and epochs that end late, so that clocks end; and
 scripts with a line that is none.
 """
-# What the slow program does and the built one doesn't yet, so that it must refuse words that ask for it: commands and
-# options, and more workers than so many.
-LATER = []
-MOST_WORKERS = 64
+from tools.slow import fastver
+from tools.slow.digests import ShaDigests
+from tools.slow.script import signing
+from tools.slow.words import options_of
 
-BITS = 64
 TAILS = [0, 1, 5, 2**53]  # of keys, behind their shard's frontier
 VALUES = [".", "00", "61", "6162", "ff" * 64]
 WRONG_LINES = [
@@ -65,15 +64,15 @@ def random_words(chance, workers, hot):
     return ["run"] + [word for pair in words for word in pair], shards
 
 
-def request_line(chance, worker, shards, own):
+def request_line(chance, worker, shards, own, bits):
     """A request of a worker, for a key of one of its shards."""
-    key = (chance.choice(own) << BITS) // shards + chance.choice(TAILS + [(2**BITS - 1) // shards])
+    key = (chance.choice(own) << bits) // shards + chance.choice(TAILS + [(2**bits - 1) // shards])
     kind = chance.choice(["get", "get", "put", "put", "del"])
     value = " " + chance.choice(VALUES) if kind == "put" else ""
     return f"{worker} {kind} {key}{value}".encode()
 
 
-def random_script(chance, workers, shards, shared):
+def random_script(chance, workers, shards, shared, bits):
     """A script of a few phases. In each a shard is one worker's alone, unless the shards are shared."""
     lines = []
     for _ in range(chance.choice([1, 1, 2, 3, 5])):
@@ -81,16 +80,51 @@ def random_script(chance, workers, shards, shared):
         for _ in range(chance.choice([0, 3, 12, 12 * workers])):
             worker = chance.randrange(workers)
             own = [shard for shard in range(shards) if shared or owner[shard] == worker]
-            lines += [request_line(chance, worker, shards, own)] if own else []
+            lines += [request_line(chance, worker, shards, own, bits)] if own else []
         lines.append(b"epoch")
     return lines[:-1]
 
 
-def random_run(chance, workers, hot, shared):
+def version_words(chance, workers, version):
+    """The options of `run` that name a version, how many bits its keys have, and its clients."""
+    bits = chance.choice([64, 128]) if version > 2 else 64
+    clients = workers * chance.choice([1, 2, 3]) if version == 4 else 0
+    words = ["--format", str(version)] if version in (2, 3) or version == 4 and chance.random() < 0.5 else []
+    words += ["--bits", str(bits)] if bits != 64 or version > 2 and chance.random() < 0.5 else []
+    return words + (["--clients", str(clients)] if clients else []), bits, clients
+
+
+def signed_lines(chance, lines, options, workers):
+    """The lines with the requests of each worker asked by clients of it, who sign them."""
+    digests, header, last, signed = ShaDigests(options["--key"]), fastver.header_of(options), {}, []
+    for line in lines:
+        worker, _, asked = line.partition(b" ")
+        if asked:
+            client = chance.randrange(int(worker), header.clients, workers)
+            number = str(last.get(client, 0) + chance.choice([1, 1, 1, 7])).encode()
+            line = signing(number + b" " + asked, header, digests, client, last).strip().encode()
+        signed.append(line)
+    return signed
+
+
+def wrong_signed(chance, lines):
+    """A line of a client that comes again, or with another client, number, tag, key or value; a line that is none where there is none."""
+    line = chance.choice([line for line in lines if line != b"epoch"] or [b"0 1 00 get 5"])
+    words = line.split(b" ")
+    at, word = chance.choice([(0, b"65536"), (0, b"00"), (1, b"0"), (1, b"18446744073709551616"), (2, b"0" * 64), (4, b"05"), (4, b"6")])
+    return [line, line.upper(), line.replace(b" ", b"  ", 1), b" ".join(words[:at] + [word] + words[at + 1 :])]
+
+
+def random_run(chance, workers, hot, shared, version=1):
     """The words of `run`, and a script."""
     words, shards = random_words(chance, workers, hot)
-    lines = random_script(chance, workers, shards, shared)
+    more, bits, clients = version_words(chance, workers, version)
+    words += more
+    lines = random_script(chance, workers, shards, shared, bits)
+    if clients:
+        lines = signed_lines(chance, lines, options_of(words), workers)
     if chance.random() < 0.15:
-        lines.insert(chance.randrange(len(lines) + 1), chance.choice(WRONG_LINES))
+        wrong = WRONG_LINES if not clients or chance.random() < 0.3 else wrong_signed(chance, lines)
+        lines.insert(chance.randrange(len(lines) + 1), chance.choice(wrong))
     ending = b"" if lines and chance.random() < 0.2 else b"\n"
     return words, b"\n".join(lines) + ending if lines else b""

@@ -24,7 +24,7 @@ KEY_ENDS = [
     ["--key", KEY, "--"],
 ]
 HOST = ["--key", KEY, "--verifiers", "1", "--shards", "2"]
-# what may follow the words that a host needs: those of the first list are accepted
+# what may follow the words that a host needs
 HOST_ENDS = [
     [],
     ["--first", "4294967295"],
@@ -46,6 +46,29 @@ HOST_ENDS = [
     ["--hot", "1000001"],
     ["--receipts=1"],
     ["--receipts", "--receipts"],
+    ["--format", "1"],
+    ["--format", "2"],
+    ["--format=2", "--absent"],
+    ["--format", "0"],
+    ["--format", "02"],
+    ["--format", "9"],
+    ["--absent"],
+    ["--absent=1"],
+    ["--absent", "--absent"],
+    ["--format", "3", "--bits", "128"],
+    ["--format", "3", "--bits", "65"],
+    ["--format", "2", "--bits", "64"],
+    ["--bits", "64"],
+    ["--clients", "65536"],
+    ["--clients", "1", "--format", "4", "--bits", "128"],
+    ["--clients", "0"],
+    ["--clients", "65537"],
+    ["--clients", "1", "--format", "3"],
+    ["--clients", "1", "--absent"],
+    ["--format", "4"],
+    ["--rolling"],
+    ["--rolling", "--hot", "1"],
+    ["--rolling=1"],
     ["--logs"],
     ["--every", "1"],
     ["more"],
@@ -71,6 +94,8 @@ LOAD_ENDS = [
     ["--every", "0"],
     ["--every", "1000001"],
     ["--receipts"],
+    ["--format", "2"],
+    ["--absent"],
     ["--seed", "1"],
 ]
 LOAD_WORDS = [
@@ -80,7 +105,19 @@ LOAD_WORDS = [
     HOST + ["--seed", "18446744073709551616", "--ops", "3"],
     HOST + ["--seed", "0", "--ops", "1000001"],
 ] + [HOST + ["--seed", "0", "--ops", "3"] + end for end in LOAD_ENDS]
+SIGN_WORDS = [
+    [],
+    ["--client", "0"],
+    ["--client=65535", "--bits=128"],
+    ["--client", "65536"],
+    ["--client", "0", "--bits", "32"],
+    ["--client", "0", "--receipts"],
+]
 OTHER_WORDS = [
+    ["check", "--key", KEY, "--seal"],
+    ["check", "--key", KEY, "--seal", ".", "--receipts"],
+    ["resume", "--key", KEY],
+    ["resume", "--key", KEY, "--receipts"],
     [],
     [""],
     ["help"],
@@ -98,9 +135,11 @@ OTHER_WORDS = [
 BUNDLE = bytes.fromhex("46564231 0001 00000004 00000000 0000ffff 0000 00000002 0808")
 SCRIPT = b"0 put 5 6162\n0 get 5\n"
 RECEIPT = b"receipt 01\n"
+TO_SIGN = b"1 get 5\n7 put 5 6162\n8 del 5\n"
 
-CASES = [([command] + end, BUNDLE) for command in ("check", "audit") for end in KEY_ENDS]
+CASES = [([command] + end, BUNDLE) for command in ("check", "audit", "follow", "upgrade") for end in KEY_ENDS]
 CASES += [(words, BUNDLE) for words in OTHER_WORDS]
 CASES += [(["run"] + words, SCRIPT) for words in HOST_WORDS]
 CASES += [(["gen"] + words, b"") for words in LOAD_WORDS]
 CASES += [(["accept"] + end, RECEIPT) for end in KEY_ENDS]
+CASES += [(["sign", "--key", KEY] + end, TO_SIGN) for end in SIGN_WORDS]

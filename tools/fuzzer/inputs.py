@@ -7,11 +7,16 @@ from typing import NamedTuple
 
 from tools.cases import scripts, write
 from tools.cases.compared import VAULT
-from tools.cases.words import BUNDLE, CASES, RECEIPT, SCRIPT
-from tools.fuzzer.changes import BLOBS, BUNDLE_CHANGES, BYTE_CHANGES, HEADER, LIST_CHANGES, changed_item, cut, edge, flip_bit, often
-from tools.slow import fastver, host, receipts
-from tools.slow import verifier as slow
-from tools.slow.script import read_script
+from tools.cases.words import BUNDLE, CASES, RECEIPT, SCRIPT, TO_SIGN
+from tools.fuzzer.changes import BUNDLE_CHANGES, behind_header, frames_of
+from tools.fuzzer.edges import BLOBS, BYTE_CHANGES, LIST_CHANGES, changed_item, cut, edge, flip, flip_bit, often
+from tools.slow import fastver, host, receipts, seals
+from tools.slow.commands import COMMANDS
+from tools.slow.digests import ShaDigests
+from tools.slow.script import BadScript, read_script
+from tools.slow.texts import data_path
+from tools.slow.verifier import Event, findings
+from tools.slow.words import NEEDED, OPTIONS, RANGES, options_of
 
 
 class Input(NamedTuple):
@@ -30,12 +35,12 @@ def random_key(chance):
 def host_bundle(chance):
     """The key and the bundle that the slow host writes for a script, whose workers came to its shards one after another."""
     words, script = random_run(chance, chance.choice([1, 1, 2, 3, 8]))
-    options = fastver.options_of(words)
+    options = options_of(words)
+    digests = ShaDigests(options["--key"])
     try:
-        phases = read_script(script, options["--verifiers"])
-    except fastver.BadScript:
+        phases = read_script(script, fastver.header_of(options), digests)
+    except BadScript:
         phases = [[]]
-    digests = slow.ShaDigests(options["--key"])
     return options["--key"].hex(), host.run(digests, fastver.settings_of(options), phases)[0]
 
 
@@ -43,7 +48,8 @@ def any_bundle(chance):
     """A key and a bundle as one writes it. Very few are longer than what is read at a time."""
     if chance.random() < 0.3:
         return host_bundle(chance)
-    return write.random_case(chance, chance.choice([0, 1]) if chance.random() < 0.002 else chance.randrange(2, 1000))
+    is_long, version = chance.random() < 0.002, chance.choice(list(COMMANDS))
+    return write.random_case(chance, chance.choice([0, 1]) if is_long else chance.randrange(2, 1000), version)
 
 
 def random_bundle(chance):
@@ -51,7 +57,7 @@ def random_bundle(chance):
     key, bundle = any_bundle(chance)
     if chance.random() < 0.1:
         other = any_bundle(chance)[1]
-        bundle = chance.choice([bundle + other[HEADER:], cut(chance, bundle) + other[chance.randrange(len(other) + 1) :]])
+        bundle = chance.choice([bundle + other[behind_header(other) :], cut(chance, bundle) + other[chance.randrange(len(other) + 1) :]])
     return key, bundle if chance.random() < 0.25 else often(chance, bundle, BUNDLE_CHANGES)
 
 
@@ -65,13 +71,53 @@ def audits(chance, _):
     return ["audit", "--key", key], bundle
 
 
+def follows(chance, _):
+    key, bundle = random_bundle(chance)
+    return ["follow", "--key", key], bundle
+
+
+def upgrades(chance, _):
+    key, bundle = random_bundle(chance)
+    return ["upgrade", "--key", key], bundle
+
+
+# ---- seals
+
+
+def sealings(chance, _):
+    key, bundle = random_bundle(chance)
+    return ["check", "--key", key, "--seal", VAULT], bundle
+
+
+def cut_at_frame(chance, bundle):
+    """A bundle in two, the first of which ends behind a frame."""
+    ends = [behind_header(bundle)]
+    for _, _, body in frames_of(bundle):
+        ends.append(ends[-1] + 6 + len(body))
+    at = chance.choice([ends[-1], *ends])
+    return bundle[:at], bundle[at:]
+
+
+def resumings(chance, _):
+    """A seal of a bundle's beginning, changed most times, and the frames behind it."""
+    key, bundle = any_bundle(chance)
+    digests, (front, rest) = ShaDigests(bytes.fromhex(key)), cut_at_frame(chance, bundle)
+    found = findings(digests, front)
+    if not found.verifiers:
+        return ["resume", "--key", key], bundle
+    seal = seals.write_seal(digests, found, chance.choice([0, 0, 0, 1, 2**64 - 1]), len(front))
+    text = often(chance, seal[: -seals.TAG_BYTES], BYTE_CHANGES, most=1)
+    tag = digests.tag(text) if chance.random() < 0.9 else flip(chance, seal[-seals.TAG_BYTES :])
+    return ["resume", "--key", key], text + tag + (rest if chance.random() < 0.8 else often(chance, rest, BYTE_CHANGES))
+
+
 # ---- scripts
 
 
 def good_line(chance, worker):
     """A line of this worker that asks for something at an edge."""
     kind = chance.choice(["get", "put", "put", "del"])
-    value = " " + chance.choice([".", "00", "61" * 63, "61" * 64]) if kind == "put" else ""
+    value = " " + chance.choice([".", "00", "61" * 63, "61" * 64, "61" * 255]) if kind == "put" else ""
     return f"{worker} {kind} {edge(chance, 8)}{value}".encode()
 
 
@@ -106,30 +152,51 @@ def many_keys(chance, workers):
     """A script over many keys, which lie together and far away."""
     lines = []
     for _ in range(chance.choice([20, 60, 200])):
-        key = chance.choice([chance.getrandbits(64), chance.getrandbits(8), 2**63 + chance.getrandbits(4), edge(chance, 8)])
+        far = chance.getrandbits(chance.choice([64, 64, 128]))
+        key = chance.choice([far, chance.getrandbits(8), 2**63 + chance.getrandbits(4), edge(chance, 8)])
         kind = chance.choice(["get", "put", "put", "del"])
-        value = " " + (chance.randbytes(chance.choice([1, 8, 64])).hex()) if kind == "put" else ""
+        value = " " + (chance.randbytes(chance.choice([1, 8, 64, 64, 255])).hex()) if kind == "put" else ""
         lines.append(f"{chance.randrange(workers)} {kind} {key}{value}\n" + "epoch\n" * (chance.random() < 0.04))
     return "".join(lines).encode()
 
 
 def random_run(chance, workers, shared=False):
     """The words of `run` and a script, over few keys or many."""
-    words, script = scripts.random_run(chance, workers, chance.random() < 0.5, shared)
+    version = chance.choice([1, *COMMANDS])
+    words, script = scripts.random_run(chance, workers, chance.random() < 0.5, shared, version)
     return words, many_keys(chance, workers) if chance.random() < 0.2 else script
+
+
+def more_words(chance):
+    """Options of a run that any script may have, and where its vault goes."""
+    return ["--receipts"] * (chance.random() < 0.2) + ["--absent"] * (chance.random() < 0.2) + ["--logs", VAULT]
 
 
 def runs(chance, _):
     """Runs of one worker, or of several that mostly keep to shards of their own."""
-    words, script = random_run(chance, chance.choice([1, 1, 1, 2, 3, 5, 64]))
+    workers = chance.choice([1, 1, 1, 2, 3, 5, 64])
+    words, script = random_run(chance, workers)
     script = script if chance.random() < 0.5 else other_lines(chance, script)
-    return words + ["--receipts"] * (chance.random() < 0.2) + ["--logs", VAULT], script
+    rolling = ["--rolling"] * (workers == 1 and chance.random() < 0.3)  # the order of several isn't determined
+    return words + rolling + more_words(chance), script
+
+
+def signs(chance, _):
+    """Lines that a client is to sign, most of them with rising numbers."""
+    number, lines = 0, []
+    for _ in range(chance.choice([0, 1, 5, 20])):
+        number += chance.choice([1, 1, 1, 5, 2**40]) if chance.random() < 0.97 else 0
+        lines.append(good_line(chance, number))
+    script = b"\n".join(lines) + chance.choice([b"", b"\n", b"\n"])
+    script = script if chance.random() < 0.6 else other_lines(chance, script)
+    bits = chance.choice([[], ["--bits", "64"], ["--bits", "128"]])
+    return ["sign", "--key", random_key(chance).hex(), "--client", str(chance.choice([0, 1, 65535])), *bits], script
 
 
 def meetings(chance, _):
     """Runs of several workers that meet at shards and keys."""
     words, script = random_run(chance, chance.choice([2, 2, 3, 4, 8, 16]), shared=True)
-    return words + ["--receipts"] * (chance.random() < 0.2) + ["--logs", VAULT], script
+    return words + more_words(chance), script
 
 
 def loads(chance, _):
@@ -150,7 +217,7 @@ def loads(chance, _):
 
 # ---- words
 
-NAMES = sorted({name for options in fastver.OPTIONS.values() for name in options})
+NAMES = sorted({name for options in OPTIONS.values() for name in options})
 NUMBERS = ["0", "1", "2", "3", "4", "7", "64", "65", "1024", "1025"]
 NO_NUMBERS = ["01", "+1", "-1", "", " 1", "1 ", "0x1", "1e3", "1_0", "1.0", "\u0661"]
 PATHS = [VAULT, ".", "", f"none/{VAULT}", "/", f"{VAULT}/"]
@@ -163,15 +230,16 @@ def random_word(chance, name):
         return chance.choice([random_key(chance).hex(), random_key(chance).hex().upper(), "0" * edge(chance, 1), "0g" * 16, ""])
     if name == "--logs":
         return chance.choice(PATHS)
-    return chance.choice([*NUMBERS, *NO_NUMBERS, str(edge(chance, 8)), *map(str, fastver.RANGES.get(name, (1, 2)))])
+    return chance.choice([*NUMBERS, *NO_NUMBERS, str(edge(chance, 8)), *map(str, RANGES.get(name, (1, 2)))])
 
 
 def needed_words(chance, command):
     """The options of a command that it must have, and some of the others, with values that it takes."""
     good = {"--key": random_key(chance).hex(), "--verifiers": "1", "--shards": "2", "--seed": "7", "--ops": "3", "--logs": VAULT}
+    good |= {"--format": chance.choice("1234"), "--bits": chance.choice(["64", "128"])}
     words = []
-    for name, default in fastver.OPTIONS[command].items():
-        if default is fastver.NEEDED or chance.random() < 0.4:
+    for name, default in OPTIONS[command].items():
+        if default is NEEDED or chance.random() < 0.4:
             words.append([name] + ([] if default is False else [good.get(name, "5")]))
     return words
 
@@ -197,10 +265,10 @@ def lines_of_words(chance, _):
     """Words of a command with a few changes, most of them refused."""
     if chance.random() < 0.05:
         return chance.choice(CASES)
-    command = chance.choice(list(fastver.OPTIONS))
+    command = chance.choice(list(OPTIONS))
     options = often(chance, needed_words(chance, command), OPTION_CHANGES, most=2)
     command = command if chance.random() < 0.97 else chance.choice(STRAY)
-    given = {"run": SCRIPT, "gen": b"", "accept": RECEIPT}.get(command, BUNDLE)
+    given = {"run": SCRIPT, "gen": b"", "accept": RECEIPT, "sign": TO_SIGN}.get(command, BUNDLE)
     return [command] + [word for option in options for word in option], given
 
 
@@ -209,7 +277,8 @@ def lines_of_words(chance, _):
 
 def random_operation(chance):
     moment = edge(chance, 4), edge(chance, 4), edge(chance, 2), edge(chance, 8)
-    return moment, chance.choice(["get", "put"]), f"{edge(chance, 8):064b}", chance.choice(BLOBS[:-2])
+    bits = chance.choice([64, 64, 128])
+    return Event(moment, chance.choice(["get", "put"]), data_path(edge(chance, bits // 8), bits), chance.choice(BLOBS))
 
 
 def tagged_line(word, digests, text):
@@ -218,8 +287,8 @@ def tagged_line(word, digests, text):
 
 def evidence(chance, key):
     """The lines of a receipt and of a certificate that is mostly of its epoch, or of texts that are changed and then tagged."""
-    digests, operation = slow.ShaDigests(key), random_operation(chance)
-    epoch = operation[0][0]
+    digests, operation = ShaDigests(key), random_operation(chance)
+    epoch = operation.moment[0]
     first, last = chance.choice([(epoch, epoch), (0, 2**32 - 1), (edge(chance, 4), epoch), (epoch, edge(chance, 4))])
     texts = [receipts.receipt_text(operation), receipts.certificate_text(first, last)]
     if chance.random() < 0.3:
@@ -254,12 +323,12 @@ def acceptances(chance, _):
 
 
 BIT_KEY = bytes(16)
-BIT_OPERATION = (7, 9, 1, 30), "put", f"{5:064b}", b"ab"
+BIT_OPERATION = Event((7, 9, 1, 30), "put", data_path(5), b"ab")
 
 
 def flipped_bits(_, number):
     """Of one receipt and certificate a bit changed of the texts and tags; another one for each number."""
-    digests = slow.ShaDigests(BIT_KEY)
+    digests = ShaDigests(BIT_KEY)
     texts = [receipts.receipt_text(BIT_OPERATION), receipts.certificate_text(0, 7)]
     whole = [text + digests.tag(text) for text in texts]
     size, data = len(whole[0]), b"".join(whole)
@@ -272,6 +341,11 @@ def flipped_bits(_, number):
 KINDS = {
     "check": (checks, 6),
     "audit": (audits, 3),
+    "follow": (follows, 1),
+    "upgrade": (upgrades, 1),
+    "sign": (signs, 1),
+    "seal": (sealings, 1),
+    "resume": (resumings, 1),
     "run": (runs, 4),
     "meet": (meetings, 2),
     "gen": (loads, 1),

@@ -21,8 +21,12 @@ from collections import Counter
 from typing import NamedTuple
 
 from tools.cases.compared import VAULT, differing, got_from, meeting, misjudged, wanted_for
-from tools.slow import fastver, receipts
-from tools.slow.verifier import ShaDigests, command_text, findings, header_text
+from tools.slow import fastver, receipts, words
+from tools.slow.bundles import Header, frame_text, header_text
+from tools.slow.commands import command_text
+from tools.slow.digests import ShaDigests
+from tools.slow.texts import data_path
+from tools.slow.verifier import Event, findings
 
 HERE = os.path.dirname(os.path.abspath(__file__))
 BUNDLE = os.path.join(HERE, "..", "..", "crates", "fastver_cli", "stdin")
@@ -80,22 +84,22 @@ def load_row(name, *more, workers=1):
 
 def unbalanced():
     """A bundle of two verifiers, of which each adds what was evicted once."""
-    key, added = f"{5:064b}", ("addB", f"{5:064b}", b"ab", (0, 1), 0)
+    key, added = data_path(5), ("addB", data_path(5), b"ab", (0, 1), 0)
     logs = [
         [("addM", key, None, ""), ("put", key, b"ab"), ("evictBM", key, "", (0, 1)), added, ("get", key, b"ab")],
         [added, ("put", key, b"ac")],
     ]
-    bundle = header_text((2, 4, 0, 16777215))
+    bundle = header_text(Header(2, 4, 0, 16777215))
     for verifier, commands in enumerate(logs):
         log = b"".join(map(command_text, commands + [("nextEpoch",)] * 2))
-        bundle += verifier.to_bytes(2, "big") + len(log).to_bytes(4, "big") + log
+        bundle += frame_text(verifier, log)
     return bundle
 
 
 def evidence(epoch=0, flipped=0):
     """A receipt of this epoch and a certificate of epoch 0, with these bits of the receipt's last byte flipped."""
     digests = ShaDigests(bytes(16))
-    operation = (epoch, 3, 0, 7), "put", f"{5:064b}", b"ab"
+    operation = Event((epoch, 3, 0, 7), "put", data_path(5), b"ab")
     receipt = bytes.fromhex(receipts.tagged(digests, receipts.receipt_text(operation)))
     receipt = receipt[:-1] + bytes([receipt[-1] ^ flipped])
     certificate = receipts.tagged(digests, receipts.certificate_text(0, 0))
@@ -107,7 +111,7 @@ def reader_rows():
     with open(BUNDLE, "rb") as file:
         bundle = file.read()
     hot = run_row("", TOGETHER, "--hot", "2", workers=2)
-    vault = fastver.fastver(hot.words, hot.given)[0].vault
+    vault, by_slots = (fastver.fastver(hot.words + more, hot.given)[0].vault for more in ([], ["--format", "2"]))
     return [
         Row("check", ["check", *KEY], bundle),
         Row("check of a wrong get", ["check", *KEY], bundle.replace(b"\1\2ab\x08\x08", b"\1\2ac\x08\x08")),
@@ -115,8 +119,10 @@ def reader_rows():
         Row("check of what is unbalanced", ["check", *KEY], unbalanced()),
         Row("check of two workers", ["check", *KEY], vault),
         Row("check of two workers, receipts", ["check", *KEY, "--receipts"], vault),
+        Row("check of two workers, slots", ["check", *KEY], by_slots),
         Row("audit", ["audit", *KEY], bundle),
         Row("audit of two workers", ["audit", *KEY], vault),
+        Row("audit of two workers, slots", ["audit", *KEY], by_slots),
         Row("accept", ["accept", *KEY], evidence()),
         Row("accept, not tagged", ["accept", *KEY], evidence(flipped=1)),
         Row("accept, not certified", ["accept", *KEY], evidence(epoch=1)),
@@ -132,6 +138,7 @@ def host_rows():
         run_row("run", SCRIPT),
         run_row("run of nothing", b""),
         run_row("run, receipts", SCRIPT, "--receipts"),
+        run_row("run, slots", SCRIPT, "--format", "2"),
         run_row("run of a clock that ends", SCRIPT, "--counter", "4"),
         run_row("run of a bad line", SCRIPT + b"0 put 05 61\n"),
         run_row("run of 64 gets", b"0 get 5\n" * 64),
@@ -140,6 +147,7 @@ def host_rows():
         run_row("run of 2 workers apart, hot", APART, "--hot", "2", workers=2),
         run_row("run of 2 workers together", TOGETHER, workers=2),
         run_row("run of 2 workers together, hot", TOGETHER, "--hot", "2", workers=2),
+        run_row("run of 2 workers together, hot, slots", TOGETHER, "--hot", "2", "--format", "2", workers=2),
         run_row("run of 4 workers, hot", TOGETHER, "--hot", "2", workers=4),
         load_row("gen of 1", "--seed", "0", "--ops", "1"),
         load_row("gen of 0", "--seed", "0", "--ops", "0"),
@@ -159,7 +167,7 @@ def front_of(row, wanted, vault):
         digests = ShaDigests(bytes(16))
         return fastver.report(findings(digests, vault), digests if "--receipts" in row.words else None).encode()
     if row.words[0] == "gen" and vault is not None:
-        return fastver.told("gen", fastver.options_of(row.words), vault, None).written.encode()
+        return fastver.told("gen", words.options_of(row.words), vault, None).written
     return b""
 
 

@@ -24,7 +24,7 @@ from functools import cache
 from typing import NamedTuple
 
 from tools.gate import sources
-from tools.slow import fastver
+from tools.slow import words
 
 DOCUMENTS = ["README.md", "CONTRIBUTING.md", *sorted(glob.glob("docs/*.md"))]
 WORD = r"[A-Za-z][A-Za-z0-9_]*"
@@ -158,7 +158,7 @@ def crates_in(block):
 
 def is_file(path, block, folder):
     """Whether a path is that of a file or folder, as the block of a document in a folder says it. What is built is not looked at."""
-    if re.search(r"(^|/)out/", path) or path.startswith("../shared/"):
+    if re.search(r"(^|/)out(/|$)", path) or path.startswith("../shared/"):
         return True
     path = os.path.normpath(path)
     if {path, f"crates/{path}", os.path.normpath(f"{folder}/{path}")} & repository():
@@ -209,7 +209,7 @@ def wrong_definitions(block):
     if not re.match(rf"- `{WORD}/specs/{WORD}\.antt`", block.text):
         return
     below = {crate.name: crate.below for crate in sources.crates()}
-    known = set(fastver.OPTIONS)
+    known = set(words.OPTIONS)
     for crate in set(crates_in(block)):
         known |= sources.declared(crate) | set(below[crate])
         known |= set().union(*(sources.declared(it) for it in below[crate] if it in below))

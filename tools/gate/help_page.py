@@ -5,16 +5,18 @@ usage: tools/run gate.help_page write|check
 Run at the top of the repository. tools/share/fastver.txt is the page of help, as `./fastver help` shows it: a title, and sections
 with a head in capitals. A line with two blanks before it is an item or a text, which may go on in the next lines; one with six says
 what the item above it is. `check` also looks that the commands and options are those of README and of the slow
-program, that the statuses are those of docs/FORMATS.md, and that tools/share/version and README name the kit that is installed,
-where one is. It writes a line for what is otherwise, and fails where anything is.
+program, but for what the built one hasn't yet, that the statuses are those of docs/FORMATS.md, and that tools/share/version and
+README name the logic of the kit that is installed, where one is: kits with one logic prove the same. It writes a line for what is
+otherwise, and fails where anything is.
 """
 import re
 import shutil
 import subprocess
 import sys
 
+from tools.cases.later import LATER
 from tools.gate.sources import read
-from tools.slow import fastver
+from tools.slow.words import OPTIONS
 
 PAGE, VERSION = "tools/share/fastver.txt", "tools/share/version"
 MAN, COMPLETION = "tools/share/fastver.1", "tools/share/fastver.bash"
@@ -96,14 +98,19 @@ def completion_of(page):
     return COMPLETION_HEAD % (" ".join(words), paths, others) + cases + COMPLETION_END
 
 
+def logic_in(text):
+    """The sum of the logic that a text names, on which a proof rests."""
+    return next(iter(re.findall(r"\blogic ([0-9a-f]{16})\b", text)), None)
+
+
 def faults(page, made):
     """What is otherwise than it is to be."""
     for file, text in made.items():
         if read(file) != text:
             yield f"{file}: it is not as made of {PAGE}"
     named = {name: set(options) for name, options in commands(page).items() if options}
-    if named != {name: set(options) for name, options in fastver.OPTIONS.items()}:
-        yield f"{PAGE}: its commands and options are not those of tools/slow/fastver.py"
+    if named != {name: set(options) - set(LATER) for name, options in OPTIONS.items() if name not in LATER}:
+        yield f"{PAGE}: its commands and options are not those of tools/slow/words.py that the program has"
     readme = [" ".join(line.split()[1:]) for line in read("README.md").splitlines() if line.startswith("    fastver ")]
     if readme != [item for item, _ in sections(page)["COMMANDS"] if item.split()[0] in named]:
         yield f"README.md: its commands are not those of {PAGE}"
@@ -113,11 +120,11 @@ def faults(page, made):
     said = {item.split()[0] for item, _ in sections(page)["OPTIONS"]}
     if said != set().union(*named.values()):
         yield f"{PAGE}: the options of its commands are not those of its section of options"
-    kit = read(VERSION).splitlines()[-1].removeprefix("proved with ")
-    if shutil.which("rt") and subprocess.run(["rt", "version"], capture_output=True, text=True, check=False).stdout.strip() != kit:
-        yield f"{VERSION}: it names another kit than `rt version`"
-    if f"`{kit}`" not in read("README.md"):
-        yield f"README.md: it names another kit than {VERSION}"
+    logic = logic_in(read(VERSION))
+    if shutil.which("rt") and logic_in(subprocess.run(["rt", "version"], capture_output=True, text=True, check=False).stdout) != logic:
+        yield f"{VERSION}: it names another logic than `rt version`"
+    if logic_in(read("README.md")) != logic:
+        yield f"README.md: it names another logic than {VERSION}"
 
 
 def main():

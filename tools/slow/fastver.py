@@ -1,6 +1,6 @@
 """The definitions of docs/DEFINITIONS.md as a plain slow program: what `fastver` must print, answer and write.
 
-usage: tools/run slow.fastver check|audit|run|gen|accept OPTION.. < INPUT
+usage: tools/run slow.fastver COMMAND OPTION.. < INPUT
        tools/run slow.fastver --toy check|audit < BUNDLE
        tools/run slow.fastver --cases FOLDER..
 
@@ -9,52 +9,67 @@ compares it with a folder of cases: NAME is an input, NAME.args its words, one a
 printed, status/NAME the exit status, stderr/NAME what must be said beside. Where NAME.vault is there, it is what must be
 written for the words `--logs PATH` behind the others, or the one word `none`, where nothing is.
 
-What a verifier does with a bundle stands in verifier.py, what a host logs in host.py.
+What a verifier does with a bundle stands in verifier.py, what a host logs in host.py, and which words there are in words.py.
 """
 import os
 import re
 import sys
 from typing import NamedTuple
 
-from tools.slow import host, load, receipts
-from tools.slow.script import BadScript, read_script
-from tools.slow.verifier import ShaDigests, ToyDigests, findings
+from tools.slow import host, load, receipts, seals
+from tools.slow.bundles import Header
+from tools.slow.digests import ShaDigests, ToyDigests
+from tools.slow.script import BadScript, read_script, sign
+from tools.slow.slots import upgraded
+from tools.slow.texts import key_of
+from tools.slow.verifier import Findings, findings
+from tools.slow.words import Usage, options_of
+
+LAST_NUMBER = 2**64 - 1  # of the device
+COUNTER_FAULT = "fastver: counter fault\n"
 
 
 class Answer(NamedTuple):
-    """What is written, the exit status, what is said beside, and the vault's bytes, if anything is to be in it."""
+    """What is written, the exit status, what is said beside, the vault's bytes, if anything is to be in it, and the number
+    to which the device is raised, if it is."""
 
-    written: str
+    written: bytes
     status: int
     said: str
     vault: bytes | None = None
+    device: int | None = None
 
 
 def answer(written, last, status, vault=None):
     """The answer whose text ends with a line, which is said beside where the status isn't 0."""
-    return Answer(written + last, status, "fastver: " + last if status else "", vault)
+    return Answer((written + last).encode(), status, "fastver: " + last if status else "", vault)
 
 
 # ---- a report
 
 
 def operations(found):
-    """The gets and puts of the certified epochs in order, each its moment, `get` or `put`, a path and a value."""
-    asked = [event for event in found.order if event.deed in ("get", "put")]
-    return [(event.moment, event.deed, event.of, event.what) for event in asked if event.moment[0] in found.epochs()]
+    """The gets and puts of the certified epochs in order."""
+    return [event for event in found.order if event.deed in ("get", "put") and event.moment[0] in found.epochs()]
+
+
+def shown(value):
+    return "none" if value is None else value.hex() or "."
 
 
 def line(operation):
-    (epoch, counter, verifier, _), kind, path, value = operation
-    text = "none" if value is None else value.hex() or "."
-    return f"{epoch}.{counter} v{verifier} {kind} {int(path, 2)} {text}\n"
+    epoch, counter, verifier, _ = operation.moment
+    text = f"{epoch}.{counter} v{verifier} {operation.deed} {key_of(operation.of)} {shown(operation.what)}"
+    if operation.signature is not None:
+        text += f" client {operation.signature.client} number {operation.signature.number}"
+    return text + "\n"
 
 
 def report(found, digests=None):
     """The lines of each certified epoch, with receipts under the key of the digests that are given."""
     written, all_operations = "", operations(found)
     for epoch in found.epochs():
-        of_epoch = [operation for operation in all_operations if operation[0][0] == epoch]
+        of_epoch = [operation for operation in all_operations if operation.moment[0] == epoch]
         written += f"epoch {epoch} certified {len(of_epoch)}\n"
         for operation in of_epoch:
             written += line(operation)
@@ -69,14 +84,50 @@ def check(found, digests=None):
     return answer(report(found, digests), found.last, found.status)
 
 
+def follow(found):
+    """What keys have a value behind the certified operations, by key."""
+    values = {operation.of: operation.what for operation in operations(found) if operation.deed == "put"}
+    lines = [f"{key_of(path)} {shown(value)}\n" for path, value in sorted(values.items()) if value is not None]
+    return answer("".join(lines), found.last, found.status)
+
+
+def upgrade(found, data):
+    """The bundle in the newest version that has all that it says, where all of it is read and every epoch certified."""
+    if found.status:
+        return Answer(b"", found.status, "fastver: " + found.last)
+    return Answer(upgraded(data), 0, "")
+
+
+# ---- seals, and the device that they ask: its number is None where it can't be read
+
+
+def check_and_seal(digests, data, device):
+    """A check, and the seal of the bundle where all of it is certified."""
+    found = findings(digests, data)
+    if found.status:
+        return check(found)._replace(vault=b"")
+    if device in (None, LAST_NUMBER):
+        return Answer(report(found).encode(), 17, COUNTER_FAULT, b"")
+    seal = seals.write_seal(digests, found, device + 1, len(data))
+    return Answer((report(found) + f"sealed {found.count}\n").encode(), 0, "", seal, device + 1)
+
+
+def resume(digests, data, device):
+    """The rest of a check that goes on from a seal, or why it doesn't."""
+    found = seals.resume(digests, data, device)
+    if isinstance(found, Findings):
+        return check(found)
+    return answer("", *found) if found is not None else Answer(b"", 17, COUNTER_FAULT)
+
+
 # ---- an audit
 
 
 def audit(found):
     """The exhibit, and the report's last line."""
-    shown = uneven(found) or clash(found)
-    if shown is not None:
-        return Answer(shown + found.last, 13, "fastver: exhibit\n")
+    exhibit = uneven(found) or clash(found)
+    if exhibit is not None:
+        return Answer((exhibit + found.last).encode(), 13, "fastver: exhibit\n")
     return answer(f"clean {found.count}\n", found.last, found.status)
 
 
@@ -119,7 +170,7 @@ def summary(found, shape):
     """What was certified of a load."""
     written, done = f"gen seed {shape.seed} ops {shape.ops}\nepochs {found.count}\n", operations(found)
     for worker in range(shape.verifiers):
-        own = [(kind, value is None) for moment, kind, _, value in done if moment[2] == worker]
+        own = [(operation.deed, operation.what is None) for operation in done if operation.moment[2] == worker]
         gets, none = sum(kind == "get" for kind, _ in own), own.count(("get", True))
         puts, dels = own.count(("put", False)), own.count(("put", True))
         written += f"worker {worker} gets {gets} none {none} puts {puts} dels {dels}\n"
@@ -143,88 +194,21 @@ def accept(digests, data):
     accepted = receipts.accept(digests, data)
     if accepted in ("not tagged", "not certified"):
         return answer("", accepted + "\n", 11 if accepted == "not tagged" else 12)
-    return Answer("accepted " + line(accepted), 0, "")
+    return Answer(("accepted " + line(accepted)).encode(), 0, "")
 
 
-# ---- the program's words
-
-RANGES = {
-    "--verifiers": (1, 64),
-    "--shards": (2, 1024),
-    "--hot": (1, 1000000),
-    "--first": (0, 2**32 - 1),
-    "--counter": (1, 16777215),
-    "--seed": (0, 2**64 - 1),
-    "--ops": (0, 1000000),
-    "--keys": (1, 65536),
-    "--every": (1, 1000000),
-}
-NEEDED = object()
-KEY, RECEIPTS = {"--key": NEEDED}, {"--receipts": False}
-HOST = KEY | {"--verifiers": NEEDED, "--shards": NEEDED, "--hot": None, "--first": 0, "--counter": 16777215, "--logs": None}
-# the options of each command, with what stands for those that are left out; one that is False takes no value
-OPTIONS = {
-    "check": KEY | RECEIPTS,
-    "audit": KEY,
-    "run": HOST | RECEIPTS,
-    "gen": HOST | {"--seed": NEEDED, "--ops": NEEDED, "--keys": 1024, "--every": 10000},
-    "accept": KEY,
-}
+# ---- what words ask for
 
 
-class Usage(Exception):
-    """The words are refused."""
-
-
-def need(met):
-    if not met:
-        raise Usage
-
-
-def found_in(words, names):
-    """What follows each option in the words, or is attached to it. Each stands there once at most."""
-    found, words = {}, list(words)
-    while words:
-        word = words.pop(0)
-        if word == "--":
-            need(not words)
-            break
-        name, attached, value = word.partition("=")
-        need(name in names and name not in found)
-        if names[name] is False:
-            need(not attached)
-            value = True
-        elif not attached:
-            need(words and (words[0] == "-" or not words[0].startswith("-")))
-            value = words.pop(0)
-        found[name] = value
-    return found
-
-
-def value_of(name, text):
-    """What the text of an option says."""
-    if name == "--key":
-        need(re.fullmatch("([0-9a-fA-F]{2}){16,64}", text))
-        return bytes.fromhex(text)
-    if name not in RANGES:
-        return text  # a path, or that a flag is there
-    need(re.fullmatch("0|[1-9][0-9]{0,19}", text))
-    number, (least, most) = int(text), RANGES[name]
-    need(least <= number <= most and (name != "--shards" or number & (number - 1) == 0))
-    return number
-
-
-def options_of(words):
-    """The options of a command, by name."""
-    need(words and words[0] in OPTIONS)
-    names = OPTIONS[words[0]]
-    options = names | {name: value_of(name, text) for name, text in found_in(words[1:], names).items()}
-    need(NEEDED not in options.values())
-    return options
+def header_of(options):
+    """The header of what a host writes."""
+    bits, numbers = options.get("--bits", 64), (options["--first"], options["--counter"])
+    return Header(options["--verifiers"], host.CACHES[bits], *numbers, options.get("--format", 1), bits, options.get("--clients", 0))
 
 
 def settings_of(options):
-    return host.Settings(*(options[name] for name in ("--verifiers", "--shards", "--hot", "--first", "--counter")))
+    more = options.get("--absent", False), options.get("--rolling", False)
+    return host.Settings(header_of(options), options["--shards"], options["--hot"], *more)
 
 
 def load_of(options):
@@ -235,31 +219,45 @@ def phases_of(command, options, data):
     """What a host is asked: the phases of the script, or those of a load."""
     if command == "gen":
         data = "".join(f"{line}\n" for line in load.lines(*load_of(options))).encode()
-    return read_script(data, options["--verifiers"])
+    return read_script(data, header_of(options), ShaDigests(options["--key"]))
 
 
-def obeyed(command, options, data):
+def signed(digests, options, data):
+    """The lines of a client, signed."""
+    header = Header(1, host.CACHES[options["--bits"]], 0, 1, 4, options["--bits"], 65536)
+    return Answer(sign(data, header, digests, options["--client"]).encode(), 0, "")
+
+
+def obeyed(command, options, data, device):
     digests = ShaDigests(options["--key"])
+    if command in ("run", "gen"):
+        phases = phases_of(command, options, data)
+        return told(command, options, *host.run(digests, settings_of(options), phases))
+    if command == "check" and options["--seal"] is not None:
+        return check_and_seal(digests, data, device)
     if command == "check":
         return check(findings(digests, data), digests if options["--receipts"] else None)
-    if command == "audit":
-        return audit(findings(digests, data))
-    if command == "accept":
-        return accept(digests, data)
-    phases = phases_of(command, options, data)
-    return told(command, options, *host.run(digests, settings_of(options), phases))
+    others = {
+        "resume": lambda: resume(digests, data, device),
+        "audit": lambda: audit(findings(digests, data)),
+        "follow": lambda: follow(findings(digests, data)),
+        "upgrade": lambda: upgrade(findings(digests, data), data),
+        "sign": lambda: signed(digests, options, data),
+        "accept": lambda: accept(digests, data),
+    }
+    return others[command]()
 
 
-def fastver(words, data):
-    """The answer to these words with this input, and where its vault goes, if anywhere."""
+def fastver(words, data, device=0):
+    """The answer to these words with this input and device, and where its vault goes, if anywhere."""
     try:
         options = options_of(words)
-        return obeyed(words[0], options, data), options.get("--logs")
+        return obeyed(words[0], options, data, device), options.get("--logs") or options.get("--seal")
     except Usage:
-        return Answer("", 1, "fastver: usage\n"), None
+        return Answer(b"", 1, "fastver: usage\n"), None
     except BadScript as bad:
         number, cause = bad.args
-        return Answer("", 6, f"fastver: bad script line {number} {cause}\n"), None
+        return Answer(b"", 6, f"fastver: bad script line {number} {cause}\n"), None
 
 
 def stored(got, path):
@@ -268,8 +266,31 @@ def stored(got, path):
         with open(path, "xb") as file:
             file.write(got.vault)
     except OSError:
-        return Answer("", 5, "fastver: vault fault\n")
+        return Answer(b"", 5, "fastver: vault fault\n")
     return got
+
+
+# ---- the device
+
+DEVICE = "fastver.counter"  # the file that stands for it where the environment names none
+
+
+def device_path():
+    return os.environ.get("FASTVER_COUNTER", DEVICE)
+
+
+def read_device():
+    """Its number, which is 0 where the file isn't there; None where it has none."""
+    if not os.path.exists(device_path()):
+        return 0
+    said = kept(device_path())
+    return int(said) if re.fullmatch(rb"(0|[1-9][0-9]{0,19})\n", said) and int(said) <= LAST_NUMBER else None
+
+
+def raise_device(number):
+    with open(device_path() + ".new", "w", encoding="ascii") as file:
+        file.write(f"{number}\n")
+    os.replace(device_path() + ".new", device_path())
 
 
 # ---- cases
@@ -285,11 +306,11 @@ def differs(folder, name):
     words, vault = os.fsdecode(kept(folder, name + ".args")).split("\n")[:-1], None
     if os.path.exists(os.path.join(folder, name + ".vault")):
         words, vault = words + ["--logs", "vault"], kept(folder, name + ".vault")
-    (written, status, said, logged), path = fastver(words, kept(folder, name))
+    (written, status, said, logged, _), path = fastver(words, kept(folder, name))
     if vault is not None and vault != (b"none" if path is None else logged):
         return True
     wanted = kept(folder, name + ".stdout"), int(kept(folder, "status", name)), kept(folder, "stderr", name)
-    return (written.encode(), status, said.encode()) != wanted
+    return (written, status, said.encode()) != wanted
 
 
 def compare(folder):
@@ -311,9 +332,11 @@ def main():
     if sys.argv[1:2] == ["--toy"]:
         got = {"check": check, "audit": audit}[sys.argv[2]](findings(ToyDigests(), sys.stdin.buffer.read()))
     else:
-        got, path = fastver(sys.argv[1:], sys.stdin.buffer.read())
+        got, path = fastver(sys.argv[1:], sys.stdin.buffer.read(), read_device())
         got = got if path is None else stored(got, path)
-    sys.stdout.write(got.written)
+        if got.device is not None:
+            raise_device(got.device)
+    sys.stdout.buffer.write(got.written)
     sys.stderr.write(got.said)
     return got.status
 

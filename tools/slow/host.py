@@ -9,9 +9,12 @@ from collections import Counter
 from contextlib import contextmanager
 from dataclasses import dataclass, field, replace
 
-from tools.slow.verifier import Pointer, command_text, header_text, initial, side, value_text, with_side
+from tools.slow.bundles import Header, frames_text, header_text
+from tools.slow.slots import Slots
+from tools.slow.texts import Pointer, bits_of, initial, root_of, side, value_text, with_side
 
-CACHE, SEATS, FRAME, LAST_EPOCH = 128, 4, 65536, 2**32 - 1
+CACHES = {64: 128, 128: 256}  # entries of a verifier's cache, by the bits of a key
+SEATS, LAST_EPOCH = 4, 2**32 - 1
 
 
 class ClockEnd(Exception):
@@ -20,11 +23,11 @@ class ClockEnd(Exception):
 
 @dataclass(frozen=True)
 class Settings:
-    verifiers: int
+    header: Header
     shards: int
     hot: int | None  # the touches at which a key becomes hot
-    first: int
-    end: int
+    absent: bool = False  # whether a get of a key without a record leaves none
+    rolling: bool = False  # whether workers go on to the next epoch one by one
 
 
 @dataclass(frozen=True)
@@ -115,8 +118,8 @@ class Deed:
 class Visit:
     """A worker at a shard, whose records it changes as it logs."""
 
-    def __init__(self, digests, shard, deed):
-        self.digests, self.shard, self.deed = digests, shard, deed
+    def __init__(self, digests, shard, deed, absent=False):
+        self.digests, self.shard, self.deed, self.absent = digests, shard, deed, absent
 
     def pointer(self, parent, path):
         return self.shard.records[parent][side(parent, path)]
@@ -134,14 +137,20 @@ class Visit:
         records[path] = value
 
     def send_back(self, path, parent):
-        digest = self.digests.text_digest(value_text(path, self.shard.records[path]))
+        digest = self.digests.text_digest(value_text(self.shard.records[path]))
         self.point(parent, path, Pointer(path, digest, False))
         self.deed.log("evictM", path, parent)
 
     @contextmanager
     def at_parent(self, key):
         """With the chain above a key taken in: its last node."""
-        nodes = [self.shard.frontier] + self.shard.chain(key)[:-1]
+        with self.below_frontier(self.shard.chain(key)[:-1]) as last:
+            yield last
+
+    @contextmanager
+    def below_frontier(self, nodes):
+        """With some nodes below the frontier taken in, each below the one before: the last of them."""
+        nodes = [self.shard.frontier] + nodes
         for parent, path in zip(nodes, nodes[1:]):
             self.bring_in(path, parent)
         yield nodes[-1]
@@ -155,30 +164,44 @@ class Visit:
     def give_shard(self):
         self.shard.sent = self.deed.send(self.shard.frontier)
 
-    def ask(self, kind, key, value, found):
+    def ask(self, request, found):
         """Logs a get or a put, and answers the value behind it."""
-        value = found if kind == "get" else value
-        self.deed.log(kind, key, value)
+        kind, key, signature = request.kind, request.path, request.signature
+        value = found if kind == "get" else request.value
+        if signature is None:
+            self.deed.log(kind, key, value)
+        else:
+            self.deed.log("signedGet" if kind == "get" else "signedPut", key, *signature, value)
         return value
 
-    def serve(self, kind, key, value):
+    def serve(self, request):
         """Serves one request."""
-        seat = self.shard.seat_of(key)
+        key, seat = request.path, self.shard.seat_of(request.path)
         if seat is not None:
-            self.serve_hot(seat, kind, value)
+            self.serve_hot(seat, request)
+            return
+        if self.absent and request.kind == "get" and key not in self.shard.records:
+            self.miss(key)
             return
         self.take_shard()
         with self.at_parent(key) as parent:
             self.bring_in(key, parent)
-            self.shard.records[key] = self.ask(kind, key, value, self.shard.records[key])
+            self.shard.records[key] = self.ask(request, self.shard.records[key])
             self.send_back(key, parent)
         self.give_shard()
         self.shard.touches[key] += 1
 
-    def serve_hot(self, seat, kind, value):
+    def miss(self, key):
+        """Answers a get of a key that has no record, which then has none either."""
+        self.take_shard()
+        with self.below_frontier([path for path in self.shard.chain(key) if path in self.shard.records]) as parent:
+            self.deed.log("absent", key, parent)
+        self.give_shard()
+
+    def serve_hot(self, seat, request):
         hot = self.shard.seats[seat]
         self.deed.add(hot.key, hot.value, hot.sent)
-        value = self.ask(kind, hot.key, value, hot.value)
+        value = self.ask(request, hot.value)
         self.shard.seats[seat] = Hot(hot.key, value, self.deed.send(hot.key), hot.touches + 1)
 
     def renew(self, seat):
@@ -204,6 +227,12 @@ class Visit:
             self.point(parent, key, replace(self.pointer(parent, key), deferred=True))
         self.shard.seats[self.shard.seats.index(None)] = Hot(key, self.shard.records.pop(key), sent)
 
+    def renew_shard(self):
+        """Has the shard wait under a stamp of the epoch that has begun, if it doesn't yet."""
+        if self.shard.sent.stamp[0] < self.deed.epoch:
+            self.take_shard()
+            self.give_shard()
+
     def move(self, threshold):
         """Moves the shard to the epoch that has begun: what was touched in the one before stays hot or becomes so."""
         shard = self.shard
@@ -226,46 +255,56 @@ class Visit:
 class Worker:
     number: int
     clock: tuple
+    slots: Slots | None = None  # what its log names slots by, but in version 1
     logged: list = field(default_factory=list)  # commands of the round under way
 
     def keep(self, deed):
         self.logged += deed.commands
         self.clock = deed.epoch, deed.counter
 
+    def text(self, header):
+        """What was logged in the round, as bytes."""
+        commands = self.logged if self.slots is None else map(self.slots.rewrite, self.logged)
+        return b"".join(map(header.text_of, commands))
+
 
 class Host:
     """The host behind the setup, with what it has written so far, and the first round's lowest worker whose clock ended."""
 
     def __init__(self, digests, settings):
-        self.digests, self.settings = digests, settings
-        self.workers = [Worker(number, (settings.first, 0)) for number in range(settings.verifiers)]
-        self.vault = header_text((settings.verifiers, CACHE, settings.first, settings.end))
+        self.digests, self.settings, self.header = digests, settings, settings.header
+        self.workers = [self.worker(number) for number in range(self.header.verifiers)]
+        self.vault = header_text(self.header)
         self.shards, self.ended = [], None
-        if settings.end < settings.shards:
+        if self.header.end < settings.shards:
             self.ended = self.workers[0]
         else:
             self.set_up()
 
+    def worker(self, number):
+        return Worker(number, (self.header.first, 0), None if self.header.version == 1 else Slots(number, self.header))
+
     def set_up(self):
         """Worker 0 makes each shard's frontier under the root and sends it to whoever asks for it first."""
-        deed, bits = Deed(self.workers[0], self.settings.end), self.settings.shards.bit_length() - 1
+        deed, bits = Deed(self.workers[0], self.header.end), self.settings.shards.bit_length() - 1
 
         def visit(path, parent):
             deed.log("addM", path, initial(path), parent)
-            if len(path) == bits:
+            if len(bits_of(path)) == bits:
                 self.shards.append(Shard(path, deed.defer(path, parent), {path: initial(path)}))
                 return
             visit(path + "0", path)
             visit(path + "1", path)
             deed.log("evictM", path, parent)
 
-        visit("0", "")
-        visit("1", "")
+        root = root_of(self.header.bits)
+        visit(root + "0", root)
+        visit(root + "1", root)
         self.workers[0].keep(deed)
 
     def does(self, worker, number, act):
         """Whether a worker did its deed at a shard. Where its clock would end in it, all is as before."""
-        visit = Visit(self.digests, self.shards[number].copy(), Deed(worker, self.settings.end))
+        visit = Visit(self.digests, self.shards[number].copy(), Deed(worker, self.header.end), self.settings.absent)
         try:
             act(visit)
         except ClockEnd:
@@ -276,18 +315,48 @@ class Host:
 
     def phase(self, requests):
         """Serves the requests of a phase, in this order. A worker whose clock would end serves none of its others."""
-        bits, stopped = self.settings.shards.bit_length() - 1, set()
-        for number, *request in requests:
-            shard = int(request[1][:bits], 2)
-            if number not in stopped and not self.does(self.workers[number], shard, lambda visit: visit.serve(*request)):
-                stopped.add(number)
+        stopped = set()
+        for request in requests:
+            if request.worker not in stopped and not self.serves(request):
+                stopped.add(request.worker)
         self.end_round(stopped)
+
+    def serves(self, request):
+        """Whether a worker served a request."""
+        bits = self.settings.shards.bit_length() - 1
+        shard = int(bits_of(request.path)[:bits], 2)
+        return self.does(self.workers[request.worker], shard, lambda visit: visit.serve(request))
+
+    def roll(self, phases):
+        """Serves all phases in one round. Before the first request of a phase, and at the end, all workers go on to the next
+        epoch: each enters it and has its shards wait there, which is one of the orders in which they may come to do so."""
+        stopped = set()
+        for number, requests in enumerate(phases):
+            for worker in self.workers if number > 0 else []:
+                if not stopped and not self.enters(worker):
+                    stopped.add(worker.number)
+            for request in requests:
+                if not stopped and not self.serves(request):
+                    stopped.add(request.worker)
+        self.end_round(stopped)
+        if not stopped:
+            self.close(last=True)
+
+    def enters(self, worker):
+        """Whether a worker went to the next epoch, and had its shards wait there."""
+        epoch, _ = worker.clock
+        if epoch == LAST_EPOCH:
+            return False
+        worker.logged.append(("nextEpoch",))
+        worker.clock = epoch + 1, 0
+        own = range(worker.number, self.settings.shards, self.header.verifiers)
+        return all(self.does(worker, shard, lambda visit: visit.renew_shard()) for shard in own)
 
     def close(self, last):
         """Closes an epoch, and in a last close the one that it opens too."""
         stopped = set() if self.advance() else {0}
         for worker in [] if stopped else self.workers:
-            for shard in range(worker.number, self.settings.shards, self.settings.verifiers):
+            for shard in range(worker.number, self.settings.shards, self.header.verifiers):
                 if not self.does(worker, shard, lambda visit: visit.move(self.settings.hot)):
                     stopped.add(worker.number)
                     break
@@ -306,10 +375,7 @@ class Host:
     def end_round(self, stopped):
         """Writes what was logged in a round, and keeps whose clock ended in the first round in which one did."""
         for worker in self.workers:
-            text = b"".join(map(command_text, worker.logged))
-            for at in range(0, len(text), FRAME):
-                body = text[at : at + FRAME]
-                self.vault += worker.number.to_bytes(2, "big") + len(body).to_bytes(4, "big") + body
+            self.vault += frames_text(worker.number, worker.text(self.header))
             worker.logged = []
         if stopped and self.ended is None:
             self.ended = copy.copy(self.workers[min(stopped)])
@@ -318,6 +384,9 @@ class Host:
 def run(digests, settings, phases):
     """The bundle that the host writes for the phases of a script, and the worker whose clock ended, if one did."""
     host = Host(digests, settings)
+    if settings.rolling and host.ended is None:
+        host.roll(phases)
+        return host.vault, host.ended
     for number, requests in enumerate(phases):
         if host.ended is not None:
             break

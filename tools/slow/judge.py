@@ -17,21 +17,25 @@ import sys
 import tempfile
 from collections import deque
 
-from tools.cases.scripts import LATER, random_run
-from tools.slow import fastver, host
-from tools.slow.verifier import Bytes, ShaDigests, findings, read_bundle
+from tools.cases.later import LATER
+from tools.cases.scripts import random_run
+from tools.slow import fastver, host, words
+from tools.slow.bundles import read_bundle
+from tools.slow.digests import ShaDigests
+from tools.slow.verifier import findings
 
 SECONDS = 60
+ASKED = ("get", "put", "absent", "signedGet", "signedPut")  # commands that answer a request
 
 
-def evicts(number, log):
+def evicts(header, number, log):
     """Of each request in a worker's log: the stamp of the first evict behind it, and the worker."""
-    text, asked, found = Bytes(log), False, []
+    text, asked, found = header.reader(log), False, []
     while text.at < len(log):
-        command = text.command()
+        command = header.command(text)
         if command[0] == "evictB" and asked:
-            found.append((command[2], number))
-        asked = command[0] in ("get", "put") or asked and command[0] != "evictB"
+            found.append((command[-1], number))
+        asked = command[0] in ASKED or asked and command[0] != "evictB"
     return found
 
 
@@ -41,7 +45,7 @@ def in_their_order(phases, first, served):
     for epoch, requests in enumerate(phases, first):
         waiting = {}
         for request in requests:
-            waiting.setdefault(request[0], deque()).append(request)
+            waiting.setdefault(request.worker, deque()).append(request)
         workers = [worker for stamp, worker in sorted(served) if stamp[0] == epoch and worker in waiting]
         order = [waiting[worker].popleft() for worker in workers if waiting[worker]]
         ordered.append(order + [request for left in waiting.values() for request in left])
@@ -50,26 +54,27 @@ def in_their_order(phases, first, served):
 
 def asked_of(worker, phases, first):
     """What a worker is asked, with the epoch of each request; of a get there is no value."""
-    return [(epoch, *request[1:]) for epoch, phase in enumerate(phases, first) for request in phase if request[0] == worker]
+    asked = [(epoch, request) for epoch, phase in enumerate(phases, first) for request in phase if request.worker == worker]
+    return [(epoch, it.kind, it.path, it.value, it.signature) for epoch, it in asked]
 
 
 def answered_by(worker, found):
     events = [event for event in found.order if event.deed in ("get", "put") and event.moment[2] == worker]
-    return [(event.moment[0], event.deed, event.of, event.what if event.deed == "put" else None) for event in events]
+    return [(it.moment[0], it.deed, it.of, it.what if it.deed == "put" else None, it.signature) for it in events]
 
 
-def faults(words, script, vault, output, status):
+def faults(asked, script, vault, output, status):
     """What is wrong, as texts."""
-    options = fastver.options_of(words)
-    phases, first = fastver.phases_of(words[0], options, script), options["--first"]
+    options = words.options_of(asked)
+    phases, first = fastver.phases_of(asked[0], options, script), options["--first"]
     digests, settings = ShaDigests(options["--key"]), fastver.settings_of(options)
     found = findings(digests, vault)
     if found.status != 0:
         return [f"the bundle is not certified whole: {found.last.strip()}"]
-    logs = read_bundle(vault)[1]
-    served = [evict for number, log in enumerate(logs) for evict in evicts(number, log)]
+    header, logs, _ = read_bundle(vault)
+    served = [evict for number, log in enumerate(logs) for evict in evicts(header, number, log)]
     wanted, ended = host.run(digests, settings, in_their_order(phases, first, served))
-    told, wrong = fastver.told(words[0], options, vault, ended), []
+    told, wrong = fastver.told(asked[0], options, vault, ended), []
     if ended is None and found.count != len(phases):
         wrong.append(f"{found.count} of {len(phases)} epochs are certified")
     for worker in range(len(logs)):
@@ -78,7 +83,7 @@ def faults(words, script, vault, output, status):
             wrong.append(f"worker {worker} answers otherwise than it is asked")
     if vault != wanted:
         wrong.append("the vault is not what the host writes in any order")
-    if (output, status) != (told.written.encode(), told.status):
+    if (output, status) != (told.written, told.status):
         wrong.append("what was printed is not what the bundle certifies")
     return wrong
 
@@ -88,11 +93,11 @@ def read(path):
         return file.read()
 
 
-def served_by(program, words, script):
+def served_by(program, asked, script):
     """The vault, the output and the status of a program. A vault that it did not make is an empty one."""
     with tempfile.TemporaryDirectory() as folder:
         logs = os.path.join(folder, "vault")
-        ran = subprocess.run([program, *words, "--logs", logs], input=script, capture_output=True, timeout=SECONDS)
+        ran = subprocess.run([program, *asked, "--logs", logs], input=script, capture_output=True, timeout=SECONDS)
         return read(logs) if os.path.exists(logs) else b"", ran.stdout, ran.returncode
 
 
@@ -101,16 +106,17 @@ def judge_random(program, count, times, seed):
     chance, wrong, vaults = random.Random(seed), 0, 0
     for number in range(count):
         hot = number % 2 == 1 and "--hot" not in LATER
-        words, script = random_run(chance, chance.choice([2, 3, 8]), hot, shared=True)
-        if fastver.fastver(words, script)[0].status not in (0, 10):
+        version = 2 if number % 4 > 1 and "--format" not in LATER else 1
+        asked, script = random_run(chance, chance.choice([2, 3, 8]), hot, shared=True, version=version)
+        if fastver.fastver(asked, script)[0].status not in (0, 10):
             continue
         seen = set()
         for _ in range(times):
-            vault, output, status = served_by(program, words, script)
+            vault, output, status = served_by(program, asked, script)
             seen.add(vault)
-            for fault in faults(words, script, vault, output, status):
+            for fault in faults(asked, script, vault, output, status):
                 wrong += 1
-                print(f"script {number}, {' '.join(words)}: {fault}")
+                print(f"script {number}, {' '.join(asked)}: {fault}")
         vaults += len(seen)
     print(f"{count} random scripts, each {times} times: {vaults} vaults, {wrong} faults")
     return wrong if vaults else 1

@@ -8,10 +8,11 @@ and moves each shard. With a threshold, keys that were touched so often in an ep
 """
 import sys
 
-from tools.slow.host import Deed, Host, Settings, Visit, Worker
+from tools.slow.bundles import Header
+from tools.slow.digests import ToyDigests
+from tools.slow.host import CACHES, Deed, Host, Settings, Visit, Worker
 from tools.slow.rows import row
 from tools.slow.script import request_in
-from tools.slow.verifier import ToyDigests
 
 END = 16777215
 
@@ -22,10 +23,10 @@ def digits(digest):
 
 def serve(host, worker, line, shards):
     """A request, at the shard of its key."""
-    _, *request = request_in(b"0 " + line, 1)
-    shard = int(request[1][: shards.bit_length() - 1], 2)
+    request = request_in(b"0 " + line, host.header)
+    shard = int(request.path[: shards.bit_length() - 1], 2)
     visit = Visit(host.digests, host.shards[shard], Deed(worker, END))
-    visit.serve(*request)
+    visit.serve(request)
     worker.keep(visit.deed)
 
 
@@ -41,7 +42,7 @@ def close(host, worker, threshold):
 
 def main():
     shards, number, counter, *threshold = map(int, sys.argv[1:])
-    host, worker = Host(ToyDigests(), Settings(1, shards, None, 0, END)), Worker(number, (0, counter))
+    host, worker = Host(ToyDigests(), Settings(Header(1, CACHES[64], 0, END), shards, None)), Worker(number, (0, counter))
     for line in sys.stdin.buffer.read().splitlines():
         if line == b"epoch":
             close(host, worker, threshold[0] if threshold else None)

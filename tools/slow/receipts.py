@@ -1,17 +1,23 @@
 """Receipts and certificates by docs/FORMATS.md, plain and slow: what a client keeps, and how it is accepted."""
 import re
 
+from tools.slow.bundles import magic_of
+from tools.slow.known import is_known
+
 from tools.slow.script import BadScript
-from tools.slow.verifier import Bytes, Fault, test, value_text
+from tools.slow.texts import Bytes, Fault, data_path, key_of, test, value_text, width
+from tools.slow.verifier import Event
 
 TAG_BYTES = 32
 KINDS = {6: "get", 7: "put"}
+WIDTHS = {1: 64, 3: 128}  # of a receipt's key, by the receipt's first byte
 
 
 def receipt_text(operation):
-    (epoch, counter, verifier, index), kind, path, value = operation
-    numbers = ((1, 1), (epoch, 4), (counter, 4), (verifier, 2), (index, 8), (6 if kind == "get" else 7, 1), (int(path, 2), 8))
-    return b"".join(number.to_bytes(size, "big") for number, size in numbers) + value_text(path, value)
+    (epoch, counter, verifier, index), kind, path, value = operation.moment, operation.deed, operation.of, operation.what
+    first, key = (1 if width(path) == 64 else 3, 1), (key_of(path), width(path) // 8)
+    numbers = (first, (epoch, 4), (counter, 4), (verifier, 2), (index, 8), (6 if kind == "get" else 7, 1), key)
+    return b"".join(number.to_bytes(size, "big") for number, size in numbers) + value_text(value)
 
 
 def certificate_text(first, last):
@@ -23,11 +29,12 @@ def tagged(digests, text):
 
 
 def read_receipt(text):
-    test(text.number(1) != 1, "no receipt")
+    bits = WIDTHS.get(text.number(1)) if is_known(magic_of(3)) or text.data[:1] == b"\1" else None
+    test(bits is None, "no receipt")
     moment = text.number(4), text.number(4), text.number(2), text.number(8)
-    kind, key = text.number(1), text.number(8)
+    kind, key = text.number(1), text.number(bits // 8)
     test(kind not in KINDS, "no receipt")
-    return moment, KINDS[kind], f"{key:064b}", text.blob()
+    return Event(moment, KINDS[kind], data_path(key, bits), text.blob())
 
 
 def read_certificate(text):
@@ -42,7 +49,7 @@ def read_line(digests, lines, number, word, read):
         raise BadScript(number, "Shape")
     if not re.fullmatch(rb"([0-9a-f]{2})*", words[1]):
         raise BadScript(number, "Hex")
-    text = Bytes(bytes.fromhex(words[1].decode()))
+    text = Bytes(bytes.fromhex(words[1].decode()), longest=255 if is_known(magic_of(3)) else 64)
     try:
         said, end = read(text), text.at
         tag = text.run(TAG_BYTES)
@@ -63,4 +70,4 @@ def accept(digests, data):
         raise BadScript(3, "Shape")
     if not (receipt_holds and certificate_holds):
         return "not tagged"
-    return operation if first <= operation[0][0] <= last else "not certified"
+    return operation if first <= operation.moment[0] <= last else "not certified"

@@ -1,15 +1,17 @@
-"""Commands as rows of text: `addB /0 5:2c..,- 0.4 v0`, `evictM 5 /0`, `get 5 6162`.
+"""Commands as rows of text: `addB /0 5:2c..,- 0.4 v0`, `evictM 5 /0`, `get 5 6162`; of later versions `evictM s2 s1`, `get s2 6162`.
 
 A path is `root`, the number of a key, `/` and up to 8 bits, or the number that its bits begin and how many they are. A value is
 its digits, `.` or `none`; a node its two pointers, `-` or a path and a digest, with `?` between them where the pointer is deferred.
 """
+from tools.slow.commands import kinds_of
+from tools.slow.texts import is_data, is_root, key_of
 
 
 def spelled(path):
-    if path == "":
+    if is_root(path):
         return "root"
-    if len(path) == 64:
-        return str(int(path, 2))
+    if is_data(path):
+        return str(key_of(path))
     return "/" + path if len(path) <= 8 else f"{int(path.ljust(64, '0'), 2)}/{len(path)}"
 
 
@@ -24,17 +26,13 @@ def dotted(stamp):
     return f"{stamp[0]}.{stamp[1]}"
 
 
-def row(command, digits=bytes.hex):
-    kind, *fields = command
-    if kind == "nextEpoch":
-        return "next"
-    texts = [spelled(fields[0])]
-    if kind in ("addM", "addB", "get", "put"):
-        texts.append(shown(fields[1], digits))
-    if kind in ("addM", "evictM", "evictBM"):
-        texts.append(spelled(fields[2 if kind == "addM" else 1]))
-    if kind in ("addB", "evictB", "evictBM"):
-        texts.append(dotted(fields[2 if kind in ("addB", "evictBM") else 1]))
-    if kind == "addB":
-        texts.append(f"v{fields[3]}")
-    return " ".join([kind, *texts])
+def field_row(kind, field, digits):
+    if kind in ("value", "blob"):
+        return shown(field, digits)
+    return {"path": spelled, "stamp": dotted, "slot": "s{}".format, "verifier": "v{}".format}[kind](field)
+
+
+def row(command, digits=bytes.hex, version=1):
+    name, *fields = command
+    _, kinds = kinds_of(version, name)
+    return " ".join([name if fields else "next", *(field_row(kind, field, digits) for kind, field in zip(kinds, fields))])

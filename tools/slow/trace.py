@@ -8,8 +8,11 @@ lane, and the sums of these.
 """
 import sys
 
+from tools.slow.bundles import read_bundle
+from tools.slow.digests import ShaDigests
 from tools.slow.rows import dotted, row
-from tools.slow.verifier import Bytes, Fault, ShaDigests, Verifier, read_bundle
+from tools.slow.texts import Fault
+from tools.slow.verifier import Verifier
 
 
 def digits(digest):
@@ -18,18 +21,19 @@ def digits(digest):
 
 def trace(verifier, log):
     """Has a verifier read its log, and prints the rows."""
-    text = Bytes(log)
+    header = verifier.header
+    text = header.reader(log)
     while text.at < len(log):
         begin = text.at
         try:
-            command = text.command()
+            command = header.command(text)
             verifier.step(command)
         except Fault as fault:
             print(f"v{verifier.number} {verifier.accepted} refused as {fault}")
             return
         clock = dotted((verifier.epoch, verifier.counter))
         name = f"v{verifier.number} {verifier.accepted - 1}"
-        print(f"{name:6} {log[begin:text.at].hex()} {clock} {row(command, digits)}")
+        print(f"{name:6} {log[begin:text.at].hex()} {clock} {row(command, digits, header.version)}")
 
 
 def tell_elements(digests, verifiers):
