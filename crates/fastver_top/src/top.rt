@@ -1,6 +1,6 @@
 //! The program as a call: its words, what it reads and what it writes.
 ghost use Rattle.std.specs.Prelude.{◌≡◌, ◌≢◌, ◌^◌, ℕ, List, map, Some, IfSome};
-ghost use Rattle.record_hash.specs.Hmac.{key_block};
+ghost use Rattle.lane_sha.specs.Hmac.{key_block};
 ghost use Rattle.program_words.specs.Words.{asked_of};
 ghost use Rattle.program_words.specs.declared.words.Asked.{Asked};
 ghost use Rattle.fv_outside.specs.Consumed.{TookAtMost};

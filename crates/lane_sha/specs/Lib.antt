@@ -1,3 +1,4 @@
+pub mod Hmac
 pub mod Lanes
 pub mod Turns
 pub mod Padding

@@ -1,6 +1,6 @@
 //! HMAC-SHA-256 (RFC 2104) of eight texts at a time.
 ghost use Rattle.std.specs.Prelude.{◌≡◌, ℕ, ◌<◌, length, map, bit_xor};
-ghost use Rattle.record_hash.specs.Hmac.{hmac_of_block};
+ghost use Rattle.lane_sha.specs.Hmac.{hmac_of_block};
 ghost use Rattle.lane_sha.specs.Lanes.{lane_count, block};
 ghost use Rattle.lane_sha.specs.Texts.{HaveOneCount, text};
 
@@ -27,7 +27,7 @@ pub struct KeyedLanes {
 
 impl Model for KeyedLanes {
     ghost use Rattle.std.specs.Prelude.{ℕ, List};
-    ghost use Rattle.record_hash.specs.Hmac.{inner_key, outer_key};
+    ghost use Rattle.lane_sha.specs.Hmac.{inner_key, outer_key};
     ghost use Rattle.lane_sha.specs.Texts.{StandsBehind};
 
     ghost Value = { List ℕ };

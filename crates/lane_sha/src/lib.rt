@@ -4,8 +4,8 @@
 //! compressions. `compress` takes a block into each of eight hash values, `digests` hashes eight texts behind a `Start`
 //! (the hash value of what all begin with), and `KeyedLanes` makes their HMAC under a key. The texts have one number of
 //! blocks, which `block_count` tells and `have_one_count` asks. Each clause says of lane j, alone, what the kit's `sha2`
-//! defines (FIPS 180-4), and of an HMAC what `record_hash` does; on these two the crate stands, of which it calls
-//! neither. Begin with `compression.rt`, `texts.rt` and `specs/Lanes.antt`; `words.rt` has the functions on words, and
+//! defines (FIPS 180-4), on which the crate stands and which it doesn't call, and of an HMAC what `specs/Hmac.antt` does.
+//! Begin with `compression.rt`, `texts.rt` and `specs/Lanes.antt`; `words.rt` has the functions on words, and
 //! `padding.rt` the blocks of a text.
 #![tactic(auto)]
 

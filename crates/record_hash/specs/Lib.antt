@@ -1,6 +1,5 @@
 pub mod Functions
 pub mod Digests
-pub mod Hmac
 pub mod ShaDigests
 pub mod ToyDigests
 pub mod Shapes

@@ -2,7 +2,7 @@
 use Rattle.std.specs.Prelude.{ℕ, ◌+◌, List, [], ◌∷◌, slice_index}
 use Rattle.std.specs.Int.{w32, from_be_bytes}
 use Rattle.sha2.specs.Sha256.{sha256}
-use Rattle.record_hash.specs.Hmac.{key_block, hmac_of_block}
+use Rattle.lane_sha.specs.Hmac.{key_block, hmac_of_block}
 use Rattle.record_hash.specs.Functions.{DigestFunctions}
 
 -- the digest of a text: SHA-256 (FIPS 180-4), under no key

@@ -1,5 +1,7 @@
 //! The digests as a trait.
-ghost use Rattle.std.specs.Prelude.{◌≡◌, ℕ, List};
+ghost use Rattle.std.specs.Prelude.{◌≡◌, ◌<◌, ℕ, List};
+ghost use Rattle.lane_sha.specs.Lanes.{lane_count, block};
+ghost use Rattle.lane_sha.specs.Texts.{text};
 ghost use Rattle.record_hash.specs.Functions.{DigestFunctions};
 ghost use Rattle.record_hash.specs.Digests.{IsDigest, AreLanes};
 
@@ -16,6 +18,14 @@ pub trait Digests {
     /// The eight lanes of an element's text, which a multiset hash adds up lane by lane.
     fn element_lanes(&self, bytes: &[u8]) -> [u32; 8]
         ensures value { result ≡ (functions self.now).lanes bytes.now };
+
+    /// The digests of eight texts, which may cost less than one after another.
+    fn text_digests(&self, texts: &[&[u8]; 8]) -> [[u8; 32]; 8]
+        ensures value { (j : ℕ) → j < lane_count → block j result ≡ (functions self.now).digest (text j texts.now) };
+
+    /// The lanes of the texts of eight elements, which may cost less than one after another.
+    fn lanes_of_eight(&self, texts: &[&[u8]; 8]) -> [[u32; 8]; 8]
+        ensures value { (j : ℕ) → j < lane_count → block j result ≡ (functions self.now).lanes (text j texts.now) };
 
     /// The tag of a text: who holds the key can tell that it was made with it.
     fn tag(&self, bytes: &[u8]) -> [u8; 32]

@@ -1,7 +1,7 @@
 //! HMAC-SHA-256 (RFC 2104, over FIPS 180-4).
 ghost use Rattle.std.specs.Prelude.{◌≡◌, ◌≤◌, ℕ, List, ◌++◌, length, map, bit_xor};
 ghost use Rattle.sha2.specs.Hashers.{Holds256};
-ghost use Rattle.record_hash.specs.Hmac.{zero_filled, key_block, inner_key, outer_key, hmac_of_block, hmac_sha256};
+ghost use Rattle.lane_sha.specs.Hmac.{zero_filled, key_block, inner_key, outer_key, hmac_of_block, hmac_sha256};
 
 use sha2::{Digest, Sha256};
 

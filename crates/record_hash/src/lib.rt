@@ -2,7 +2,8 @@
 //!
 //! `Digests` has three functions of bytes: the digest of a text, the lanes of an element for a multiset
 //! hash, and the tag of a text that a verifier signs. `ShaDigests` computes them with SHA-256 and HMAC
-//! under a key, `ToyDigests` with a sum, for tests. The crate stands on `sha2` alone. Begin with the
+//! under a key, `ToyDigests` with a sum, for tests. The crate stands on `lane_sha`, which hashes eight texts at a time, and on
+//! the kit's `sha2` and `arrayvec`. Begin with the
 //! trait in `digest_functions.rt` and with `specs/Hmac.antt`.
 #![tactic(auto)]
 

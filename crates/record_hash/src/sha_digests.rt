@@ -1,10 +1,14 @@
 //! Digests by SHA-256, lanes and tags by HMAC under a key.
-ghost use Rattle.std.specs.Prelude.{◌≡◌, ◌+◌, ◌≤◌, ◌∷◌, length};
-ghost use Rattle.record_hash.specs.Hmac.{key_block, hmac_of_block};
-ghost use Rattle.record_hash.specs.ShaDigests.{sha_functions, word_at, words_of};
+ghost use Rattle.std.specs.Prelude.{◌≡◌, ℕ, ◌+◌, ◌<◌, ◌≤◌, ◌∷◌, length, IfSome};
+ghost use Rattle.lane_sha.specs.Lanes.{lane_count, block};
+ghost use Rattle.lane_sha.specs.Texts.{text};
+ghost use Rattle.lane_sha.specs.Hmac.{key_block, hmac_of_block};
+ghost use Rattle.record_hash.specs.ShaDigests.{sha_functions, sha_text_digest, sha_element_lanes, word_at, words_of};
 
 use crate::digest_functions::Digests;
 use crate::hmac_sha256::{BLOCK_LEN, finished, inner_state, key_block, outer_state};
+use arrayvec::ArrayVec;
+use lane_sha::{KeyedLanes, Start, digests, have_one_count};
 use sha2::{Digest, Sha256};
 use std::fmt;
 use std::marker::Model;
@@ -20,24 +24,26 @@ const TAG_PREFIX: u8 = 2;
 /// tags, over the byte 1 or 2 and then the text. A contract sees the value as its key block of 64 bytes.
 ///
 /// The two states have already taken in the masked key block, so that the lanes or the tag of a text of
-/// up to 54 bytes cost two compressions and not four.
+/// up to 54 bytes cost two compressions and not four. Eight texts are hashed side by side where they have, with their
+/// padding, one number of blocks.
 #[derive(Drop)]
 pub struct ShaDigests {
     block: [u8; BLOCK_LEN],
     inner: Sha256,
     outer: Sha256,
+    eight: KeyedLanes,
 }
 
 impl Model for ShaDigests {
-    ghost use Rattle.std.specs.Prelude.{ℕ, List};
+    ghost use Rattle.std.specs.Prelude.{◌≡◌, ℕ, List};
     ghost use Rattle.sha2.specs.Hashers.{Holds256};
-    ghost use Rattle.record_hash.specs.Hmac.{inner_key, outer_key};
+    ghost use Rattle.lane_sha.specs.Hmac.{inner_key, outer_key};
 
     ghost Value = { List ℕ };
 
     ghost view = { λ d. d.block };
 
-    ghost invariant = { λ d. Holds256 d.inner (inner_key d.block) × Holds256 d.outer (outer_key d.block) };
+    ghost invariant = { λ d. Holds256 d.inner (inner_key d.block) × Holds256 d.outer (outer_key d.block) × (d.eight ≡ d.block) };
 }
 
 impl ShaDigests {
@@ -49,10 +55,12 @@ impl ShaDigests {
         let block = key_block(key);
         let inner = inner_state(&block);
         let outer = outer_state(&block);
+        let eight = KeyedLanes::new(&block);
         ShaDigests {
             block,
             inner,
             outer,
+            eight,
         }
     }
 
@@ -66,6 +74,69 @@ impl ShaDigests {
         inner.update(bytes);
         finished(inner, copy_of(&self.outer))
     }
+
+    // The lanes of each element's text, one after another.
+    fn lanes_of_each(&self, texts: &[&[u8]; 8]) -> [[u32; 8]; 8]
+        ensures value { (j : ℕ) → j < lane_count → block j result ≡ sha_element_lanes self.now (text j texts.now) }
+    {
+        [
+            words_of(&self.keyed(LANES_PREFIX, texts[0])),
+            words_of(&self.keyed(LANES_PREFIX, texts[1])),
+            words_of(&self.keyed(LANES_PREFIX, texts[2])),
+            words_of(&self.keyed(LANES_PREFIX, texts[3])),
+            words_of(&self.keyed(LANES_PREFIX, texts[4])),
+            words_of(&self.keyed(LANES_PREFIX, texts[5])),
+            words_of(&self.keyed(LANES_PREFIX, texts[6])),
+            words_of(&self.keyed(LANES_PREFIX, texts[7])),
+        ]
+    }
+
+    // The HMAC of the prefix and each text, of texts for which there is room and which have one number of blocks.
+    fn eight_keyed(&self, prefix: u8, texts: &[&[u8]; 8]) -> Option<[[u8; 32]; 8]>
+        ensures value { IfSome result (λ tags. (j : ℕ) → j < lane_count → block j tags ≡ hmac_of_block self.now (prefix ∷ text j texts.now)) }
+    {
+        let behind = [
+            behind_prefix(prefix, texts[0])?,
+            behind_prefix(prefix, texts[1])?,
+            behind_prefix(prefix, texts[2])?,
+            behind_prefix(prefix, texts[3])?,
+            behind_prefix(prefix, texts[4])?,
+            behind_prefix(prefix, texts[5])?,
+            behind_prefix(prefix, texts[6])?,
+            behind_prefix(prefix, texts[7])?,
+        ];
+        let messages = [
+            behind[0].as_slice(),
+            behind[1].as_slice(),
+            behind[2].as_slice(),
+            behind[3].as_slice(),
+            behind[4].as_slice(),
+            behind[5].as_slice(),
+            behind[6].as_slice(),
+            behind[7].as_slice(),
+        ];
+        if have_one_count(&messages) {
+            Some(self.eight.hmacs(&messages))
+        } else {
+            None
+        }
+    }
+}
+
+// So many bytes of a text and its prefix are hashed beside others.
+const LONGEST_BESIDE: usize = 120;
+
+// A text behind a prefix, if it isn't too long to be hashed beside others.
+fn behind_prefix(prefix: u8, text: &[u8]) -> Option<ArrayVec<u8, LONGEST_BESIDE>>
+    ensures value { IfSome result (λ message. message.items ≡ prefix ∷ text.now) }
+{
+    if text.len() >= LONGEST_BESIDE {
+        return None;
+    }
+    let mut message = ArrayVec::new();
+    message.push(prefix);
+    let _there_is_room = message.try_extend_from_slice(text);
+    Some(message)
 }
 
 impl Digests for ShaDigests {
@@ -77,6 +148,21 @@ impl Digests for ShaDigests {
 
     fn element_lanes(&self, bytes: &[u8]) -> [u32; 8] {
         words_of(&self.keyed(LANES_PREFIX, bytes))
+    }
+
+    fn text_digests(&self, texts: &[&[u8]; 8]) -> [[u8; 32]; 8] {
+        if have_one_count(texts) {
+            digests(&Start::new(), texts)
+        } else {
+            digest_of_each(texts)
+        }
+    }
+
+    fn lanes_of_eight(&self, texts: &[&[u8]; 8]) -> [[u32; 8]; 8] {
+        match self.eight_keyed(LANES_PREFIX, texts) {
+            Some(tags) => words_of_each(&tags),
+            None => self.lanes_of_each(texts),
+        }
     }
 
     fn tag(&self, bytes: &[u8]) -> [u8; 32] {
@@ -108,6 +194,38 @@ fn copy_of(state: &Sha256) -> Sha256
         // A state holds no memory of its own.
         Err(_) => unreachable!(),
     }
+}
+
+// The digest of each text, one after another.
+fn digest_of_each(texts: &[&[u8]; 8]) -> [[u8; 32]; 8]
+    ensures value { (j : ℕ) → j < lane_count → block j result ≡ sha_text_digest (text j texts.now) }
+{
+    [
+        Sha256::digest(texts[0]),
+        Sha256::digest(texts[1]),
+        Sha256::digest(texts[2]),
+        Sha256::digest(texts[3]),
+        Sha256::digest(texts[4]),
+        Sha256::digest(texts[5]),
+        Sha256::digest(texts[6]),
+        Sha256::digest(texts[7]),
+    ]
+}
+
+// Of each of eight the bytes as words.
+fn words_of_each(tags: &[[u8; 32]; 8]) -> [[u32; 8]; 8]
+    ensures value { (j : ℕ) → j < lane_count → block j result ≡ words_of (block j tags.now) }
+{
+    [
+        words_of(&tags[0]),
+        words_of(&tags[1]),
+        words_of(&tags[2]),
+        words_of(&tags[3]),
+        words_of(&tags[4]),
+        words_of(&tags[5]),
+        words_of(&tags[6]),
+        words_of(&tags[7]),
+    ]
 }
 
 // 32 bytes as eight words, high byte first.

@@ -1,6 +1,8 @@
 //! Digests that collide at will, for tests.
-ghost use Rattle.std.specs.Prelude.{◌≡◌};
-ghost use Rattle.record_hash.specs.ToyDigests.{toy_sum, toy_digest, toy_functions};
+ghost use Rattle.std.specs.Prelude.{◌≡◌, ◌<◌, ℕ};
+ghost use Rattle.lane_sha.specs.Lanes.{lane_count, block};
+ghost use Rattle.lane_sha.specs.Texts.{text};
+ghost use Rattle.record_hash.specs.ToyDigests.{toy_sum, toy_digest, toy_lanes, toy_functions};
 
 use crate::digest_functions::Digests;
 
@@ -16,7 +18,15 @@ impl Digests for ToyDigests {
     }
 
     fn element_lanes(&self, bytes: &[u8]) -> [u32; 8] {
-        [sum_of(bytes), 0, 0, 0, 0, 0, 0, 0]
+        lanes_of(bytes)
+    }
+
+    fn text_digests(&self, texts: &[&[u8]; 8]) -> [[u8; 32]; 8] {
+        digest_of_each(texts)
+    }
+
+    fn lanes_of_eight(&self, texts: &[&[u8]; 8]) -> [[u32; 8]; 8] {
+        lanes_of_each(texts)
     }
 
     fn tag(&self, bytes: &[u8]) -> [u8; 32] {
@@ -30,6 +40,45 @@ impl Digests for ToyDigests {
     ghost element_lanes_shape = { λ _ bytes. AreLanes-toy_lanes bytes };
 
     ghost tag_shape = { λ _ bytes. IsDigest-toy_digest bytes };
+}
+
+// The digest of each text.
+fn digest_of_each(texts: &[&[u8]; 8]) -> [[u8; 32]; 8]
+    ensures value { (j : ℕ) → j < lane_count → block j result ≡ toy_digest (text j texts.now) }
+{
+    [
+        digest_of(texts[0]),
+        digest_of(texts[1]),
+        digest_of(texts[2]),
+        digest_of(texts[3]),
+        digest_of(texts[4]),
+        digest_of(texts[5]),
+        digest_of(texts[6]),
+        digest_of(texts[7]),
+    ]
+}
+
+// The lanes of each element's text.
+fn lanes_of_each(texts: &[&[u8]; 8]) -> [[u32; 8]; 8]
+    ensures value { (j : ℕ) → j < lane_count → block j result ≡ toy_lanes (text j texts.now) }
+{
+    [
+        lanes_of(texts[0]),
+        lanes_of(texts[1]),
+        lanes_of(texts[2]),
+        lanes_of(texts[3]),
+        lanes_of(texts[4]),
+        lanes_of(texts[5]),
+        lanes_of(texts[6]),
+        lanes_of(texts[7]),
+    ]
+}
+
+// The sum in lane 0.
+fn lanes_of(bytes: &[u8]) -> [u32; 8]
+    ensures value { result ≡ toy_lanes bytes.now }
+{
+    [sum_of(bytes), 0, 0, 0, 0, 0, 0, 0]
 }
 
 // The sum as a number in 32 bytes, high byte first.
