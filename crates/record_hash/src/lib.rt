@@ -9,10 +9,12 @@
 
 mod digest_functions;
 mod hmac_sha256;
+mod known_digests;
 mod sha_digests;
 mod toy_digests;
 
 pub use digest_functions::Digests;
 pub use hmac_sha256::hmac;
+pub use known_digests::KnownDigests;
 pub use sha_digests::ShaDigests;
 pub use toy_digests::ToyDigests;
