@@ -1,0 +1,3 @@
+-- Lemmas on windows.
+mod GoesOnLemmas
+mod ReadLemmas

@@ -1,0 +1,17 @@
+//! The next commands of a log, read ahead of the verifier that takes them, with the digests that they will ask for.
+//!
+//! A verifier takes its commands one by one, and each asks for digests and lanes of texts that mostly follow from the log
+//! alone: the value that an add brings, the element that an evict sends out. So a `CommandWindow` reads a number of commands
+//! at once and hashes what they will ask for eight at a time, side by side. What it thinks of a text may be wrong, as where
+//! a log is an enemy's; that costs time and changes no answer, since `KnownDigests` of `record_hash` compares each text with
+//! the one that it knows. The crate stands on `log_codec`, `record_text` and `record_hash`. Begin with `CommandWindow` in
+//! `window.rt`, beside `specs/Window.antt`; `asking.rt` has what a command will ask for, and `hashing.rt` the hashing.
+#![tactic(auto)]
+
+mod asking;
+mod hashing;
+mod read_command;
+mod window;
+
+pub use read_command::{AskedDigest, AskedLanes, ReadCommand};
+pub use window::CommandWindow;
