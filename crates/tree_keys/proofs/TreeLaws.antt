@@ -1,11 +1,13 @@
 -- Of which tree paths are, and which of them are data paths and which are nodes.
-use Rattle.std.proofs.Common.{◌≡◌, ◌≢◌, ℕ, suc, ◌^◌, ◌<◌, Bool, true, false, List, [], ◌∷◌, ◌++◌, length, Some, refl, sym, ◌∙◌, arith}
+use Rattle.std.proofs.Common.{◌≡◌, ◌≢◌, ℕ, suc, ◌+◌, ◌-◌, ◌*◌, ◌/◌, ◌^◌, ◌<◌, Bool, true, false, List, [], ◌∷◌, ◌++◌, length, Some, refl, sym, ◌∙◌, ap, subst, arith}
 use Rattle.std.proofs.lemmas.Bool.{false≢true, eq-eqb, eqb-true, ne_eqb}
 use Rattle.std.proofs.lemmas.Option.{none-some}
 use Rattle.std.proofs.lemmas.List.{length-append}
-use Rattle.tree_keys.specs.BitsLaws.{length-bits_of}
-use Rattle.tree_keys.specs.Path.{key_bits, depth, tree_of, IsIn, IsPath, IsData, is_data, IsNodePath, key_path, side, is_prefix}
-use Rattle.tree_keys.proofs.BitsLaws.{bits_of-injective}
+use Rattle.std.proofs.lemmas.Nat.{shl-shr, shl_below}
+use Rattle.tree_keys.specs.Bits.{bits_of, number_of}
+use Rattle.tree_keys.specs.BitsLaws.{length-bits_of, number_back}
+use Rattle.tree_keys.specs.Path.{key_bits, depth, tree_of, IsIn, IsPath, IsData, is_data, IsNodePath, key_path, key_of, side, is_prefix, word_of}
+use Rattle.tree_keys.proofs.BitsLaws.{number_of-lt, bits_of-number_of, bits_of-injective}
 use Rattle.tree_keys.proofs.SideLaws.{prefix_of_side}
 
 -- a path of a tree is a bit longer than its depth
@@ -116,3 +118,35 @@ key_path-injective wide a b small also same = bits_of-injective (key_bits wide) 
   where
     tail : {x y : Bool} {xs ys : List Bool} → x ∷ xs ≡ y ∷ ys → xs ≡ ys
     tail is = cc
+
+-- a key is that of its path
+pub key_of-path : (wide : Bool) (key : ℕ) → key < 2 ^ key_bits wide → key_of (key_path wide key) ≡ key
+key_of-path wide key small = number_back (key_bits wide) key small
+
+-- and a data path is that of its key
+pub key_path-of : (wide : Bool) (path : List Bool) → IsIn wide path → IsData path → key_path wide (key_of path) ≡ path
+key_path-of wide [] within whole = absurd within
+key_path-of wide (first ∷ bits) within whole =
+    subst (λ (b : Bool). key_path b (number_of bits) ≡ first ∷ bits) within
+    (ap (λ (more : List Bool). first ∷ more) (ap (λ (n : ℕ). bits_of n (number_of bits)) (sym whole) ∙ bits_of-number_of bits))
+
+-- the word of a path has as many bits as the keys of its tree
+pub word_of-lt : (path : List Bool) → IsPath path → word_of path < 2 ^ key_bits (tree_of path)
+word_of-lt [] fits = omega arith
+word_of-lt (wide ∷ bits) fits =
+    let whole : length bits + (key_bits wide - length bits) ≡ key_bits wide = omega arith in
+    subst (λ (n : ℕ). number_of bits * 2 ^ (key_bits wide - length bits) < 2 ^ n) whole
+    (shl_below (number_of bits) (length bits) (key_bits wide - length bits) (number_of-lt bits))
+
+-- a path of a tree is told by its depth and its word
+pub one_word : (wide : Bool) (p k : List Bool) → IsIn wide p → IsIn wide k → depth p ≡ depth k → word_of p ≡ word_of k → p ≡ k
+one_word wide [] k within also deep word = absurd within
+one_word wide (first ∷ p) [] within also deep word = absurd also
+one_word wide (first ∷ p) (second ∷ k) within also deep word =
+    let shift : ℕ = key_bits first - length p in
+    let trees : first ≡ second = within ∙ sym also in
+    let words : number_of p * 2 ^ shift ≡ number_of k * 2 ^ shift =
+    word ∙ (ap (λ (n : ℕ). number_of k * 2 ^ (key_bits second - n)) (sym deep) ∙ ap (λ (b : Bool). number_of k * 2 ^ (key_bits b - length p)) (sym trees)) in
+    let numbers : number_of p ≡ number_of k = sym (shl-shr (number_of p) shift) ∙ (ap (λ (n : ℕ). n / 2 ^ shift) words ∙ shl-shr (number_of k) shift) in
+    let bits : p ≡ k = sym (bits_of-number_of p) ∙ (ap (bits_of (length p)) numbers ∙ (ap (λ (n : ℕ). bits_of n (number_of k)) deep ∙ bits_of-number_of k)) in
+    cc

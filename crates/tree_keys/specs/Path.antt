@@ -54,6 +54,11 @@ root_of wide = wide ∷ []
 abbrev pub key_path : Bool → ℕ → List Bool
 key_path wide key = wide ∷ bits_of (key_bits wide) key
 
+-- the key of a data path: the number that the bits behind the first spell
+abbrev pub key_of : List Bool → ℕ
+key_of [] = 0
+key_of (wide ∷ bits) = number_of bits
+
 -- two numbers made of a path: how many bits lead to it, and the number that these spell
 abbrev pub with_numbers : {X : Type 0} → (ℕ → ℕ → X) → List Bool → X
 with_numbers make [] = make 0 0

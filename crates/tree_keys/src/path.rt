@@ -1,7 +1,7 @@
 //! Paths of the tree whose keys have 64 bits, and how they lie to each other.
 ghost use Rattle.std.specs.Prelude.{◌≡◌, ◌+◌, ◌-◌, ◌*◌, ◌/◌, ◌%◌, ◌^◌, ◌<◌, ◌≤◌, ◌==◌, ◌≢◌, ◌↔◌, min, Bool, false, List, [], ◌∷◌, ◌++◌, length, take, slice_get, IsTrue, IfSome, IfNone, Some, None};
 ghost use Rattle.tree_keys.specs.Bits.{bits_of, bit_value, number_of};
-ghost use Rattle.tree_keys.specs.Path.{depth, tree_of, IsPath, IsData, IsNodePath, root_of, key_path, side, IsBelow, is_prefix, same_path, common, word_of, path_in_word};
+ghost use Rattle.tree_keys.specs.Path.{depth, tree_of, IsIn, IsPath, IsData, IsNodePath, root_of, key_path, side, IsBelow, is_prefix, same_path, common, word_of, path_in_word};
 
 use std::marker::Model;
 
@@ -61,6 +61,7 @@ impl Path {
         ensures value { result ≡ depth self.now }
         ensures fits { result ≤ 64 }
         ensures tree { tree_of self.now ≡ false }
+        ensures within { IsIn false self.now }
     {
         self.len
     }
