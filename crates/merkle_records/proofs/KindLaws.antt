@@ -1,5 +1,5 @@
 -- The values of a node and of what is below it stay of their paths' kinds.
-use Rattle.std.proofs.Common.{ℕ, ◌≡◌, ◌<◌, ◌≤◌, Bool, true, false, List, [], ◌∷◌, ◌++◌, length, Option, Some, None, is_some, not, if◌then◌else◌, refl, sym, subst, arith}
+use Rattle.std.proofs.Common.{ℕ, ◌≡◌, ◌<◌, Bool, true, false, List, [], ◌∷◌, ◌++◌, length, Option, Some, None, is_some, not, if◌then◌else◌, refl, sym, subst}
 use Rattle.std.proofs.lemmas.Option.{none-some, same_Some}
 use Rattle.std.specs.Option.{option_map}
 use Rattle.tree_keys.specs.Path.{side, same_path, is_prefix, IsPath}
