@@ -3,6 +3,7 @@
 use Rattle.std.specs.Prelude.{ℕ, suc, ◌-◌, ◌==◌, ◌<◌, ◌≤◌, Bool, List, [], ◌∷◌, length, set, replicate, Option, Some, None, if◌then◌else◌}
 use Rattle.tree_keys.specs.Path.{root_of, same_path}
 use Rattle.lamport_clocks.specs.declared.header.Header.{Header}
+use Rattle.record_text.specs.Tree.{wide_of}
 use Rattle.record_text.specs.declared.value.Value.{Value}
 use Rattle.record_text.specs.declared.value.Value.TheVariants as values
 use Rattle.record_text.specs.Tree.{wide_of}
