@@ -1,6 +1,7 @@
 //! What went out of the caches, of each path the last.
-ghost use Rattle.std.specs.Prelude.{◌≡◌, ◌≤◌, length, OnOk, OnErr};
+ghost use Rattle.std.specs.Prelude.{◌≡◌, ◌≤◌, Some, OnOk, OnErr};
 ghost use Rattle.std.specs.Option.{option_map};
+ghost use Rattle.tree_keys.specs.Path.{depth};
 ghost use Rattle.soundness.specs.Clash.{none_evicted, with_last_evicted};
 ghost use Rattle.collision_exhibit.specs.LastEvicted.{path_number, last_evicted_at};
 
@@ -29,6 +30,7 @@ impl<'a> Model for LastEvictedValues<'a> {
 
 impl<'a> LastEvictedValues<'a> {
     /// Nothing was evicted. It takes memory from `alloc` as it grows.
+    #[tactic(auto, using(crate::proofs::LastEvictedLemmas::none_view))]
     pub(crate) fn new(alloc: Global) -> Self
         ensures none { last_evicted_at result ≡ none_evicted }
     {
@@ -58,9 +60,10 @@ impl<'a> LastEvictedValues<'a> {
 }
 
 // The number that stands for a path in the map: its length before its word.
+#[tactic(auto, using(crate::proofs::LastEvictedLemmas::number_view))]
 fn path_number(path: &Path) -> u128
-    ensures value { result ≡ path_number path.now }
-    ensures fits { length path.now ≤ 64 }
+    ensures value { path_number path.now ≡ Some result }
+    ensures fits { depth path.now ≤ 64 }
 {
     path.len() as u128 * (1 << 64) + path.word() as u128
 }

@@ -9,6 +9,7 @@ use Rattle.std.proofs.lemmas.Bool.Decides.{nat_tests}
 use Rattle.lamport_clocks.specs.Reading.{Reading}
 use Rattle.lamport_clocks.specs.Clock.{last_epoch, sealed_by_advancing}
 use Rattle.lamport_clocks.specs.declared.clock.ClockFault.TheVariants as faults
+use Rattle.record_text.specs.Tree.{wide_of}
 use Rattle.record_text.specs.Longest.{longest_of}
 use Rattle.base_words.specs.Steps.{test}
 use Rattle.record_text.specs.declared.request.Request.{Request}
@@ -24,7 +25,7 @@ use Rattle.soundness.specs.PathHistory.{path_log_events}
 use Rattle.soundness.specs.StateHistory.{events_behind, events_from, refusal_behind, refusal_from}
 use Rattle.soundness.specs.Certified.{operations_in, operations_by, sealed_by, sealed_count, epochs_in}
 use Rattle.soundness.specs.Timed.{added_among, evicted_among}
-use Rattle.soundness.specs.Typed.{IsPathTyped}
+use Rattle.soundness.specs.Typed.{IsPathTypedIn}
 use Rattle.host_core.specs.Accepted.{state_behind, state_from, IsAccepted}
 use Rattle.host_core.specs.Host.{Host, scheme, machinery, resting, asked, script_of}
 use Rattle.host_core.specs.WorldEvent.{next_clock}
@@ -53,7 +54,7 @@ module _ {C R : Type 0} (host : Host C R) (i : ℕ) where
   -- The log is accepted, and the verifier rests behind it; it answers what the script asks first, and seals the epochs
   -- before its clock's.
   pub record IsRightAccount (account : Account) : Type 0 where
-    pub typed : AllByRecursion (IsPathTyped (longest_of host.header)) account.log
+    pub typed : AllByRecursion (IsPathTypedIn (wide_of host.header) (longest_of host.header)) account.log
     pub accepted : IsAccepted (machinery host i) (opening i host.header) account.log
     pub rests : state_from (machinery host i) (opening i host.header) account.log ≡ resting host i account.clock
     pub is_clock : IsClock host account.clock
@@ -62,7 +63,7 @@ module _ {C R : Type 0} (host : Host C R) (i : ℕ) where
 
   -- commands that a verifier at rest accepts, and what it answers and seals
   pub record IsMore (clock : Reading) (commands : List Command) (next : Reading) (answers : List (ℕ × Request)) : Type 0 where
-    pub typed : AllByRecursion (IsPathTyped (longest_of host.header)) commands
+    pub typed : AllByRecursion (IsPathTypedIn (wide_of host.header) (longest_of host.header)) commands
     pub accepted : IsAccepted (machinery host i) (resting host i clock) commands
     pub rests : state_from (machinery host i) (resting host i clock) commands ≡ resting host i next
     pub is_clock : IsClock host next
@@ -105,7 +106,7 @@ module _ {C R : Type 0} (host : Host C R) (i : ℕ) where
       → take account.served (script_of host i) ++ answers ≡ take (account.served + more) (script_of host i)
       → IsRightAccount (with_more account commands next more)
   more_right account commands next answers more right new asks = record {
-    typed = every-append (IsPathTyped (longest_of host.header)) account.log commands right.typed new.typed;
+    typed = every-append (IsPathTypedIn (wide_of host.header) (longest_of host.header)) account.log commands right.typed new.typed;
     accepted = accepted-append (machinery host i) (opening i host.header) account.log commands right.accepted
         (subst (λ (state : State). IsAccepted (machinery host i) state commands) (sym right.rests) new.accepted);
     rests = state-append (machinery host i) (opening i host.header) account.log commands right.accepted
@@ -184,7 +185,7 @@ module _ {C R : Type 0} (host : Host C R) (i : ℕ) where
       → IsMore clock (NextEpoch ∷ []) (next_clock clock) []
   unfolding state_from refusal_from
   advance_more clock is more = record {
-    typed = (tt, tt);
+    typed = ((tt, tt), tt);
     accepted = ap (λ (step : Step). refusal_behind step (λ after. None)) (advance_step clock more);
     rests = ap (λ (step : Step). state_behind (resting host i clock) step (λ after. after)) (advance_step clock more);
     is_clock = record {

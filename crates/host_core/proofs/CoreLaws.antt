@@ -1,8 +1,9 @@
 -- The laws of the world, for whatever says that a shard mirrors: a type of its contents, or a test.
-use Rattle.std.proofs.Common.{ℕ, suc, ◌<◌, List, [], ◌∷◌, map, length, get_or, arith}
+use Rattle.std.proofs.Common.{ℕ, suc, ◌<◌, Bool, List, [], ◌∷◌, map, length, get_or, arith}
 use Rattle.std.specs.List.{AllByRecursion}
+use Rattle.record_text.specs.Tree.{wide_of}
 use Rattle.record_text.specs.Longest.{longest_of}
-use Rattle.soundness.specs.Typed.{ArePathsTyped, IsPathTyped}
+use Rattle.soundness.specs.Typed.{IsPathTypedIn, ArePathsTypedIn}
 use Rattle.host_core.specs.Host.{Host}
 use Rattle.host_core.specs.World.{Worker, logs_of, set_up}
 use Rattle.host_core.specs.WorldEvent.{run_events}
@@ -13,18 +14,18 @@ use Rattle.host_core.proofs.ScriptLemmas.{AreLeft, progress_left, setup_left, is
 use Rattle.host_core.proofs.PromiseLemmas.{sound_behind, some_worker, are_accepted, are_answered, are_sealed, is_even, is_in_phase, is_behind_close, sealed_permuted, all_certified, is_whole}
 
 -- the logs of typed accounts are typed
-typed_logs : (longest : ℕ) (workers : List Worker) (d : Account)
-    → ((i : ℕ) → i < length (map account_of workers) → AllByRecursion (IsPathTyped longest) (get_or (map account_of workers) i d).log)
-    → ArePathsTyped longest (map (λ worker. worker.log) workers)
-typed_logs longest [] d all = tt
-typed_logs longest (worker ∷ workers) d all =
-    (all 0 (omega arith), typed_logs longest workers d (λ i within. all (suc i) (omega (arith, within))))
+typed_logs : (wide : Bool) (longest : ℕ) (workers : List Worker) (d : Account)
+    → ((i : ℕ) → i < length (map account_of workers) → AllByRecursion (IsPathTypedIn wide longest) (get_or (map account_of workers) i d).log)
+    → ArePathsTypedIn wide longest (map (λ worker. worker.log) workers)
+typed_logs wide longest [] d all = tt
+typed_logs wide longest (worker ∷ workers) d all =
+    (all 0 (omega arith), typed_logs wide longest workers d (λ i within. all (suc i) (omega (arith, within))))
 
 module _ {C R : Type 0} (mirrors : ℕ → List C → Type 0) (host : Host C R) where
-  -- each command of a log is typed
-  pub always_typed : HoldsBehind mirrors host (λ world. ArePathsTyped (longest_of host.header) (logs_of world))
+  -- each command of a log is typed, and of the header's tree
+  pub always_typed : HoldsBehind mirrors host (λ world. ArePathsTypedIn (wide_of host.header) (longest_of host.header) (logs_of world))
   always_typed fit events enabled =
-      typed_logs (longest_of host.header) (run_events host (set_up host) events).workers _
+      typed_logs (wide_of host.header) (longest_of host.header) (run_events host (set_up host) events).workers _
       (λ i within. ((sound_behind mirrors host fit events enabled).right.each i within).typed)
 
   pub always_accepted : HoldsBehind mirrors host (AreAccepted host)

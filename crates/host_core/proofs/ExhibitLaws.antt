@@ -4,6 +4,7 @@ use Rattle.std.specs.List.{AllByRecursion}
 use Rattle.record_text.specs.declared.exhibit.Exhibit.{Exhibit}
 use Rattle.record_text.specs.declared.exhibit.Exhibit.TheVariants.{Clean}
 use Rattle.record_text.specs.declared.operation.Operation.{Operation}
+use Rattle.record_text.specs.Tree.{wide_of}
 use Rattle.record_text.specs.Longest.{longest_of}
 use Rattle.stamp_order.proofs.MergedLaws.{merged-filter, merged-sorts}
 use Rattle.stamp_order.specs.Serial.{IsSerial}
@@ -13,11 +14,12 @@ use Rattle.soundness.specs.Clash.{none_evicted, first_clash}
 use Rattle.soundness.specs.Exhibit.{first_uneven, exhibit_by}
 use Rattle.soundness.specs.Collision.{Collides}
 use Rattle.soundness.specs.Sound.{IsSerialOrCollides}
-use Rattle.soundness.specs.Typed.{ArePathsTyped, IsPathTyped}
+use Rattle.soundness.specs.Typed.{ArePathsTyped, IsPathTypedIn}
 use Rattle.soundness.specs.World.{changes_in}
 use Rattle.soundness.proofs.CertifiedLaws.{counted_balanced}
 use Rattle.soundness.proofs.SplitLaws.{split_up_to}
 use Rattle.soundness.proofs.SoundLaws.{path_sound}
+use Rattle.soundness.proofs.TypedLaws.{commands_typed}
 use Rattle.host_core.specs.Host.{Host, scheme}
 use Rattle.host_core.specs.World.{World, Worker, set_up}
 use Rattle.host_core.specs.WorldEvent.{WorldEvent, AreEnabled, run_events}
@@ -74,11 +76,11 @@ module _ {C R : Type 0} (mirrors : ℕ → List C → Type 0) (keeping : Keeping
 
   -- the logs of right accounts are typed
   typed_logs : (workers : List Worker) (d : Account)
-      → ((i : ℕ) → i < length (map account_of workers) → AllByRecursion (IsPathTyped (longest_of host.header)) (get_or (map account_of workers) i d).log)
+      → ((i : ℕ) → i < length (map account_of workers) → AllByRecursion (IsPathTypedIn (wide_of host.header) (longest_of host.header)) (get_or (map account_of workers) i d).log)
       → ArePathsTyped (longest_of host.header) (map (λ worker. worker.log) workers)
   typed_logs [] d all = tt
   typed_logs (worker ∷ workers) d all =
-      (all 0 (omega arith), typed_logs workers d (λ i within. all (suc i) (omega (arith, within))))
+      (commands_typed (wide_of host.header) (longest_of host.header) worker.log (all 0 (omega arith)), typed_logs workers d (λ i within. all (suc i) (omega (arith, within))))
 
   -- The certified answers are serial.
   pub served_serially : IsServedSerially host world

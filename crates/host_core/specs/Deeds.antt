@@ -7,6 +7,7 @@ use Rattle.lamport_clocks.specs.Clock.{opening_reading}
 use Rattle.record_text.specs.declared.element.Element.{Element}
 use Rattle.record_text.specs.declared.operation.Operation.{Operation}
 use Rattle.record_text.specs.declared.request.Request.{Request}
+use Rattle.record_text.specs.Tree.{wide_of}
 use Rattle.record_text.specs.Longest.{longest_of}
 use Rattle.log_codec.specs.declared.command.Command.{Command}
 use Rattle.verifier_commands.specs.declared.state.State.{State}
@@ -15,7 +16,7 @@ use Rattle.soundness.specs.History.{Event}
 use Rattle.soundness.specs.StateHistory.{events_from}
 use Rattle.soundness.specs.Certified.{operations_in, sealed_count}
 use Rattle.soundness.specs.Timed.{added_among, evicted_among}
-use Rattle.soundness.specs.Typed.{IsPathTyped}
+use Rattle.soundness.specs.Typed.{IsPathTypedIn}
 use Rattle.soundness.specs.Permutation.{count_of}
 use Rattle.host_core.specs.Accepted.{state_from, IsAccepted}
 use Rattle.host_core.specs.Host.{Done, Host, machinery, resting}
@@ -62,7 +63,7 @@ pub record IsClock {C R : Type 0} (host : Host C R) (clock : Reading) : Type 0 w
 -- pending elements of the contents before, evict those of the contents after, and answer these requests.
 pub record IsDeed {C R : Type 0} (host : Host C R) (i : ℕ) (from : State) (commands : List Command) (clock : Reading)
     (old new : List C) (answers : List (ℕ × Request)) : Type 0 where
-  pub typed : AllByRecursion (IsPathTyped (longest_of host.header)) commands
+  pub typed : AllByRecursion (IsPathTypedIn (wide_of host.header) (longest_of host.header)) commands
   pub accepted : IsAccepted (machinery host i) from commands
   pub rests : state_from (machinery host i) from commands ≡ resting host i clock
   pub is_clock : IsClock host clock

@@ -1,6 +1,6 @@
 -- The texts of commands that name paths: what was read as one is spelled so and in its ranges, and what is spelled so
 -- is read.
-use Rattle.std.proofs.Common.{◌≡◌, ℕ, List, [], ◌∷◌, ◌++◌, Ok, Err, refl}
+use Rattle.std.proofs.Common.{◌≡◌, ℕ, Bool, List, [], ◌∷◌, ◌++◌, Ok, Err, refl}
 use Rattle.std.specs.Int.{w16, to_be_bytes}
 use Rattle.record_text.specs.declared.reader.TextFault.TheVariants.{Malformed}
 use Rattle.record_text.specs.Reading.{path_at, value_at, stamp_at, u16_at}
@@ -9,126 +9,126 @@ use Rattle.record_text.proofs.FieldLaws.{AreBytes, Begins}
 use Rattle.record_text.proofs.ValueTextLaws.{path_of_value}
 use Rattle.log_codec.specs.declared.command.Command.{Command}
 use Rattle.log_codec.specs.declared.command.Command.TheVariants.{AddM, EvictM, AddB, EvictB, EvictBM, Get, Put, NextEpoch}
-use Rattle.log_codec.specs.Command.{path_command_text, add_m_at, evict_m_at, add_b_at, evict_b_at, evict_bm_at, get_at, put_at, path_command_behind, path_command_at, IsPathCommand}
+use Rattle.log_codec.specs.Command.{path_command_text, add_m_at, evict_m_at, add_b_at, evict_b_at, evict_bm_at, get_at, put_at, path_command_behind, path_command_at, IsPathCommand, IsCommandIn}
 use Rattle.log_codec.proofs.StepLaws.{then_at, two_at, three_at}
 use Rattle.log_codec.proofs.GrammarLaws.{Grammar, Spells, Spells-done, Spells-malformed, Spells-if, Spells-path, Spells-value, Spells-stamp, Spells-u16, Again, Again-done, Again-path, Again-value, Again-stamp, Again-u16, two_texts, three_texts, four_texts, tagged_at, tagged_begins, tagged_again}
 
 -- commands that name paths
-abbrev pub path_grammar : ℕ → Grammar Command
-path_grammar longest = record { text = path_command_text; read = λ bytes. path_command_at longest bytes; Is = IsPathCommand longest }
+abbrev pub path_grammar : Bool → ℕ → Grammar Command
+path_grammar wide longest = record { text = path_command_text; read = λ bytes. path_command_at wide longest bytes; Is = λ command. IsCommandIn wide command × IsPathCommand longest command }
 
 -- ---- what was read is spelled so
 
-add_m_spells : (longest : ℕ) → Spells (path_grammar longest) (1 ∷ []) (λ bytes. add_m_at longest bytes)
-add_m_spells longest =
-    Spells-path (path_grammar longest) (1 ∷ []) (λ path left. two_at (AddM path) (value_at longest path) (λ value. path_at) left) (λ path short.
-    Spells-value (path_grammar longest) longest (1 ∷ path_text path) path short (λ value left. then_at (path_at left) (λ parent rest. Ok (AddM path value parent, rest))) (λ value kind.
-    Spells-path (path_grammar longest) (1 ∷ path_text path ++ value_text value) (λ parent rest. Ok (AddM path value parent, rest)) (λ parent below.
-    Spells-done (path_grammar longest) _ (AddM path value parent) refl (kind, below))))
+add_m_spells : (wide : Bool) (longest : ℕ) → Spells (path_grammar wide longest) (1 ∷ []) (λ bytes. add_m_at wide longest bytes)
+add_m_spells wide longest =
+    Spells-path (path_grammar wide longest) wide (1 ∷ []) (λ path left. two_at (AddM path) (value_at longest path) (λ value. path_at wide) left) (λ path within short.
+    Spells-value (path_grammar wide longest) longest (1 ∷ path_text path) path short (λ value left. then_at (path_at wide left) (λ parent rest. Ok (AddM path value parent, rest))) (λ value kind.
+    Spells-path (path_grammar wide longest) wide (1 ∷ path_text path ++ value_text value) (λ parent rest. Ok (AddM path value parent, rest)) (λ parent inside below.
+    Spells-done (path_grammar wide longest) _ (AddM path value parent) refl ((within, inside), (kind, below)))))
 
-evict_m_spells : (longest : ℕ) → Spells (path_grammar longest) (2 ∷ []) (λ bytes. evict_m_at bytes)
-evict_m_spells longest =
-    Spells-path (path_grammar longest) (2 ∷ []) (λ path left. then_at (path_at left) (λ parent rest. Ok (EvictM path parent, rest))) (λ path short.
-    Spells-path (path_grammar longest) (2 ∷ path_text path) (λ parent rest. Ok (EvictM path parent, rest)) (λ parent below.
-    Spells-done (path_grammar longest) _ (EvictM path parent) refl (short, below)))
+evict_m_spells : (wide : Bool) (longest : ℕ) → Spells (path_grammar wide longest) (2 ∷ []) (λ bytes. evict_m_at wide bytes)
+evict_m_spells wide longest =
+    Spells-path (path_grammar wide longest) wide (2 ∷ []) (λ path left. then_at (path_at wide left) (λ parent rest. Ok (EvictM path parent, rest))) (λ path within short.
+    Spells-path (path_grammar wide longest) wide (2 ∷ path_text path) (λ parent rest. Ok (EvictM path parent, rest)) (λ parent inside below.
+    Spells-done (path_grammar wide longest) _ (EvictM path parent) refl ((within, inside), (short, below))))
 
-add_b_spells : (longest : ℕ) → Spells (path_grammar longest) (3 ∷ []) (λ bytes. add_b_at longest bytes)
-add_b_spells longest =
-    Spells-path (path_grammar longest) (3 ∷ []) (λ path left. three_at (AddB path) (value_at longest path) (λ value. stamp_at) u16_at left) (λ path short.
-    Spells-value (path_grammar longest) longest (3 ∷ path_text path) path short (λ value left. two_at (AddB path value) stamp_at (λ stamp. u16_at) left) (λ value kind.
-    Spells-stamp (path_grammar longest) (3 ∷ path_text path ++ value_text value) (λ stamp left. then_at (u16_at left) (λ verifier rest. Ok (AddB path value stamp verifier, rest))) (λ stamp fits.
-    Spells-u16 (path_grammar longest) (3 ∷ path_text path ++ value_text value ++ stamp_text stamp) (λ verifier rest. Ok (AddB path value stamp verifier, rest)) (λ verifier small.
-    Spells-done (path_grammar longest) _ (AddB path value stamp verifier) refl (kind, fits, small)))))
+add_b_spells : (wide : Bool) (longest : ℕ) → Spells (path_grammar wide longest) (3 ∷ []) (λ bytes. add_b_at wide longest bytes)
+add_b_spells wide longest =
+    Spells-path (path_grammar wide longest) wide (3 ∷ []) (λ path left. three_at (AddB path) (value_at longest path) (λ value. stamp_at) u16_at left) (λ path within short.
+    Spells-value (path_grammar wide longest) longest (3 ∷ path_text path) path short (λ value left. two_at (AddB path value) stamp_at (λ stamp. u16_at) left) (λ value kind.
+    Spells-stamp (path_grammar wide longest) (3 ∷ path_text path ++ value_text value) (λ stamp left. then_at (u16_at left) (λ verifier rest. Ok (AddB path value stamp verifier, rest))) (λ stamp fits.
+    Spells-u16 (path_grammar wide longest) (3 ∷ path_text path ++ value_text value ++ stamp_text stamp) (λ verifier rest. Ok (AddB path value stamp verifier, rest)) (λ verifier small.
+    Spells-done (path_grammar wide longest) _ (AddB path value stamp verifier) refl (within, (kind, fits, small))))))
 
-evict_b_spells : (longest : ℕ) → Spells (path_grammar longest) (4 ∷ []) (λ bytes. evict_b_at bytes)
-evict_b_spells longest =
-    Spells-path (path_grammar longest) (4 ∷ []) (λ path left. then_at (stamp_at left) (λ stamp rest. Ok (EvictB path stamp, rest))) (λ path short.
-    Spells-stamp (path_grammar longest) (4 ∷ path_text path) (λ stamp rest. Ok (EvictB path stamp, rest)) (λ stamp fits.
-    Spells-done (path_grammar longest) _ (EvictB path stamp) refl (short, fits)))
+evict_b_spells : (wide : Bool) (longest : ℕ) → Spells (path_grammar wide longest) (4 ∷ []) (λ bytes. evict_b_at wide bytes)
+evict_b_spells wide longest =
+    Spells-path (path_grammar wide longest) wide (4 ∷ []) (λ path left. then_at (stamp_at left) (λ stamp rest. Ok (EvictB path stamp, rest))) (λ path within short.
+    Spells-stamp (path_grammar wide longest) (4 ∷ path_text path) (λ stamp rest. Ok (EvictB path stamp, rest)) (λ stamp fits.
+    Spells-done (path_grammar wide longest) _ (EvictB path stamp) refl (within, (short, fits))))
 
-evict_bm_spells : (longest : ℕ) → Spells (path_grammar longest) (5 ∷ []) (λ bytes. evict_bm_at bytes)
-evict_bm_spells longest =
-    Spells-path (path_grammar longest) (5 ∷ []) (λ path left. two_at (EvictBM path) path_at (λ parent. stamp_at) left) (λ path short.
-    Spells-path (path_grammar longest) (5 ∷ path_text path) (λ parent left. then_at (stamp_at left) (λ stamp rest. Ok (EvictBM path parent stamp, rest))) (λ parent below.
-    Spells-stamp (path_grammar longest) (5 ∷ path_text path ++ path_text parent) (λ stamp rest. Ok (EvictBM path parent stamp, rest)) (λ stamp fits.
-    Spells-done (path_grammar longest) _ (EvictBM path parent stamp) refl (short, below, fits))))
+evict_bm_spells : (wide : Bool) (longest : ℕ) → Spells (path_grammar wide longest) (5 ∷ []) (λ bytes. evict_bm_at wide bytes)
+evict_bm_spells wide longest =
+    Spells-path (path_grammar wide longest) wide (5 ∷ []) (λ path left. two_at (EvictBM path) (path_at wide) (λ parent. stamp_at) left) (λ path within short.
+    Spells-path (path_grammar wide longest) wide (5 ∷ path_text path) (λ parent left. then_at (stamp_at left) (λ stamp rest. Ok (EvictBM path parent stamp, rest))) (λ parent inside below.
+    Spells-stamp (path_grammar wide longest) (5 ∷ path_text path ++ path_text parent) (λ stamp rest. Ok (EvictBM path parent stamp, rest)) (λ stamp fits.
+    Spells-done (path_grammar wide longest) _ (EvictBM path parent stamp) refl ((within, inside), (short, below, fits)))))
 
-get_spells : (longest : ℕ) → Spells (path_grammar longest) (6 ∷ []) (λ bytes. get_at longest bytes)
-get_spells longest =
-    Spells-path (path_grammar longest) (6 ∷ []) (λ path left. then_at (value_at longest path left) (λ value rest. Ok (Get path value, rest))) (λ path short.
-    Spells-value (path_grammar longest) longest (6 ∷ path_text path) path short (λ value rest. Ok (Get path value, rest)) (λ value kind.
-    Spells-done (path_grammar longest) _ (Get path value) refl kind))
+get_spells : (wide : Bool) (longest : ℕ) → Spells (path_grammar wide longest) (6 ∷ []) (λ bytes. get_at wide longest bytes)
+get_spells wide longest =
+    Spells-path (path_grammar wide longest) wide (6 ∷ []) (λ path left. then_at (value_at longest path left) (λ value rest. Ok (Get path value, rest))) (λ path within short.
+    Spells-value (path_grammar wide longest) longest (6 ∷ path_text path) path short (λ value rest. Ok (Get path value, rest)) (λ value kind.
+    Spells-done (path_grammar wide longest) _ (Get path value) refl (within, kind)))
 
-put_spells : (longest : ℕ) → Spells (path_grammar longest) (7 ∷ []) (λ bytes. put_at longest bytes)
-put_spells longest =
-    Spells-path (path_grammar longest) (7 ∷ []) (λ path left. then_at (value_at longest path left) (λ value rest. Ok (Put path value, rest))) (λ path short.
-    Spells-value (path_grammar longest) longest (7 ∷ path_text path) path short (λ value rest. Ok (Put path value, rest)) (λ value kind.
-    Spells-done (path_grammar longest) _ (Put path value) refl kind))
+put_spells : (wide : Bool) (longest : ℕ) → Spells (path_grammar wide longest) (7 ∷ []) (λ bytes. put_at wide longest bytes)
+put_spells wide longest =
+    Spells-path (path_grammar wide longest) wide (7 ∷ []) (λ path left. then_at (value_at longest path left) (λ value rest. Ok (Put path value, rest))) (λ path within short.
+    Spells-value (path_grammar wide longest) longest (7 ∷ path_text path) path short (λ value rest. Ok (Put path value, rest)) (λ value kind.
+    Spells-done (path_grammar wide longest) _ (Put path value) refl (within, kind)))
 
-behind_spells : (longest : ℕ) (tag : ℕ) → Spells (path_grammar longest) (tag ∷ []) (λ bytes. path_command_behind longest tag bytes)
-behind_spells longest tag =
-    Spells-if (path_grammar longest) tag 1 (λ bytes. add_m_at longest bytes) _ (add_m_spells longest)
-    (Spells-if (path_grammar longest) tag 2 (λ bytes. evict_m_at bytes) _ (evict_m_spells longest)
-    (Spells-if (path_grammar longest) tag 3 (λ bytes. add_b_at longest bytes) _ (add_b_spells longest)
-    (Spells-if (path_grammar longest) tag 4 (λ bytes. evict_b_at bytes) _ (evict_b_spells longest)
-    (Spells-if (path_grammar longest) tag 5 (λ bytes. evict_bm_at bytes) _ (evict_bm_spells longest)
-    (Spells-if (path_grammar longest) tag 6 (λ bytes. get_at longest bytes) _ (get_spells longest)
-    (Spells-if (path_grammar longest) tag 7 (λ bytes. put_at longest bytes) _ (put_spells longest)
-    (Spells-if (path_grammar longest) tag 8 (λ bytes. Ok (NextEpoch, bytes)) (λ bytes. Err Malformed) (Spells-done (path_grammar longest) (8 ∷ []) NextEpoch refl tt)
-    (Spells-malformed (path_grammar longest) (tag ∷ [])))))))))
+behind_spells : (wide : Bool) (longest : ℕ) (tag : ℕ) → Spells (path_grammar wide longest) (tag ∷ []) (λ bytes. path_command_behind wide longest tag bytes)
+behind_spells wide longest tag =
+    Spells-if (path_grammar wide longest) tag 1 (λ bytes. add_m_at wide longest bytes) _ (add_m_spells wide longest)
+    (Spells-if (path_grammar wide longest) tag 2 (λ bytes. evict_m_at wide bytes) _ (evict_m_spells wide longest)
+    (Spells-if (path_grammar wide longest) tag 3 (λ bytes. add_b_at wide longest bytes) _ (add_b_spells wide longest)
+    (Spells-if (path_grammar wide longest) tag 4 (λ bytes. evict_b_at wide bytes) _ (evict_b_spells wide longest)
+    (Spells-if (path_grammar wide longest) tag 5 (λ bytes. evict_bm_at wide bytes) _ (evict_bm_spells wide longest)
+    (Spells-if (path_grammar wide longest) tag 6 (λ bytes. get_at wide longest bytes) _ (get_spells wide longest)
+    (Spells-if (path_grammar wide longest) tag 7 (λ bytes. put_at wide longest bytes) _ (put_spells wide longest)
+    (Spells-if (path_grammar wide longest) tag 8 (λ bytes. Ok (NextEpoch, bytes)) (λ bytes. Err Malformed) (Spells-done (path_grammar wide longest) (8 ∷ []) NextEpoch refl (tt, tt))
+    (Spells-malformed (path_grammar wide longest) (tag ∷ [])))))))))
 
 -- What is read as a command is spelled so, and in its ranges.
-pub path_command_begins : (longest : ℕ) (bytes : List ℕ) (command : Command) (rest : List ℕ) → AreBytes bytes → path_command_at longest bytes ≡ Ok (command, rest) → Begins bytes (path_command_text command) rest × IsPathCommand longest command
+pub path_command_begins : (wide : Bool) (longest : ℕ) (bytes : List ℕ) (command : Command) (rest : List ℕ) → AreBytes bytes → path_command_at wide longest bytes ≡ Ok (command, rest) → Begins bytes (path_command_text command) rest × (IsCommandIn wide command × IsPathCommand longest command)
 unfolding path_command_at
-path_command_begins longest bytes command rest fits e =
-    tagged_begins (path_grammar longest) (λ tag left. path_command_behind longest tag left) (behind_spells longest) bytes command rest fits e
+path_command_begins wide longest bytes command rest fits e =
+    tagged_begins (path_grammar wide longest) (λ tag left. path_command_behind wide longest tag left) (behind_spells wide longest) bytes command rest fits e
 
 -- ---- what is spelled so is read
 
-all_again : (longest : ℕ) (command : Command) → IsPathCommand longest command → Again (tagged_at (λ tag bytes. path_command_behind longest tag bytes)) (path_command_text command) command
-all_again longest (AddM path value parent) is =
-    tagged_again (λ tag bytes. path_command_behind longest tag bytes) 1 (λ bytes. add_m_at longest bytes) (path_text path ++ (value_text value ++ (path_text parent ++ []))) _ (AddM path value parent) (λ bytes. refl)
-    (Again-path path (path_of_value longest path value is.0) (λ path left. two_at (AddM path) (value_at longest path) (λ value. path_at) left) _ _
-    (Again-value longest path value is.0 (λ value left. then_at (path_at left) (λ parent rest. Ok (AddM path value parent, rest))) _ _
-    (Again-path parent is.1 (λ parent rest. Ok (AddM path value parent, rest)) [] _ (Again-done (AddM path value parent)))))
+all_again : (wide : Bool) (longest : ℕ) (command : Command) → IsCommandIn wide command → IsPathCommand longest command → Again (tagged_at (λ tag bytes. path_command_behind wide longest tag bytes)) (path_command_text command) command
+all_again wide longest (AddM path value parent) inside is =
+    tagged_again (λ tag bytes. path_command_behind wide longest tag bytes) 1 (λ bytes. add_m_at wide longest bytes) (path_text path ++ (value_text value ++ (path_text parent ++ []))) _ (AddM path value parent) (λ bytes. refl)
+    (Again-path wide path inside.0 (path_of_value longest path value is.0) (λ path left. two_at (AddM path) (value_at longest path) (λ value. path_at wide) left) _ _
+    (Again-value longest path value is.0 (λ value left. then_at (path_at wide left) (λ parent rest. Ok (AddM path value parent, rest))) _ _
+    (Again-path wide parent inside.1 is.1 (λ parent rest. Ok (AddM path value parent, rest)) [] _ (Again-done (AddM path value parent)))))
     (three_texts 1 (path_text path) (value_text value) (path_text parent))
-all_again longest (EvictM path parent) is =
-    tagged_again (λ tag bytes. path_command_behind longest tag bytes) 2 (λ bytes. evict_m_at bytes) (path_text path ++ (path_text parent ++ [])) _ (EvictM path parent) (λ bytes. refl)
-    (Again-path path is.0 (λ path left. then_at (path_at left) (λ parent rest. Ok (EvictM path parent, rest))) _ _
-    (Again-path parent is.1 (λ parent rest. Ok (EvictM path parent, rest)) [] _ (Again-done (EvictM path parent))))
+all_again wide longest (EvictM path parent) inside is =
+    tagged_again (λ tag bytes. path_command_behind wide longest tag bytes) 2 (λ bytes. evict_m_at wide bytes) (path_text path ++ (path_text parent ++ [])) _ (EvictM path parent) (λ bytes. refl)
+    (Again-path wide path inside.0 is.0 (λ path left. then_at (path_at wide left) (λ parent rest. Ok (EvictM path parent, rest))) _ _
+    (Again-path wide parent inside.1 is.1 (λ parent rest. Ok (EvictM path parent, rest)) [] _ (Again-done (EvictM path parent))))
     (two_texts 2 (path_text path) (path_text parent))
-all_again longest (AddB path value stamp verifier) is =
-    tagged_again (λ tag bytes. path_command_behind longest tag bytes) 3 (λ bytes. add_b_at longest bytes) (path_text path ++ (value_text value ++ (stamp_text stamp ++ (to_be_bytes w16 verifier ++ [])))) _ (AddB path value stamp verifier) (λ bytes. refl)
-    (Again-path path (path_of_value longest path value is.0) (λ path left. three_at (AddB path) (value_at longest path) (λ value. stamp_at) u16_at left) _ _
+all_again wide longest (AddB path value stamp verifier) inside is =
+    tagged_again (λ tag bytes. path_command_behind wide longest tag bytes) 3 (λ bytes. add_b_at wide longest bytes) (path_text path ++ (value_text value ++ (stamp_text stamp ++ (to_be_bytes w16 verifier ++ [])))) _ (AddB path value stamp verifier) (λ bytes. refl)
+    (Again-path wide path inside (path_of_value longest path value is.0) (λ path left. three_at (AddB path) (value_at longest path) (λ value. stamp_at) u16_at left) _ _
     (Again-value longest path value is.0 (λ value left. two_at (AddB path value) stamp_at (λ stamp. u16_at) left) _ _
     (Again-stamp stamp is.1 (λ stamp left. then_at (u16_at left) (λ verifier rest. Ok (AddB path value stamp verifier, rest))) _ _
     (Again-u16 verifier is.2 (λ verifier rest. Ok (AddB path value stamp verifier, rest)) [] _ (Again-done (AddB path value stamp verifier))))))
     (four_texts 3 (path_text path) (value_text value) (stamp_text stamp) (to_be_bytes w16 verifier))
-all_again longest (EvictB path stamp) is =
-    tagged_again (λ tag bytes. path_command_behind longest tag bytes) 4 (λ bytes. evict_b_at bytes) (path_text path ++ (stamp_text stamp ++ [])) _ (EvictB path stamp) (λ bytes. refl)
-    (Again-path path is.0 (λ path left. then_at (stamp_at left) (λ stamp rest. Ok (EvictB path stamp, rest))) _ _
+all_again wide longest (EvictB path stamp) inside is =
+    tagged_again (λ tag bytes. path_command_behind wide longest tag bytes) 4 (λ bytes. evict_b_at wide bytes) (path_text path ++ (stamp_text stamp ++ [])) _ (EvictB path stamp) (λ bytes. refl)
+    (Again-path wide path inside is.0 (λ path left. then_at (stamp_at left) (λ stamp rest. Ok (EvictB path stamp, rest))) _ _
     (Again-stamp stamp is.1 (λ stamp rest. Ok (EvictB path stamp, rest)) [] _ (Again-done (EvictB path stamp))))
     (two_texts 4 (path_text path) (stamp_text stamp))
-all_again longest (EvictBM path parent stamp) is =
-    tagged_again (λ tag bytes. path_command_behind longest tag bytes) 5 (λ bytes. evict_bm_at bytes) (path_text path ++ (path_text parent ++ (stamp_text stamp ++ []))) _ (EvictBM path parent stamp) (λ bytes. refl)
-    (Again-path path is.0 (λ path left. two_at (EvictBM path) path_at (λ parent. stamp_at) left) _ _
-    (Again-path parent is.1 (λ parent left. then_at (stamp_at left) (λ stamp rest. Ok (EvictBM path parent stamp, rest))) _ _
+all_again wide longest (EvictBM path parent stamp) inside is =
+    tagged_again (λ tag bytes. path_command_behind wide longest tag bytes) 5 (λ bytes. evict_bm_at wide bytes) (path_text path ++ (path_text parent ++ (stamp_text stamp ++ []))) _ (EvictBM path parent stamp) (λ bytes. refl)
+    (Again-path wide path inside.0 is.0 (λ path left. two_at (EvictBM path) (path_at wide) (λ parent. stamp_at) left) _ _
+    (Again-path wide parent inside.1 is.1 (λ parent left. then_at (stamp_at left) (λ stamp rest. Ok (EvictBM path parent stamp, rest))) _ _
     (Again-stamp stamp is.2 (λ stamp rest. Ok (EvictBM path parent stamp, rest)) [] _ (Again-done (EvictBM path parent stamp)))))
     (three_texts 5 (path_text path) (path_text parent) (stamp_text stamp))
-all_again longest (Get path value) is =
-    tagged_again (λ tag bytes. path_command_behind longest tag bytes) 6 (λ bytes. get_at longest bytes) (path_text path ++ (value_text value ++ [])) _ (Get path value) (λ bytes. refl)
-    (Again-path path (path_of_value longest path value is) (λ path left. then_at (value_at longest path left) (λ value rest. Ok (Get path value, rest))) _ _
+all_again wide longest (Get path value) inside is =
+    tagged_again (λ tag bytes. path_command_behind wide longest tag bytes) 6 (λ bytes. get_at wide longest bytes) (path_text path ++ (value_text value ++ [])) _ (Get path value) (λ bytes. refl)
+    (Again-path wide path inside (path_of_value longest path value is) (λ path left. then_at (value_at longest path left) (λ value rest. Ok (Get path value, rest))) _ _
     (Again-value longest path value is (λ value rest. Ok (Get path value, rest)) [] _ (Again-done (Get path value))))
     (two_texts 6 (path_text path) (value_text value))
-all_again longest (Put path value) is =
-    tagged_again (λ tag bytes. path_command_behind longest tag bytes) 7 (λ bytes. put_at longest bytes) (path_text path ++ (value_text value ++ [])) _ (Put path value) (λ bytes. refl)
-    (Again-path path (path_of_value longest path value is) (λ path left. then_at (value_at longest path left) (λ value rest. Ok (Put path value, rest))) _ _
+all_again wide longest (Put path value) inside is =
+    tagged_again (λ tag bytes. path_command_behind wide longest tag bytes) 7 (λ bytes. put_at wide longest bytes) (path_text path ++ (value_text value ++ [])) _ (Put path value) (λ bytes. refl)
+    (Again-path wide path inside (path_of_value longest path value is) (λ path left. then_at (value_at longest path left) (λ value rest. Ok (Put path value, rest))) _ _
     (Again-value longest path value is (λ value rest. Ok (Put path value, rest)) [] _ (Again-done (Put path value))))
     (two_texts 7 (path_text path) (value_text value))
-all_again longest NextEpoch is =
-    tagged_again (λ tag bytes. path_command_behind longest tag bytes) 8 (λ bytes. Ok (NextEpoch, bytes)) [] _ NextEpoch (λ bytes. refl) (Again-done NextEpoch) refl
+all_again wide longest NextEpoch inside is =
+    tagged_again (λ tag bytes. path_command_behind wide longest tag bytes) 8 (λ bytes. Ok (NextEpoch, bytes)) [] _ NextEpoch (λ bytes. refl) (Again-done NextEpoch) refl
 
 -- What is spelled as a command is read, whatever follows.
-pub path_command_again : (longest : ℕ) (command : Command) (rest : List ℕ) → IsPathCommand longest command → path_command_at longest (path_command_text command ++ rest) ≡ Ok (command, rest)
+pub path_command_again : (wide : Bool) (longest : ℕ) (command : Command) (rest : List ℕ) → IsCommandIn wide command × IsPathCommand longest command → path_command_at wide longest (path_command_text command ++ rest) ≡ Ok (command, rest)
 unfolding path_command_at
-path_command_again longest command rest is = (all_again longest command is).again rest
+path_command_again wide longest command rest is = (all_again wide longest command is.0 is.1).again rest

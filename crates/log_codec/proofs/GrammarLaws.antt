@@ -1,16 +1,17 @@
 -- What reading and spelling have in common, whatever the commands: what was read as one is spelled so and in its
 -- ranges, and what is spelled so is read.
-use Rattle.std.proofs.Common.{◌≡◌, ℕ, ◌-◌, ◌^◌, ◌<◌, ◌≤◌, ◌==◌, Bool, true, false, cond, List, [], ◌∷◌, ◌++◌, length, Option, Some, Ok, Err, refl, sym, ap, subst, ◌∙◌, append_assoc, append-nil, length-drop, arith}
-use Rattle.std.specs.Int.{w16, to_be_bytes}
+use Rattle.std.proofs.Common.{◌≡◌, ℕ, ◌+◌, ◌-◌, ◌^◌, ◌<◌, ◌≤◌, ◌==◌, Bool, true, false, cond, List, [], ◌∷◌, ◌++◌, length, Option, Some, None, Ok, Err, refl, sym, ap, subst, ◌∙◌, append_assoc, append-nil, length-drop, arith}
+use Rattle.std.specs.Int.{w16, byte_len, to_be_bytes}
 use Rattle.std.proofs.lemmas.Bool.{eqb-true}
-use Rattle.tree_keys.specs.Path.{IsPath}
+use Rattle.tree_keys.specs.Path.{IsIn, IsPath}
 use Rattle.lamport_clocks.specs.declared.stamp.Stamp.{Stamp}
 use Rattle.record_text.specs.declared.reader.TextFault.TheVariants.{Malformed, Truncated}
 use Rattle.record_text.specs.declared.value.Value.{Value}
 use Rattle.record_text.specs.Value.{IsOf, IsBlob}
 use Rattle.record_text.specs.Element.{IsStamp}
+use Rattle.record_text.specs.Tree.{word_width}
 use Rattle.record_text.specs.Fields.{Parsed, field, KeepsOn}
-use Rattle.record_text.specs.Reading.{first_byte, byte_at, path_at, value_at, blob_at, stamp_at, u16_at}
+use Rattle.record_text.specs.Reading.{first_byte, byte_at, path_in, path_at, value_at, blob_at, stamp_at, u16_at}
 use Rattle.record_text.specs.Texts.{path_text, value_text, blob_text, stamp_text}
 use Rattle.record_text.proofs.FieldLaws.{AreBytes, Begins, Ok-is, field_again, field_ok, byte_field_begins}
 use Rattle.record_text.proofs.PathTextLaws.{path_begins, path_again}
@@ -46,6 +47,20 @@ front_of grammar exact command front byte back is cut =
     front_is_truncated grammar.read front byte back command exact.keeps_on whole
 
 -- ---- what was read is spelled so
+
+-- a path that was read is of the tree of which one was to be read
+pub path_at-in : (wide : Bool) (bytes : List ℕ) (path : List Bool) (rest : List ℕ) → path_at wide bytes ≡ Ok (path, rest) → IsIn wide path
+unfolding path_at
+path_at-in wide bytes path rest e =
+    let f = field_ok (1 + byte_len (word_width wide)) (path_in wide) bytes path rest e in
+    held _ _ f.1
+  where
+    one : (bits : List Bool) → Some (wide ∷ bits) ≡ Some path → wide ∷ bits ≡ path
+    one bits is = cc
+
+    held : (test : Bool) (bits : List Bool) → cond test (Some (wide ∷ bits)) None ≡ Some path → IsIn wide path
+    held true bits is = subst (λ (p : List Bool). IsIn wide p) (one bits is) refl
+    held false bits is = absurd (cc)
 
 -- what a reader makes of the bytes behind a front is spelled by the two together
 pub record Spells {C : Type 0} (grammar : Grammar C) (front : List ℕ) (read : List ℕ → Parsed C) : Type 0 where
@@ -87,9 +102,10 @@ Spells-if grammar tag k first second one two = go (tag == k) refl
     go true is = subst (λ (n : ℕ). Spells grammar (n ∷ []) first) (sym (eqb-true _ _ is)) one
     go false is = two
 
-pub Spells-path : {C : Type 0} (grammar : Grammar C) (front : List ℕ) (second : List Bool → List ℕ → Parsed C) → ((path : List Bool) → IsPath path → Spells grammar (front ++ path_text path) (second path)) → Spells grammar front (λ bytes. then_at (path_at bytes) second)
-Spells-path grammar front second next =
-    Spells-then grammar front (λ bytes. path_at bytes) second path_text IsPath (λ bytes path rest. path_begins bytes path rest) next
+pub Spells-path : {C : Type 0} (grammar : Grammar C) (wide : Bool) (front : List ℕ) (second : List Bool → List ℕ → Parsed C) → ((path : List Bool) → IsIn wide path → IsPath path → Spells grammar (front ++ path_text path) (second path)) → Spells grammar front (λ bytes. then_at (path_at wide bytes) second)
+Spells-path grammar wide front second next =
+    Spells-then grammar front (λ bytes. path_at wide bytes) second path_text (λ path. IsPath path × IsIn wide path)
+    (λ bytes path rest fits e. let begins = path_begins wide bytes path rest fits e in (begins.0, (begins.1, begins.2))) (λ path is. next path is.1 is.0)
 
 pub Spells-value : {C : Type 0} (grammar : Grammar C) (longest : ℕ) (front : List ℕ) (path : List Bool) (short : IsPath path) (second : Value → List ℕ → Parsed C) → ((value : Value) → IsOf longest path value → Spells grammar (front ++ value_text value) (second value)) → Spells grammar front (λ bytes. then_at (value_at longest path bytes) second)
 Spells-value grammar longest front path short second next =
@@ -125,9 +141,9 @@ Again-then first second a text back command one two = record {
       (two.again rest);
 }
 
-pub Again-path : {C : Type 0} (path : List Bool) (short : IsPath path) (second : List Bool → List ℕ → Parsed C) (back : List ℕ) (command : C) → Again (second path) back command → Again (λ bytes. then_at (path_at bytes) second) (path_text path ++ back) command
-Again-path path short second back command next =
-    Again-then (λ bytes. path_at bytes) second path (path_text path) back command (λ rest. path_again path rest short) next
+pub Again-path : {C : Type 0} (wide : Bool) (path : List Bool) (within : IsIn wide path) (short : IsPath path) (second : List Bool → List ℕ → Parsed C) (back : List ℕ) (command : C) → Again (second path) back command → Again (λ bytes. then_at (path_at wide bytes) second) (path_text path ++ back) command
+Again-path wide path within short second back command next =
+    Again-then (λ bytes. path_at wide bytes) second path (path_text path) back command (λ rest. path_again wide path rest within short) next
 
 pub Again-value : {C : Type 0} (longest : ℕ) (path : List Bool) (value : Value) (kind : IsOf longest path value) (second : Value → List ℕ → Parsed C) (back : List ℕ) (command : C) → Again (second value) back command → Again (λ bytes. then_at (value_at longest path bytes) second) (value_text value ++ back) command
 Again-value longest path value kind second back command next =

@@ -1,24 +1,26 @@
--- How many bytes a reader takes at most: a command takes at most 104, and has fewer where it is cut.
-use Rattle.std.proofs.Common.{◌≡◌, ℕ, ◌+◌, ◌<◌, ◌≤◌, ◌==◌, Bool, true, false, cond, ltb, List, [], ◌∷◌, ◌++◌, length, take, drop, Option, Some, None, Ok, Err, refl, ap, append-nil, length-drop, arith}
-use Rattle.std.specs.Int.{w16, w32, from_be_bytes}
+-- How many bytes a reader takes at most: a command of the narrow tree takes at most 104, and has fewer where it is cut.
+use Rattle.std.proofs.Common.{◌≡◌, ℕ, ◌+◌, ◌<◌, ◌≤◌, ◌==◌, Bool, true, false, cond, ltb, List, [], ◌∷◌, ◌++◌, length, take, drop, Option, Some, None, Ok, Err, refl, ap, subst, append-nil, length-drop, arith}
+use Rattle.std.specs.Int.{w16, w32, byte_len, from_be_bytes}
 use Rattle.std.specs.Prelude.{nat_le}
 use Rattle.std.proofs.lemmas.Bool.{ltb-true, leb-true}
-use Rattle.tree_keys.specs.Path.{is_data}
+use Rattle.tree_keys.specs.Path.{tree_of, IsIn, is_data}
+use Rattle.tree_keys.proofs.TreeLaws.{tree-in, in-child}
 use Rattle.lamport_clocks.specs.declared.stamp.Stamp.{Stamp}
 use Rattle.record_text.specs.declared.reader.TextFault.TheVariants as faults
 use Rattle.record_text.specs.declared.value.Pointer.{Pointer}
 use Rattle.record_text.specs.declared.value.Node.{Node}
 use Rattle.record_text.specs.declared.value.Value.TheVariants as values
+use Rattle.record_text.specs.Tree.{word_width}
 use Rattle.record_text.specs.Fields.{Parsed, field, ranged}
 use Rattle.record_text.specs.Reading.{first_byte, byte_at, run_at, path_in, path_at, flag_in, count_in, blob_behind, blob_at, pointer_tag_in, path_below_in, path_below_at, pointer_behind, pointer_at, node_at, value_by, value_at, u16_at, u32_at, stamp_at}
 use Rattle.record_text.proofs.FieldLaws.{field_ok, Ok-is}
 use Rattle.record_text.specs.Longest.{longest_blob}
 use Rattle.log_codec.specs.declared.command.Command.{Command}
 use Rattle.log_codec.specs.declared.command.Command.TheVariants.{AddM, EvictM, AddB, EvictB, EvictBM, Get, Put, NextEpoch}
-use Rattle.log_codec.specs.Command.{add_m_at, evict_m_at, add_b_at, evict_b_at, evict_bm_at, get_at, put_at, path_command_behind, path_command_at, path_command_text, IsPathCommand}
+use Rattle.log_codec.specs.Command.{add_m_at, evict_m_at, add_b_at, evict_b_at, evict_bm_at, get_at, put_at, path_command_behind, path_command_at, path_command_text, IsPathCommand, IsCommandIn}
 use Rattle.log_codec.proofs.CommandLaws.{path_grammar}
 use Rattle.log_codec.proofs.CommandKeepsOnLaws.{path_exact}
-use Rattle.log_codec.proofs.GrammarLaws.{Grammar, IsExact, tagged_at}
+use Rattle.log_codec.proofs.GrammarLaws.{Grammar, IsExact, path_at-in, tagged_at}
 use Rattle.log_codec.proofs.StepLaws.{then_at, then_ok, two_at, three_at, four_at}
 
 -- A reader takes at most n bytes, and has fewer where they are cut.
@@ -93,20 +95,27 @@ Spans-wider n m read le spans = record {
   cut = λ bytes e. let most = spans.cut bytes e in omega arith;
 }
 
+-- fields of which the second's span may rest on what the first one found
+pub Spans-two_found : {A B C : Type 0} (n m : ℕ) (make : A → B → C) (first : List ℕ → Parsed A) (second : A → List ℕ → Parsed B) → Spans n first → ((a : A) (bytes left : List ℕ) → first bytes ≡ Ok (a, left) → Spans m (second a)) → Spans (n + m) (λ bytes. two_at make first second bytes)
+Spans-two_found n m make first second one two =
+    Spans-then_found n m first (λ a left. then_at (second a left) (λ b rest. Ok (make a b, rest))) one
+    (λ a bytes left is. Spans-wider (m + 0) m _ (omega arith) (Spans-then m 0 (second a) (λ b rest. Ok (make a b, rest)) (two a bytes left is) (λ b. Spans-done 0 (make a b))))
+
 pub Spans-two : {A B C : Type 0} (n m : ℕ) (make : A → B → C) (first : List ℕ → Parsed A) (second : A → List ℕ → Parsed B) → Spans n first → ((a : A) → Spans m (second a)) → Spans (n + m) (λ bytes. two_at make first second bytes)
-Spans-two n m make first second one two =
-    Spans-then n m first (λ a left. then_at (second a left) (λ b rest. Ok (make a b, rest))) one
-    (λ a. Spans-wider (m + 0) m _ (omega arith) (Spans-then m 0 (second a) (λ b rest. Ok (make a b, rest)) (two a) (λ b. Spans-done 0 (make a b))))
+Spans-two n m make first second one two = Spans-two_found n m make first second one (λ a bytes left is. two a)
+
+pub Spans-three_found : {A B C D : Type 0} (n m k : ℕ) (make : A → B → C → D) (first : List ℕ → Parsed A) (second : A → List ℕ → Parsed B) (third : List ℕ → Parsed C) → Spans n first → ((a : A) (bytes left : List ℕ) → first bytes ≡ Ok (a, left) → Spans m (second a)) → Spans k third → Spans (n + (m + k)) (λ bytes. three_at make first second third bytes)
+Spans-three_found n m k make first second third one two three =
+    Spans-then_found n (m + k) first (λ a left. two_at (make a) (second a) (λ b. third) left) one
+    (λ a bytes left is. Spans-two m k (make a) (second a) (λ b. third) (two a bytes left is) (λ b. three))
 
 pub Spans-three : {A B C D : Type 0} (n m k : ℕ) (make : A → B → C → D) (first : List ℕ → Parsed A) (second : A → List ℕ → Parsed B) (third : List ℕ → Parsed C) → Spans n first → ((a : A) → Spans m (second a)) → Spans k third → Spans (n + (m + k)) (λ bytes. three_at make first second third bytes)
-Spans-three n m k make first second third one two three =
-    Spans-then n (m + k) first (λ a left. two_at (make a) (second a) (λ b. third) left) one
-    (λ a. Spans-two m k (make a) (second a) (λ b. third) (two a) (λ b. three))
+Spans-three n m k make first second third one two three = Spans-three_found n m k make first second third one (λ a bytes left is. two a) three
 
-pub Spans-four : {A B C D E : Type 0} (n m k j : ℕ) (make : A → B → C → D → E) (first : List ℕ → Parsed A) (second : A → List ℕ → Parsed B) (third : List ℕ → Parsed C) (fourth : List ℕ → Parsed D) → Spans n first → ((a : A) → Spans m (second a)) → Spans k third → Spans j fourth → Spans (n + (m + (k + j))) (λ bytes. four_at make first second third fourth bytes)
-Spans-four n m k j make first second third fourth one two three four =
-    Spans-then n (m + (k + j)) first (λ a left. three_at (make a) (second a) (λ b. third) fourth left) one
-    (λ a. Spans-three m k j (make a) (second a) (λ b. third) fourth (two a) (λ b. three) four)
+pub Spans-four_found : {A B C D E : Type 0} (n m k j : ℕ) (make : A → B → C → D → E) (first : List ℕ → Parsed A) (second : A → List ℕ → Parsed B) (third : List ℕ → Parsed C) (fourth : List ℕ → Parsed D) → Spans n first → ((a : A) (bytes left : List ℕ) → first bytes ≡ Ok (a, left) → Spans m (second a)) → Spans k third → Spans j fourth → Spans (n + (m + (k + j))) (λ bytes. four_at make first second third fourth bytes)
+Spans-four_found n m k j make first second third fourth one two three four =
+    Spans-then_found n (m + (k + j)) first (λ a left. three_at (make a) (second a) (λ b. third) fourth left) one
+    (λ a bytes left is. Spans-three m k j (make a) (second a) (λ b. third) fourth (two a bytes left is) (λ b. three) four)
 
 -- ---- the fields
 
@@ -114,13 +123,15 @@ pub Spans-byte : Spans 1 (λ bytes. byte_at bytes)
 unfolding byte_at
 Spans-byte = Spans-field 1 (λ run. Some (first_byte run))
 
-pub Spans-path : Spans 9 (λ bytes. path_at bytes)
+pub Spans-path : Spans 9 (λ bytes. path_at false bytes)
 unfolding path_at
-Spans-path = Spans-field 9 path_in
+Spans-path = Spans-field 9 (path_in false)
 
-pub Spans-path_below : (prefix : List Bool) → Spans 9 (λ bytes. path_below_at prefix bytes)
+pub Spans-path_below : (prefix : List Bool) → IsIn false prefix → Spans 9 (λ bytes. path_below_at prefix bytes)
 unfolding path_below_at
-Spans-path_below prefix = Spans-field 9 (path_below_in prefix)
+Spans-path_below prefix within =
+    subst (λ (wide : Bool). Spans (1 + byte_len (word_width wide)) (λ bytes. path_below_at prefix bytes)) (tree-in false prefix within)
+    (Spans-field (1 + byte_len (word_width (tree_of prefix))) (path_below_in prefix))
 
 pub Spans-u16 : Spans 2 (λ bytes. u16_at bytes)
 unfolding u16_at
@@ -160,31 +171,35 @@ pub Spans-blob : Spans 66 (λ bytes. blob_at longest_blob bytes)
 unfolding blob_at
 Spans-blob = Spans-then 1 65 (λ bytes. field 1 flag_in bytes) (λ present bytes. blob_behind longest_blob present bytes) (Spans-field 1 flag_in) Spans-blob_behind
 
-pub Spans-pointer_behind : (prefix : List Bool) (tag : Option Bool) → Spans 41 (λ bytes. pointer_behind prefix tag bytes)
-Spans-pointer_behind prefix None = Spans-done 41 None
-Spans-pointer_behind prefix (Some deferred) =
+pub Spans-pointer_behind : (prefix : List Bool) → IsIn false prefix → (tag : Option Bool) → Spans 41 (λ bytes. pointer_behind prefix tag bytes)
+Spans-pointer_behind prefix within None = Spans-done 41 None
+Spans-pointer_behind prefix within (Some deferred) =
     let pointer : List Bool → List ℕ → Option Pointer = λ path digest. Some (record { path = path; digest = digest; deferred = deferred }) in
-    Spans-two 9 32 pointer (λ bytes. path_below_at prefix bytes) (λ path bytes. run_at 32 bytes) (Spans-path_below prefix) (λ path. Spans-field 32 (λ run. Some run))
+    Spans-two 9 32 pointer (λ bytes. path_below_at prefix bytes) (λ path bytes. run_at 32 bytes) (Spans-path_below prefix within) (λ path. Spans-field 32 (λ run. Some run))
 
-pub Spans-pointer : (prefix : List Bool) → Spans 42 (λ bytes. pointer_at prefix bytes)
+pub Spans-pointer : (prefix : List Bool) → IsIn false prefix → Spans 42 (λ bytes. pointer_at prefix bytes)
 unfolding pointer_at
-Spans-pointer prefix = Spans-then 1 41 (λ bytes. field 1 pointer_tag_in bytes) (λ tag bytes. pointer_behind prefix tag bytes) (Spans-field 1 pointer_tag_in) (Spans-pointer_behind prefix)
+Spans-pointer prefix within = Spans-then 1 41 (λ bytes. field 1 pointer_tag_in bytes) (λ tag bytes. pointer_behind prefix tag bytes) (Spans-field 1 pointer_tag_in) (Spans-pointer_behind prefix within)
 
-pub Spans-node : (path : List Bool) → Spans 84 (λ bytes. node_at path bytes)
+pub Spans-node : (path : List Bool) → IsIn false path → Spans 84 (λ bytes. node_at path bytes)
 unfolding node_at
-Spans-node path =
+Spans-node path within =
     let node : Option Pointer → Option Pointer → Node = λ side0 side1. record { side0 = side0; side1 = side1 } in
     Spans-two 42 42 node (λ bytes. pointer_at (path ++ false ∷ []) bytes) (λ side0 bytes. pointer_at (path ++ true ∷ []) bytes)
-    (Spans-pointer (path ++ false ∷ [])) (λ side0. Spans-pointer (path ++ true ∷ []))
+    (Spans-pointer (path ++ false ∷ []) (in-child false path false within)) (λ side0. Spans-pointer (path ++ true ∷ []) (in-child false path true within))
 
-pub Spans-value_by : (path : List Bool) (data_path : Bool) → Spans 84 (λ bytes. value_by longest_blob path data_path bytes)
-Spans-value_by path true =
+pub Spans-value_by : (path : List Bool) → IsIn false path → (data_path : Bool) → Spans 84 (λ bytes. value_by longest_blob path data_path bytes)
+Spans-value_by path within true =
     Spans-then 66 18 (λ bytes. blob_at longest_blob bytes) (λ blob rest. Ok (values.Blob blob, rest)) Spans-blob (λ blob. Spans-done 18 (values.Blob blob))
-Spans-value_by path false =
-    Spans-then 84 0 (λ bytes. node_at path bytes) (λ node rest. Ok (values.Node node, rest)) (Spans-node path) (λ node. Spans-done 0 (values.Node node))
+Spans-value_by path within false =
+    Spans-then 84 0 (λ bytes. node_at path bytes) (λ node rest. Ok (values.Node node, rest)) (Spans-node path within) (λ node. Spans-done 0 (values.Node node))
 
-pub Spans-value : (path : List Bool) → Spans 84 (λ bytes. value_at longest_blob path bytes)
-Spans-value path = Spans-value_by path (is_data path)
+pub Spans-value : (path : List Bool) → IsIn false path → Spans 84 (λ bytes. value_at longest_blob path bytes)
+Spans-value path within = Spans-value_by path within (is_data path)
+
+-- the value of a path that was read
+pub Spans-value_of : (path : List Bool) (bytes left : List ℕ) → path_at false bytes ≡ Ok (path, left) → Spans 84 (λ bytes. value_at longest_blob path bytes)
+Spans-value_of path bytes left is = Spans-value path (path_at-in false bytes path left is)
 
 -- ---- the commands
 
@@ -200,29 +215,29 @@ text_spans grammar exact n spans command is =
 
 -- ---- commands that name paths
 
-pub Spans-behind : (tag : ℕ) → Spans 103 (λ bytes. path_command_behind longest_blob tag bytes)
+pub Spans-behind : (tag : ℕ) → Spans 103 (λ bytes. path_command_behind false longest_blob tag bytes)
 Spans-behind tag =
-    Spans-if 103 (tag == 1) (λ bytes. add_m_at longest_blob bytes) _ (Spans-wider 102 103 _ (omega arith) (Spans-three 9 84 9 AddM path_at (value_at longest_blob) path_at Spans-path Spans-value Spans-path))
-    (Spans-if 103 (tag == 2) (λ bytes. evict_m_at bytes) _ (Spans-wider 18 103 _ (omega arith) (Spans-two 9 9 EvictM path_at (λ p. path_at) Spans-path (λ p. Spans-path)))
-    (Spans-if 103 (tag == 3) (λ bytes. add_b_at longest_blob bytes) _ (Spans-four 9 84 8 2 AddB path_at (value_at longest_blob) stamp_at u16_at Spans-path Spans-value Spans-stamp Spans-u16)
-    (Spans-if 103 (tag == 4) (λ bytes. evict_b_at bytes) _ (Spans-wider 17 103 _ (omega arith) (Spans-two 9 8 EvictB path_at (λ p. stamp_at) Spans-path (λ p. Spans-stamp)))
-    (Spans-if 103 (tag == 5) (λ bytes. evict_bm_at bytes) _ (Spans-wider 26 103 _ (omega arith) (Spans-three 9 9 8 EvictBM path_at (λ p. path_at) stamp_at Spans-path (λ p. Spans-path) Spans-stamp))
-    (Spans-if 103 (tag == 6) (λ bytes. get_at longest_blob bytes) _ (Spans-wider 93 103 _ (omega arith) (Spans-two 9 84 Get path_at (value_at longest_blob) Spans-path Spans-value))
-    (Spans-if 103 (tag == 7) (λ bytes. put_at longest_blob bytes) _ (Spans-wider 93 103 _ (omega arith) (Spans-two 9 84 Put path_at (value_at longest_blob) Spans-path Spans-value))
+    Spans-if 103 (tag == 1) (λ bytes. add_m_at false longest_blob bytes) _ (Spans-wider 102 103 _ (omega arith) (Spans-three_found 9 84 9 AddM (path_at false) (value_at longest_blob) (path_at false) Spans-path Spans-value_of Spans-path))
+    (Spans-if 103 (tag == 2) (λ bytes. evict_m_at false bytes) _ (Spans-wider 18 103 _ (omega arith) (Spans-two 9 9 EvictM (path_at false) (λ p. path_at false) Spans-path (λ p. Spans-path)))
+    (Spans-if 103 (tag == 3) (λ bytes. add_b_at false longest_blob bytes) _ (Spans-four_found 9 84 8 2 AddB (path_at false) (value_at longest_blob) stamp_at u16_at Spans-path Spans-value_of Spans-stamp Spans-u16)
+    (Spans-if 103 (tag == 4) (λ bytes. evict_b_at false bytes) _ (Spans-wider 17 103 _ (omega arith) (Spans-two 9 8 EvictB (path_at false) (λ p. stamp_at) Spans-path (λ p. Spans-stamp)))
+    (Spans-if 103 (tag == 5) (λ bytes. evict_bm_at false bytes) _ (Spans-wider 26 103 _ (omega arith) (Spans-three 9 9 8 EvictBM (path_at false) (λ p. path_at false) stamp_at Spans-path (λ p. Spans-path) Spans-stamp))
+    (Spans-if 103 (tag == 6) (λ bytes. get_at false longest_blob bytes) _ (Spans-wider 93 103 _ (omega arith) (Spans-two_found 9 84 Get (path_at false) (value_at longest_blob) Spans-path Spans-value_of))
+    (Spans-if 103 (tag == 7) (λ bytes. put_at false longest_blob bytes) _ (Spans-wider 93 103 _ (omega arith) (Spans-two_found 9 84 Put (path_at false) (value_at longest_blob) Spans-path Spans-value_of))
     (Spans-if 103 (tag == 8) (λ bytes. Ok (NextEpoch, bytes)) (λ bytes. Err faults.Malformed) (Spans-done 103 NextEpoch) (Spans-malformed 103))))))))
 
-pub Spans-path_command : Spans 104 (λ bytes. path_command_at longest_blob bytes)
+pub Spans-path_command : Spans 104 (λ bytes. path_command_at false longest_blob bytes)
 unfolding path_command_at
-Spans-path_command = Spans-tagged 103 (λ tag left. path_command_behind longest_blob tag left) Spans-behind
+Spans-path_command = Spans-tagged 103 (λ tag left. path_command_behind false longest_blob tag left) Spans-behind
 
 -- A command that was read takes at most 104 bytes.
-pub path_command_taken : (bytes : List ℕ) (command : Command) (rest : List ℕ) → path_command_at longest_blob bytes ≡ Ok (command, rest) → length bytes ≤ 104 + length rest
+pub path_command_taken : (bytes : List ℕ) (command : Command) (rest : List ℕ) → path_command_at false longest_blob bytes ≡ Ok (command, rest) → length bytes ≤ 104 + length rest
 path_command_taken bytes command rest e = Spans-path_command.takes bytes command rest e
 
 -- A command that is cut has fewer than 104 bytes.
-pub path_command_cut : (bytes : List ℕ) → path_command_at longest_blob bytes ≡ Err faults.Truncated → length bytes < 104
+pub path_command_cut : (bytes : List ℕ) → path_command_at false longest_blob bytes ≡ Err faults.Truncated → length bytes < 104
 path_command_cut bytes e = Spans-path_command.cut bytes e
 
 -- A command's text has at most 104 bytes.
-pub path_text_within : (command : Command) → IsPathCommand longest_blob command → length (path_command_text command) ≤ 104
-path_text_within command is = text_spans (path_grammar longest_blob) (path_exact longest_blob) 104 Spans-path_command command is
+pub path_text_within : (command : Command) → IsCommandIn false command → IsPathCommand longest_blob command → length (path_command_text command) ≤ 104
+path_text_within command inside is = text_spans (path_grammar false longest_blob) (path_exact false longest_blob) 104 Spans-path_command command (inside, is)

@@ -11,8 +11,8 @@ use Rattle.record_text.proofs.FieldLaws.{AreBytes, Begins, Ok-is}
 use Rattle.record_text.proofs.KeepsOnLaws.{keeps_on-nothing, keeps_on-then}
 use Rattle.log_codec.specs.declared.log_command.LogCommand.{LogCommand}
 use Rattle.log_codec.specs.declared.log_command.LogCommand.TheVariants.{ByPath, BySlot}
-use Rattle.log_codec.specs.Command.{path_command_text, path_command_at, IsPathCommand}
-use Rattle.log_codec.specs.SlotCommand.{slot_command_text, slot_command_at, IsSlotCommand}
+use Rattle.log_codec.specs.Command.{path_command_text, path_command_at, IsPathCommand, IsCommandIn}
+use Rattle.log_codec.specs.SlotCommand.{slot_command_text, slot_command_at, IsSlotCommand, IsSlotCommandIn}
 use Rattle.log_codec.specs.LogCommand.{command_text, command_by, command_at, IsCommandBy, IsCommand}
 use Rattle.log_codec.proofs.StepLaws.{then_at, then_ok, then_again}
 use Rattle.log_codec.proofs.GrammarLaws.{Grammar, IsExact, Spells-done, Spells-then}
@@ -22,8 +22,8 @@ use Rattle.log_codec.proofs.LengthLaws.{Spans, Spans-done, Spans-then, Spans-pat
 use Rattle.log_codec.proofs.SlotCommandLaws.{slot_command_begins, slot_command_again, keeps_on-slot_command, slot_command_shorter, Spans-slot_command}
 
 -- commands that name paths, or slots
-abbrev grammar_by : Bool → ℕ → Grammar LogCommand
-grammar_by by_path longest = record { text = command_text; read = λ bytes. command_by by_path longest bytes; Is = IsCommandBy by_path longest }
+abbrev grammar_by : Bool → Bool → ℕ → Grammar LogCommand
+grammar_by by_path wide longest = record { text = command_text; read = λ bytes. command_by by_path wide longest bytes; Is = IsCommandBy by_path wide longest }
 
 -- the commands of a format
 abbrev pub log_grammar : LogFormat → Grammar LogCommand
@@ -39,34 +39,34 @@ made_shorter first make bytes made rest law e =
     let shorter = law t.0 t.1 t.2 in
     omega (arith, ap (λ (left : List ℕ). length left) same)
 
-again_by : (by_path : Bool) (longest : ℕ) (command : LogCommand) (rest : List ℕ) → IsCommandBy by_path longest command → command_by by_path longest (command_text command ++ rest) ≡ Ok (command, rest)
-again_by true longest (ByPath command) rest is =
-    then_again (path_command_at longest (path_command_text command ++ rest)) (λ command left. Ok (ByPath command, left)) command rest (ByPath command) rest (path_command_again longest command rest is) refl
-again_by true longest (BySlot command) rest is = absurd is
-again_by false longest (ByPath command) rest is = absurd is
-again_by false longest (BySlot command) rest is =
-    then_again (slot_command_at longest (slot_command_text command ++ rest)) (λ command left. Ok (BySlot command, left)) command rest (BySlot command) rest (slot_command_again longest command rest is) refl
+again_by : (by_path wide : Bool) (longest : ℕ) (command : LogCommand) (rest : List ℕ) → IsCommandBy by_path wide longest command → command_by by_path wide longest (command_text command ++ rest) ≡ Ok (command, rest)
+again_by true wide longest (ByPath command) rest is =
+    then_again (path_command_at wide longest (path_command_text command ++ rest)) (λ command left. Ok (ByPath command, left)) command rest (ByPath command) rest (path_command_again wide longest command rest is) refl
+again_by true wide longest (BySlot command) rest is = absurd is
+again_by false wide longest (ByPath command) rest is = absurd is
+again_by false wide longest (BySlot command) rest is =
+    then_again (slot_command_at wide longest (slot_command_text command ++ rest)) (λ command left. Ok (BySlot command, left)) command rest (BySlot command) rest (slot_command_again wide longest command rest is) refl
 
-exact_by : (by_path : Bool) (longest : ℕ) → IsExact (grammar_by by_path longest)
-exact_by true longest = record {
-  begins = (Spells-then (grammar_by true longest) [] (λ bytes. path_command_at longest bytes) (λ command rest. Ok (ByPath command, rest)) path_command_text (IsPathCommand longest)
-      (path_command_begins longest) (λ command is. Spells-done (grammar_by true longest) (path_command_text command) (ByPath command) refl is)).begins;
-  again = again_by true longest;
-  keeps_on = keeps_on-then (path_command_at longest) (λ command rest. Ok (ByPath command, rest)) (keeps_on-path_command longest) (λ command. keeps_on-nothing (ByPath command));
-  shorter = λ bytes command rest. made_shorter (path_command_at longest) ByPath bytes command rest (path_command_shorter longest bytes);
+exact_by : (by_path wide : Bool) (longest : ℕ) → IsExact (grammar_by by_path wide longest)
+exact_by true wide longest = record {
+  begins = (Spells-then (grammar_by true wide longest) [] (λ bytes. path_command_at wide longest bytes) (λ command rest. Ok (ByPath command, rest)) path_command_text (λ command. IsCommandIn wide command × IsPathCommand longest command)
+      (path_command_begins wide longest) (λ command is. Spells-done (grammar_by true wide longest) (path_command_text command) (ByPath command) refl is)).begins;
+  again = again_by true wide longest;
+  keeps_on = keeps_on-then (path_command_at wide longest) (λ command rest. Ok (ByPath command, rest)) (keeps_on-path_command wide longest) (λ command. keeps_on-nothing (ByPath command));
+  shorter = λ bytes command rest. made_shorter (path_command_at wide longest) ByPath bytes command rest (path_command_shorter wide longest bytes);
 }
-exact_by false longest = record {
-  begins = (Spells-then (grammar_by false longest) [] (λ bytes. slot_command_at longest bytes) (λ command rest. Ok (BySlot command, rest)) slot_command_text (IsSlotCommand longest)
-      (slot_command_begins longest) (λ command is. Spells-done (grammar_by false longest) (slot_command_text command) (BySlot command) refl is)).begins;
-  again = again_by false longest;
-  keeps_on = keeps_on-then (slot_command_at longest) (λ command rest. Ok (BySlot command, rest)) (keeps_on-slot_command longest) (λ command. keeps_on-nothing (BySlot command));
-  shorter = λ bytes command rest. made_shorter (slot_command_at longest) BySlot bytes command rest (slot_command_shorter longest bytes);
+exact_by false wide longest = record {
+  begins = (Spells-then (grammar_by false wide longest) [] (λ bytes. slot_command_at wide longest bytes) (λ command rest. Ok (BySlot command, rest)) slot_command_text (λ command. IsSlotCommandIn wide command × IsSlotCommand longest command)
+      (slot_command_begins wide longest) (λ command is. Spells-done (grammar_by false wide longest) (slot_command_text command) (BySlot command) refl is)).begins;
+  again = again_by false wide longest;
+  keeps_on = keeps_on-then (slot_command_at wide longest) (λ command rest. Ok (BySlot command, rest)) (keeps_on-slot_command wide longest) (λ command. keeps_on-nothing (BySlot command));
+  shorter = λ bytes command rest. made_shorter (slot_command_at wide longest) BySlot bytes command rest (slot_command_shorter wide longest bytes);
 }
 
 -- Each command is read of its text and of no other bytes.
 pub log_exact : (format : LogFormat) → IsExact (log_grammar format)
 unfolding command_at
-log_exact format = exact_by format.by_path format.longest
+log_exact format = exact_by format.by_path format.wide format.longest
 
 -- What is read as a command is spelled so, and in its ranges.
 pub command_begins : (format : LogFormat) (bytes : List ℕ) (command : LogCommand) (rest : List ℕ) → AreBytes bytes → command_at format bytes ≡ Ok (command, rest) → Begins bytes (command_text command) rest × IsCommand format command
@@ -85,9 +85,9 @@ command_shorter format = (log_exact format).shorter
 
 -- ---- at most 106 bytes
 
-Spans-by : (by_path : Bool) → Spans 106 (λ bytes. command_by by_path longest_blob bytes)
-Spans-by true = Spans-then 104 2 (λ bytes. path_command_at longest_blob bytes) (λ command rest. Ok (ByPath command, rest)) Spans-path_command (λ command. Spans-done 2 (ByPath command))
-Spans-by false = Spans-then 106 0 (λ bytes. slot_command_at longest_blob bytes) (λ command rest. Ok (BySlot command, rest)) Spans-slot_command (λ command. Spans-done 0 (BySlot command))
+Spans-by : (by_path : Bool) → Spans 106 (λ bytes. command_by by_path false longest_blob bytes)
+Spans-by true = Spans-then 104 2 (λ bytes. path_command_at false longest_blob bytes) (λ command rest. Ok (ByPath command, rest)) Spans-path_command (λ command. Spans-done 2 (ByPath command))
+Spans-by false = Spans-then 106 0 (λ bytes. slot_command_at false longest_blob bytes) (λ command rest. Ok (BySlot command, rest)) Spans-slot_command (λ command. Spans-done 0 (BySlot command))
 
 Spans-command : (header : Header) → Spans 106 (λ bytes. command_at (format_of header) bytes)
 unfolding command_at

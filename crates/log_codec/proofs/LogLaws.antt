@@ -12,7 +12,7 @@ use Rattle.record_text.specs.Format.{LogFormat}
 use Rattle.log_codec.specs.declared.command.Command.{Command}
 use Rattle.log_codec.specs.declared.log_command.LogCommand.{LogCommand}
 use Rattle.log_codec.specs.declared.log_command.LogCommand.TheVariants.{ByPath}
-use Rattle.log_codec.specs.Command.{path_command_text, IsPathCommand}
+use Rattle.log_codec.specs.Command.{path_command_text, IsPathCommand, IsCommandIn}
 use Rattle.log_codec.specs.LogCommand.{command_text, command_at, IsCommandBy, IsCommand}
 use Rattle.log_codec.specs.Log.{LogEnd, whole, faulty, Log, log_text, path_log_text, with_command, with_commands, log_behind, log_up_to, read_log, IsLeft, IsLog}
 use Rattle.log_codec.proofs.LogCommandLaws.{command_begins, command_again, keeps_on-command, command_shorter}
@@ -194,12 +194,12 @@ pub log_text-by_path : (commands : List Command) → log_text (map ByPath comman
 log_text-by_path [] = refl
 log_text-by_path (command ∷ commands) = ap (λ (more : List ℕ). path_command_text command ++ more) (log_text-by_path commands)
 
-by_path_in_range : (format : LogFormat) (commands : List Command) → format.by_path ≡ true → AllByRecursion (IsPathCommand format.longest) commands → AllByRecursion (IsCommand format) (map ByPath commands)
-by_path_in_range format [] by_path is = tt
-by_path_in_range format (command ∷ commands) by_path is =
-    (subst (λ (names_paths : Bool). IsCommandBy names_paths format.longest (ByPath command)) (sym by_path) is.0, by_path_in_range format commands by_path is.1)
+by_path_in_range : (format : LogFormat) (commands : List Command) → format.by_path ≡ true → AllByRecursion (IsCommandIn format.wide) commands → AllByRecursion (IsPathCommand format.longest) commands → AllByRecursion (IsCommand format) (map ByPath commands)
+by_path_in_range format [] by_path within is = tt
+by_path_in_range format (command ∷ commands) by_path within is =
+    (subst (λ (names_paths : Bool). IsCommandBy names_paths format.wide format.longest (ByPath command)) (sym by_path) (within.0, is.0), by_path_in_range format commands by_path within.1 is.1)
 
 -- Where commands name paths, their joined texts are read as these commands.
-pub read_log-path_text : (format : LogFormat) (commands : List Command) → format.by_path ≡ true → AllByRecursion (IsPathCommand format.longest) commands → read_log format (path_log_text commands) ≡ record { commands = map ByPath commands; end = whole }
-read_log-path_text format commands by_path is =
-    ap (read_log format) (sym (log_text-by_path commands)) ∙ read_log-text format (map ByPath commands) (by_path_in_range format commands by_path is)
+pub read_log-path_text : (format : LogFormat) (commands : List Command) → format.by_path ≡ true → AllByRecursion (IsCommandIn format.wide) commands → AllByRecursion (IsPathCommand format.longest) commands → read_log format (path_log_text commands) ≡ record { commands = map ByPath commands; end = whole }
+read_log-path_text format commands by_path within is =
+    ap (read_log format) (sym (log_text-by_path commands)) ∙ read_log-text format (map ByPath commands) (by_path_in_range format commands by_path within is)

@@ -1,7 +1,7 @@
 -- The commands of a log that names paths, and their one text: a tag and the fields.
-use Rattle.std.specs.Prelude.{ℕ, ◌==◌, ◌<◌, ◌^◌, List, [], ◌∷◌, ◌++◌, Ok, Err, if◌then◌else◌}
+use Rattle.std.specs.Prelude.{ℕ, ◌==◌, ◌<◌, ◌^◌, Bool, List, [], ◌∷◌, ◌++◌, Ok, Err, if◌then◌else◌}
 use Rattle.std.specs.Int.{w16, to_be_bytes}
-use Rattle.tree_keys.specs.Path.{IsPath}
+use Rattle.tree_keys.specs.Path.{IsIn, IsPath}
 use Rattle.record_text.specs.Value.{IsOf}
 use Rattle.record_text.specs.Element.{IsStamp}
 use Rattle.record_text.specs.Texts.{path_text, value_text, stamp_text}
@@ -25,78 +25,78 @@ path_command_text NextEpoch = 8 ∷ []
 -- ---- the fields of each command, behind its tag
 
 -- a path, its value and its parent
-abbrev pub add_m_at : ℕ → List ℕ → Parsed Command
-add_m_at longest bytes = do
-  path ← path_at bytes
+abbrev pub add_m_at : Bool → ℕ → List ℕ → Parsed Command
+add_m_at wide longest bytes = do
+  path ← path_at wide bytes
   value ← value_at longest path.0 path.1
-  parent ← path_at value.1
+  parent ← path_at wide value.1
   Ok (AddM path.0 value.0 parent.0, parent.1)
 
 -- a path and its parent
-abbrev pub evict_m_at : List ℕ → Parsed Command
-evict_m_at bytes = do
-  path ← path_at bytes
-  parent ← path_at path.1
+abbrev pub evict_m_at : Bool → List ℕ → Parsed Command
+evict_m_at wide bytes = do
+  path ← path_at wide bytes
+  parent ← path_at wide path.1
   Ok (EvictM path.0 parent.0, parent.1)
 
 -- a path, its value, the stamp of its evict, and the verifier that evicted it
-abbrev pub add_b_at : ℕ → List ℕ → Parsed Command
-add_b_at longest bytes = do
-  path ← path_at bytes
+abbrev pub add_b_at : Bool → ℕ → List ℕ → Parsed Command
+add_b_at wide longest bytes = do
+  path ← path_at wide bytes
   value ← value_at longest path.0 path.1
   stamp ← stamp_at value.1
   verifier ← u16_at stamp.1
   Ok (AddB path.0 value.0 stamp.0 verifier.0, verifier.1)
 
 -- a path and its stamp
-abbrev pub evict_b_at : List ℕ → Parsed Command
-evict_b_at bytes = do
-  path ← path_at bytes
+abbrev pub evict_b_at : Bool → List ℕ → Parsed Command
+evict_b_at wide bytes = do
+  path ← path_at wide bytes
   stamp ← stamp_at path.1
   Ok (EvictB path.0 stamp.0, stamp.1)
 
 -- a path, its parent and its stamp
-abbrev pub evict_bm_at : List ℕ → Parsed Command
-evict_bm_at bytes = do
-  path ← path_at bytes
-  parent ← path_at path.1
+abbrev pub evict_bm_at : Bool → List ℕ → Parsed Command
+evict_bm_at wide bytes = do
+  path ← path_at wide bytes
+  parent ← path_at wide path.1
   stamp ← stamp_at parent.1
   Ok (EvictBM path.0 parent.0 stamp.0, stamp.1)
 
 -- a path and its value
-abbrev pub get_at : ℕ → List ℕ → Parsed Command
-get_at longest bytes = do
-  path ← path_at bytes
+abbrev pub get_at : Bool → ℕ → List ℕ → Parsed Command
+get_at wide longest bytes = do
+  path ← path_at wide bytes
   value ← value_at longest path.0 path.1
   Ok (Get path.0 value.0, value.1)
 
 -- a path and its value
-abbrev pub put_at : ℕ → List ℕ → Parsed Command
-put_at longest bytes = do
-  path ← path_at bytes
+abbrev pub put_at : Bool → ℕ → List ℕ → Parsed Command
+put_at wide longest bytes = do
+  path ← path_at wide bytes
   value ← value_at longest path.0 path.1
   Ok (Put path.0 value.0, value.1)
 
 -- behind a tag: the fields of its command; any other tag is malformed
-abbrev pub path_command_behind : ℕ → ℕ → List ℕ → Parsed Command
-path_command_behind longest tag bytes =
-    if tag == 1 then add_m_at longest bytes
-    else if tag == 2 then evict_m_at bytes
-    else if tag == 3 then add_b_at longest bytes
-    else if tag == 4 then evict_b_at bytes
-    else if tag == 5 then evict_bm_at bytes
-    else if tag == 6 then get_at longest bytes
-    else if tag == 7 then put_at longest bytes
+abbrev pub path_command_behind : Bool → ℕ → ℕ → List ℕ → Parsed Command
+path_command_behind wide longest tag bytes =
+    if tag == 1 then add_m_at wide longest bytes
+    else if tag == 2 then evict_m_at wide bytes
+    else if tag == 3 then add_b_at wide longest bytes
+    else if tag == 4 then evict_b_at wide bytes
+    else if tag == 5 then evict_bm_at wide bytes
+    else if tag == 6 then get_at wide longest bytes
+    else if tag == 7 then put_at wide longest bytes
     else if tag == 8 then Ok (NextEpoch, bytes)
     else Err Malformed
 
--- the command that the bytes begin with, and the bytes behind it; or the first fault
-unfoldable pub path_command_at : ℕ → List ℕ → Parsed Command
-path_command_at longest bytes = do
+-- the command of a tree that the bytes begin with, and the bytes behind it; or the first fault
+unfoldable pub path_command_at : Bool → ℕ → List ℕ → Parsed Command
+path_command_at wide longest bytes = do
   tag ← byte_at bytes
-  path_command_behind longest tag.0 tag.1
+  path_command_behind wide longest tag.0 tag.1
 
--- what has a text: each value is of its path's kind, and each path, stamp and number is in its range
+-- each value is of its path's kind, and each path, stamp and number is in its range, of whatever tree the paths are
 abbrev pub IsPathCommand : ℕ → Command → Type 0
 IsPathCommand longest (AddM path value parent) = IsOf longest path value × IsPath parent
 IsPathCommand longest (EvictM path parent) = IsPath path × IsPath parent
@@ -106,3 +106,14 @@ IsPathCommand longest (EvictBM path parent stamp) = IsPath path × IsPath parent
 IsPathCommand longest (Get path value) = IsOf longest path value
 IsPathCommand longest (Put path value) = IsOf longest path value
 IsPathCommand longest NextEpoch = Unit {0}
+
+-- each path that it names is of this tree: a command of it that is also in range has a text
+abbrev pub IsCommandIn : Bool → Command → Type 0
+IsCommandIn wide (AddM path value parent) = IsIn wide path × IsIn wide parent
+IsCommandIn wide (EvictM path parent) = IsIn wide path × IsIn wide parent
+IsCommandIn wide (AddB path value stamp verifier) = IsIn wide path
+IsCommandIn wide (EvictB path stamp) = IsIn wide path
+IsCommandIn wide (EvictBM path parent stamp) = IsIn wide path × IsIn wide parent
+IsCommandIn wide (Get path value) = IsIn wide path
+IsCommandIn wide (Put path value) = IsIn wide path
+IsCommandIn wide NextEpoch = Unit {0}

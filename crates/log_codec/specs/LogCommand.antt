@@ -6,8 +6,8 @@ use Rattle.log_codec.specs.declared.command.Command.{Command}
 use Rattle.log_codec.specs.declared.slot_command.SlotCommand.{SlotCommand}
 use Rattle.log_codec.specs.declared.log_command.LogCommand.{LogCommand}
 use Rattle.log_codec.specs.declared.log_command.LogCommand.TheVariants.{ByPath, BySlot}
-use Rattle.log_codec.specs.Command.{path_command_text, path_command_at, IsPathCommand}
-use Rattle.log_codec.specs.SlotCommand.{slot_command_text, slot_command_at, IsSlotCommand}
+use Rattle.log_codec.specs.Command.{path_command_text, path_command_at, IsPathCommand, IsCommandIn}
+use Rattle.log_codec.specs.SlotCommand.{slot_command_text, slot_command_at, IsSlotCommand, IsSlotCommandIn}
 
 -- the tag of a command, and its fields
 abbrev pub command_text : LogCommand → List ℕ
@@ -27,21 +27,21 @@ naming_slots parsed = do
   Ok (BySlot command.0, command.1)
 
 -- the command that the bytes begin with, where commands name paths and where they name slots
-abbrev pub command_by : Bool → ℕ → List ℕ → Parsed LogCommand
-command_by true longest bytes = naming_paths (path_command_at longest bytes)
-command_by false longest bytes = naming_slots (slot_command_at longest bytes)
+abbrev pub command_by : Bool → Bool → ℕ → List ℕ → Parsed LogCommand
+command_by true wide longest bytes = naming_paths (path_command_at wide longest bytes)
+command_by false wide longest bytes = naming_slots (slot_command_at wide longest bytes)
 
 -- the command of a format that the bytes begin with, and the bytes behind it; or the first fault
 unfoldable pub command_at : LogFormat → List ℕ → Parsed LogCommand
-command_at format bytes = command_by format.by_path format.longest bytes
+command_at format bytes = command_by format.by_path format.wide format.longest bytes
 
 -- what has a text where commands name paths, and where they name slots: one of the other kind has none
-abbrev pub IsCommandBy : Bool → ℕ → LogCommand → Type 0
-IsCommandBy true longest (ByPath command) = IsPathCommand longest command
-IsCommandBy true longest (BySlot command) = ⊥
-IsCommandBy false longest (ByPath command) = ⊥
-IsCommandBy false longest (BySlot command) = IsSlotCommand longest command
+abbrev pub IsCommandBy : Bool → Bool → ℕ → LogCommand → Type 0
+IsCommandBy true wide longest (ByPath command) = IsCommandIn wide command × IsPathCommand longest command
+IsCommandBy true wide longest (BySlot command) = ⊥
+IsCommandBy false wide longest (ByPath command) = ⊥
+IsCommandBy false wide longest (BySlot command) = IsSlotCommandIn wide command × IsSlotCommand longest command
 
--- a command that has a text in a format: it is of its kind, and each of its fields is in its range
+-- a command that has a text in a format: it is of its kind, its paths are of its tree, and each of its fields is in its range
 abbrev pub IsCommand : LogFormat → LogCommand → Type 0
-IsCommand format command = IsCommandBy format.by_path format.longest command
+IsCommand format command = IsCommandBy format.by_path format.wide format.longest command

@@ -1,6 +1,7 @@
 -- The commands of a log that names slots, and their one text: a tag and the fields.
-use Rattle.std.specs.Prelude.{ℕ, ◌==◌, ◌<◌, ◌^◌, List, [], ◌∷◌, ◌++◌, Ok, Err, if◌then◌else◌}
+use Rattle.std.specs.Prelude.{ℕ, ◌==◌, ◌<◌, ◌^◌, Bool, List, [], ◌∷◌, ◌++◌, Ok, Err, if◌then◌else◌}
 use Rattle.std.specs.Int.{w16, to_be_bytes}
+use Rattle.tree_keys.specs.Path.{IsIn}
 use Rattle.record_text.specs.Value.{IsOf, IsBlob}
 use Rattle.record_text.specs.Element.{IsStamp}
 use Rattle.record_text.specs.Texts.{path_text, value_text, blob_text, stamp_text}
@@ -28,10 +29,10 @@ slot_command_text NextEpoch = 8 ∷ []
 -- ---- the fields of each command, behind its tag
 
 -- a slot, a path, its value and the parent's slot
-abbrev pub add_m_at : ℕ → List ℕ → Parsed SlotCommand
-add_m_at longest bytes = do
+abbrev pub add_m_at : Bool → ℕ → List ℕ → Parsed SlotCommand
+add_m_at wide longest bytes = do
   slot ← u16_at bytes
-  path ← path_at slot.1
+  path ← path_at wide slot.1
   value ← value_at longest path.0 path.1
   parent ← u16_at value.1
   Ok (AddM slot.0 path.0 value.0 parent.0, parent.1)
@@ -44,10 +45,10 @@ evict_m_at bytes = do
   Ok (EvictM slot.0 parent.0, parent.1)
 
 -- a slot, a path, its value, the stamp of its evict, and the verifier that evicted it
-abbrev pub add_b_at : ℕ → List ℕ → Parsed SlotCommand
-add_b_at longest bytes = do
+abbrev pub add_b_at : Bool → ℕ → List ℕ → Parsed SlotCommand
+add_b_at wide longest bytes = do
   slot ← u16_at bytes
-  path ← path_at slot.1
+  path ← path_at wide slot.1
   value ← value_at longest path.0 path.1
   stamp ← stamp_at value.1
   verifier ← u16_at stamp.1
@@ -83,11 +84,11 @@ put_at longest bytes = do
   Ok (Put slot.0 value.0, value.1)
 
 -- behind a tag: the fields of its command; any other tag is malformed
-abbrev pub slot_command_behind : ℕ → ℕ → List ℕ → Parsed SlotCommand
-slot_command_behind longest tag bytes =
-    if tag == 1 then add_m_at longest bytes
+abbrev pub slot_command_behind : Bool → ℕ → ℕ → List ℕ → Parsed SlotCommand
+slot_command_behind wide longest tag bytes =
+    if tag == 1 then add_m_at wide longest bytes
     else if tag == 2 then evict_m_at bytes
-    else if tag == 3 then add_b_at longest bytes
+    else if tag == 3 then add_b_at wide longest bytes
     else if tag == 4 then evict_b_at bytes
     else if tag == 5 then evict_bm_at bytes
     else if tag == 6 then get_at longest bytes
@@ -95,17 +96,17 @@ slot_command_behind longest tag bytes =
     else if tag == 8 then Ok (NextEpoch, bytes)
     else Err Malformed
 
--- the command that the bytes begin with, and the bytes behind it; or the first fault
-unfoldable pub slot_command_at : ℕ → List ℕ → Parsed SlotCommand
-slot_command_at longest bytes = do
+-- the command of a tree that the bytes begin with, and the bytes behind it; or the first fault
+unfoldable pub slot_command_at : Bool → ℕ → List ℕ → Parsed SlotCommand
+slot_command_at wide longest bytes = do
   tag ← byte_at bytes
-  slot_command_behind longest tag.0 tag.1
+  slot_command_behind wide longest tag.0 tag.1
 
 -- a slot's number has 16 bits
 abbrev pub IsSlot : ℕ → Type 0
 IsSlot slot = slot < 2 ^ 16
 
--- what has a text: each value is of its path's kind, and each path, slot, stamp and number is in its range
+-- each value is of its path's kind, and each path, slot, stamp and number is in its range, of whatever tree the paths are
 abbrev pub IsSlotCommand : ℕ → SlotCommand → Type 0
 IsSlotCommand longest (AddM slot path value parent) = IsSlot slot × IsOf longest path value × IsSlot parent
 IsSlotCommand longest (EvictM slot parent) = IsSlot slot × IsSlot parent
@@ -115,3 +116,14 @@ IsSlotCommand longest (EvictBM slot parent stamp) = IsSlot slot × IsSlot parent
 IsSlotCommand longest (Get slot value) = IsSlot slot × IsBlob longest value
 IsSlotCommand longest (Put slot value) = IsSlot slot × IsBlob longest value
 IsSlotCommand longest NextEpoch = Unit {0}
+
+-- each path that it names is of this tree: a command of it that is also in range has a text
+abbrev pub IsSlotCommandIn : Bool → SlotCommand → Type 0
+IsSlotCommandIn wide (AddM slot path value parent) = IsIn wide path
+IsSlotCommandIn wide (EvictM slot parent) = Unit {0}
+IsSlotCommandIn wide (AddB slot path value stamp verifier) = IsIn wide path
+IsSlotCommandIn wide (EvictB slot stamp) = Unit {0}
+IsSlotCommandIn wide (EvictBM slot parent stamp) = Unit {0}
+IsSlotCommandIn wide (Get slot value) = Unit {0}
+IsSlotCommandIn wide (Put slot value) = Unit {0}
+IsSlotCommandIn wide NextEpoch = Unit {0}

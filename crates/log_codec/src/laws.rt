@@ -10,7 +10,7 @@ ghost use Rattle.record_text.specs.Format.{LogFormat, format_of};
 ghost use Rattle.log_codec.specs.declared.command.Command.{Command};
 ghost use Rattle.log_codec.specs.declared.log_command.LogCommand.{LogCommand};
 ghost use Rattle.log_codec.specs.declared.log_command.LogCommand.TheVariants.{ByPath};
-ghost use Rattle.log_codec.specs.Command.{IsPathCommand};
+ghost use Rattle.log_codec.specs.Command.{IsPathCommand, IsCommandIn};
 ghost use Rattle.log_codec.specs.LogCommand.{command_text, command_at, IsCommand};
 ghost use Rattle.log_codec.specs.Log.{Log, whole, faulty, log_text, path_log_text, with_command, with_commands, log_up_to, read_log, IsLeft, IsLog};
 
@@ -93,11 +93,11 @@ pub fn logs_keep_on()
         → read_log format (bytes ++ more) ≡ read_log format bytes }
 {}
 
-/// The texts of commands that name paths are a log of them where commands name paths.
+/// The texts of commands that name paths are a log of them where commands name paths of their tree.
 pub fn logs_by_path_are_read()
     ensures text { (commands : List Command)
         → log_text (map ByPath commands) ≡ path_log_text commands }
     ensures read { (format : LogFormat) (commands : List Command) → format.by_path ≡ true
-        → AllByRecursion (IsPathCommand format.longest) commands
+        → AllByRecursion (IsCommandIn format.wide) commands → AllByRecursion (IsPathCommand format.longest) commands
         → read_log format (path_log_text commands) ≡ record { commands = map ByPath commands; end = whole } }
 {}

@@ -1,4 +1,5 @@
 //! Reads a command that names paths, field by field.
+ghost use Rattle.std.specs.Prelude.{false};
 ghost use Rattle.record_text.specs.Fields.{Takes};
 ghost use Rattle.record_text.specs.Longest.{longest_blob};
 ghost use Rattle.log_codec.specs.Command.{add_m_at, evict_m_at, add_b_at, evict_b_at, evict_bm_at, get_at, put_at, path_command_behind, path_command_at};
@@ -11,7 +12,7 @@ use record_text::{Reader, TextFault};
 // The fields of each command, behind its tag.
 
 fn add_m(reader: &mut Reader<'_>) -> Result<LogCommand, TextFault>
-    ensures takes { Takes result reader.new (naming_paths (add_m_at longest_blob reader.old)) }
+    ensures takes { Takes result reader.new (naming_paths (add_m_at false longest_blob reader.old)) }
 {
     let path = reader.path()?;
     let value = reader.value(&path)?;
@@ -24,7 +25,7 @@ fn add_m(reader: &mut Reader<'_>) -> Result<LogCommand, TextFault>
 }
 
 fn evict_m(reader: &mut Reader<'_>) -> Result<LogCommand, TextFault>
-    ensures takes { Takes result reader.new (naming_paths (evict_m_at reader.old)) }
+    ensures takes { Takes result reader.new (naming_paths (evict_m_at false reader.old)) }
 {
     let path = reader.path()?;
     let parent = reader.path()?;
@@ -32,7 +33,7 @@ fn evict_m(reader: &mut Reader<'_>) -> Result<LogCommand, TextFault>
 }
 
 fn add_b(reader: &mut Reader<'_>) -> Result<LogCommand, TextFault>
-    ensures takes { Takes result reader.new (naming_paths (add_b_at longest_blob reader.old)) }
+    ensures takes { Takes result reader.new (naming_paths (add_b_at false longest_blob reader.old)) }
 {
     let path = reader.path()?;
     let value = reader.value(&path)?;
@@ -47,7 +48,7 @@ fn add_b(reader: &mut Reader<'_>) -> Result<LogCommand, TextFault>
 }
 
 fn evict_b(reader: &mut Reader<'_>) -> Result<LogCommand, TextFault>
-    ensures takes { Takes result reader.new (naming_paths (evict_b_at reader.old)) }
+    ensures takes { Takes result reader.new (naming_paths (evict_b_at false reader.old)) }
 {
     let path = reader.path()?;
     let stamp = reader.stamp()?;
@@ -55,7 +56,7 @@ fn evict_b(reader: &mut Reader<'_>) -> Result<LogCommand, TextFault>
 }
 
 fn evict_bm(reader: &mut Reader<'_>) -> Result<LogCommand, TextFault>
-    ensures takes { Takes result reader.new (naming_paths (evict_bm_at reader.old)) }
+    ensures takes { Takes result reader.new (naming_paths (evict_bm_at false reader.old)) }
 {
     let path = reader.path()?;
     let parent = reader.path()?;
@@ -68,7 +69,7 @@ fn evict_bm(reader: &mut Reader<'_>) -> Result<LogCommand, TextFault>
 }
 
 fn get(reader: &mut Reader<'_>) -> Result<LogCommand, TextFault>
-    ensures takes { Takes result reader.new (naming_paths (get_at longest_blob reader.old)) }
+    ensures takes { Takes result reader.new (naming_paths (get_at false longest_blob reader.old)) }
 {
     let path = reader.path()?;
     let value = reader.value(&path)?;
@@ -76,7 +77,7 @@ fn get(reader: &mut Reader<'_>) -> Result<LogCommand, TextFault>
 }
 
 fn put(reader: &mut Reader<'_>) -> Result<LogCommand, TextFault>
-    ensures takes { Takes result reader.new (naming_paths (put_at longest_blob reader.old)) }
+    ensures takes { Takes result reader.new (naming_paths (put_at false longest_blob reader.old)) }
 {
     let path = reader.path()?;
     let value = reader.value(&path)?;
@@ -85,7 +86,7 @@ fn put(reader: &mut Reader<'_>) -> Result<LogCommand, TextFault>
 
 // The command of this tag.
 fn behind(reader: &mut Reader<'_>, tag: u8) -> Result<LogCommand, TextFault>
-    ensures takes { Takes result reader.new (naming_paths (path_command_behind longest_blob tag reader.old)) }
+    ensures takes { Takes result reader.new (naming_paths (path_command_behind false longest_blob tag reader.old)) }
 {
     match tag {
         1 => add_m(reader),
@@ -103,7 +104,7 @@ fn behind(reader: &mut Reader<'_>, tag: u8) -> Result<LogCommand, TextFault>
 /// A command.
 #[tactic(auto, unfolding(crate::specs::Command::path_command_at))]
 pub(crate) fn path_command(reader: &mut Reader<'_>) -> Result<LogCommand, TextFault>
-    ensures takes { Takes result reader.new (naming_paths (path_command_at longest_blob reader.old)) }
+    ensures takes { Takes result reader.new (naming_paths (path_command_at false longest_blob reader.old)) }
 {
     let tag = reader.byte()?;
     behind(reader, tag)

@@ -1,4 +1,5 @@
 //! Reads a command that names slots, field by field.
+ghost use Rattle.std.specs.Prelude.{false};
 ghost use Rattle.record_text.specs.Fields.{Takes};
 ghost use Rattle.record_text.specs.Longest.{longest_blob};
 ghost use Rattle.log_codec.specs.SlotCommand.{add_m_at, evict_m_at, add_b_at, evict_b_at, evict_bm_at, get_at, put_at, slot_command_behind, slot_command_at};
@@ -11,7 +12,7 @@ use record_text::{Reader, TextFault};
 // The fields of each command, behind its tag.
 
 fn add_m(reader: &mut Reader<'_>) -> Result<LogCommand, TextFault>
-    ensures takes { Takes result reader.new (naming_slots (add_m_at longest_blob reader.old)) }
+    ensures takes { Takes result reader.new (naming_slots (add_m_at false longest_blob reader.old)) }
 {
     let slot = reader.u16()?;
     let path = reader.path()?;
@@ -34,7 +35,7 @@ fn evict_m(reader: &mut Reader<'_>) -> Result<LogCommand, TextFault>
 }
 
 fn add_b(reader: &mut Reader<'_>) -> Result<LogCommand, TextFault>
-    ensures takes { Takes result reader.new (naming_slots (add_b_at longest_blob reader.old)) }
+    ensures takes { Takes result reader.new (naming_slots (add_b_at false longest_blob reader.old)) }
 {
     let slot = reader.u16()?;
     let path = reader.path()?;
@@ -89,7 +90,7 @@ fn put(reader: &mut Reader<'_>) -> Result<LogCommand, TextFault>
 
 // The command of this tag.
 fn behind(reader: &mut Reader<'_>, tag: u8) -> Result<LogCommand, TextFault>
-    ensures takes { Takes result reader.new (naming_slots (slot_command_behind longest_blob tag reader.old)) }
+    ensures takes { Takes result reader.new (naming_slots (slot_command_behind false longest_blob tag reader.old)) }
 {
     match tag {
         1 => add_m(reader),
@@ -107,7 +108,7 @@ fn behind(reader: &mut Reader<'_>, tag: u8) -> Result<LogCommand, TextFault>
 /// A command.
 #[tactic(auto, unfolding(crate::specs::SlotCommand::slot_command_at))]
 pub(crate) fn slot_command(reader: &mut Reader<'_>) -> Result<LogCommand, TextFault>
-    ensures takes { Takes result reader.new (naming_slots (slot_command_at longest_blob reader.old)) }
+    ensures takes { Takes result reader.new (naming_slots (slot_command_at false longest_blob reader.old)) }
 {
     let tag = reader.byte()?;
     behind(reader, tag)

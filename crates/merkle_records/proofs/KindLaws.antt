@@ -1,8 +1,9 @@
 -- The values of a node and of what is below it stay of their paths' kinds.
-use Rattle.std.proofs.Common.{ℕ, ◌≡◌, ◌<◌, ◌≤◌, Bool, true, false, List, [], ◌∷◌, ◌++◌, length, Option, Some, None, is_some, not, if◌then◌else◌, refl, sym, subst, arith}
+use Rattle.std.proofs.Common.{ℕ, ◌≡◌, ◌<◌, Bool, true, false, List, [], ◌∷◌, ◌++◌, length, Option, Some, None, is_some, not, if◌then◌else◌, refl, sym, subst}
 use Rattle.std.proofs.lemmas.Option.{none-some, same_Some}
 use Rattle.std.specs.Option.{option_map}
 use Rattle.tree_keys.specs.Path.{side, same_path, is_prefix, IsPath}
+use Rattle.tree_keys.proofs.TreeLaws.{data-path, node-path, node-above, shorter}
 use Rattle.record_text.specs.declared.value.Pointer.{Pointer}
 use Rattle.record_text.specs.declared.value.Node.{Node}
 use Rattle.record_text.specs.declared.value.Value.{Value}
@@ -24,18 +25,12 @@ is_prefix-side (false ∷ p) (false ∷ k) on is = is_prefix-side p k on is
 
 -- a path below is longer
 pub length-side : (p k : List Bool) (on : Bool) → side p k ≡ Some on → length p < length k
-length-side [] [] on is = absurd (none-some on is)
-length-side [] (b ∷ k) on is = omega arith
-length-side (a ∷ p) [] on is = absurd (none-some on is)
-length-side (true ∷ p) (true ∷ k) on is = omega (arith, length-side p k on is)
-length-side (true ∷ p) (false ∷ k) on is = absurd (none-some on is)
-length-side (false ∷ p) (true ∷ k) on is = absurd (none-some on is)
-length-side (false ∷ p) (false ∷ k) on is = omega (arith, length-side p k on is)
+length-side p k on is = shorter p k on is
 
--- the path of a value isn't longer than a data path
+-- the path of a value isn't longer than the keys of its tree
 length-IsOf : (longest : ℕ) (path : List Bool) (value : Value) → IsOf longest path value → IsPath path
-length-IsOf longest path (values.Blob blob) kind = omega (arith, kind.0)
-length-IsOf longest path (values.Node node) kind = omega (arith, kind.0)
+length-IsOf longest path (values.Blob blob) kind = data-path path kind.0
+length-IsOf longest path (values.Node node) kind = node-path path kind.0
 
 -- the pointer of a side is one of that side
 pub IsSide-node_side : (longest : ℕ) (path : List Bool) (node : Node) (on : Bool) → IsOf longest path (values.Node node) → IsSide path on (node_side node on)
@@ -72,7 +67,7 @@ IsOf-after_defer longest at on node above =
 IsOf-taken_over : (longest : ℕ) (at k : List Bool) (on which : Bool) (pointer : Pointer) → IsPointer at on pointer → side k pointer.path ≡ Some which → IsOf longest k (values.Node (taken_over (side k pointer.path) pointer))
 IsOf-taken_over longest at k on which pointer fits below =
     subst (λ (s : Option Bool). IsOf longest k (values.Node (taken_over s pointer))) (sym below)
-    (IsOf-with_side longest k empty_node which (Some pointer) (omega (arith, length-side k pointer.path which below, fits.fits), tt, tt)
+    (IsOf-with_side longest k empty_node which (Some pointer) (node-above k pointer.path which below fits.fits, tt, tt)
     (record { below = is_prefix-side k pointer.path which below; fits = fits.fits; digest = fits.digest }))
 
 -- both are of their paths' kinds: the node, and the value below it

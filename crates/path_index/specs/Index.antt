@@ -8,7 +8,7 @@ use Rattle.path_index.specs.Order.{order_of}
 unfoldable pub lies : List ℕ → ℕ → ℕ
 lies heads rank = rank / 256 * 256 + (slice_index heads (rank / 256) + rank % 256) % 256
 
--- the mark of a rank, or one of the root where none lies
+-- the mark of a rank, or one of the empty path where none lies
 unfoldable pub seen : List Mark → List ℕ → ℕ → Mark
 seen marks heads rank = slice_index_or marks (lies heads rank) (record { path = []; at = 0 })
 

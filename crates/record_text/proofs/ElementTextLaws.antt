@@ -47,14 +47,14 @@ stamp_again stamp rest fits =
     ap (λ (r : Parsed ℕ). r >>= λ epoch. u32_at epoch.1 >>= λ counter. Ok (record { epoch = epoch.0; counter = counter.0 }, counter.1)) first
     ∙ ap (λ (r : Parsed ℕ). r >>= λ counter. Ok (record { epoch = stamp.epoch; counter = counter.0 }, counter.1)) (u32_again stamp.counter rest fits.counter)
 
-pub element_begins : (longest : ℕ) (bytes : List ℕ) (element : Element) (rest : List ℕ) → AreBytes bytes → element_at longest bytes ≡ Ok (element, rest) → Begins bytes (element_text element) rest × IsElement longest element
+pub element_begins : (wide : Bool) (longest : ℕ) (bytes : List ℕ) (element : Element) (rest : List ℕ) → AreBytes bytes → element_at wide longest bytes ≡ Ok (element, rest) → Begins bytes (element_text element) rest × IsElement wide longest element
 unfolding element_at
-element_begins longest bytes element rest fits e =
-    let a = bind_ok (path_at bytes) (λ path. value_at longest path.0 path.1 >>= λ value. stamp_at value.1 >>= λ stamp. u16_at stamp.1 >>= λ verifier. Ok (record { path = path.0; value = value.0; stamp = stamp.0; verifier = verifier.0 }, verifier.1)) (element, rest) e in
+element_begins wide longest bytes element rest fits e =
+    let a = bind_ok (path_at wide bytes) (λ path. value_at longest path.0 path.1 >>= λ value. stamp_at value.1 >>= λ stamp. u16_at stamp.1 >>= λ verifier. Ok (record { path = path.0; value = value.0; stamp = stamp.0; verifier = verifier.0 }, verifier.1)) (element, rest) e in
     let b = bind_ok (value_at longest a.0.0 a.0.1) (λ value. stamp_at value.1 >>= λ stamp. u16_at stamp.1 >>= λ verifier. Ok (record { path = a.0.0; value = value.0; stamp = stamp.0; verifier = verifier.0 }, verifier.1)) (element, rest) a.2 in
     let c = bind_ok (stamp_at b.0.1) (λ stamp. u16_at stamp.1 >>= λ verifier. Ok (record { path = a.0.0; value = b.0.0; stamp = stamp.0; verifier = verifier.0 }, verifier.1)) (element, rest) b.2 in
     let d = bind_ok (u16_at c.0.1) (λ verifier. Ok (record { path = a.0.0; value = b.0.0; stamp = c.0.0; verifier = verifier.0 }, verifier.1)) (element, rest) c.2 in
-    let first = path_begins bytes a.0.0 a.0.1 fits a.1 in
+    let first = path_begins wide bytes a.0.0 a.0.1 fits a.1 in
     let second = value_begins longest a.0.0 a.0.1 b.0.0 b.0.1 first.0.rest_fits first.1 b.1 in
     let third = stamp_begins b.0.1 c.0.0 c.0.1 second.0.rest_fits c.1 in
     let fourth = u16_begins c.0.1 d.0.0 d.0.1 third.0.rest_fits d.1 in
@@ -62,13 +62,13 @@ element_begins longest bytes element rest fits e =
     let three = Begins-then bytes (path_text a.0.0 ++ value_text b.0.0) b.0.1 (stamp_text c.0.0) c.0.1 two third.0 in
     let four = Begins-then bytes (path_text a.0.0 ++ value_text b.0.0 ++ stamp_text c.0.0) c.0.1 (to_be_bytes w16 d.0.0) d.0.1 three fourth.0 in
     let made : Element = record { path = a.0.0; value = b.0.0; stamp = c.0.0; verifier = d.0.0 } in
-    let is : IsElement longest made = record { kind = second.1; stamp = third.1; verifier = fourth.1 } in
-    let P : Element × List ℕ → Type 0 = λ x. Begins bytes (element_text x.0) x.1 × IsElement longest x.0 in
+    let is : IsElement wide longest made = record { tree = first.2; kind = second.1; stamp = third.1; verifier = fourth.1 } in
+    let P : Element × List ℕ → Type 0 = λ x. Begins bytes (element_text x.0) x.1 × IsElement wide longest x.0 in
     subst P {x = (made, d.0.1)} (Ok-is (made, d.0.1) (element, rest) d.2) (four, is)
 
-pub element_again : (longest : ℕ) (element : Element) (rest : List ℕ) → IsElement longest element → element_at longest (element_text element ++ rest) ≡ Ok (element, rest)
+pub element_again : (wide : Bool) (longest : ℕ) (element : Element) (rest : List ℕ) → IsElement wide longest element → element_at wide longest (element_text element ++ rest) ≡ Ok (element, rest)
 unfolding element_at
-element_again longest element rest is =
+element_again wide longest element rest is =
     let path : List ℕ = path_text element.path in
     let value : List ℕ = value_text element.value in
     let stamp : List ℕ = stamp_text element.stamp in
@@ -77,8 +77,8 @@ element_again longest element rest is =
     append_assoc (path_text element.path ++ value_text element.value ++ stamp_text element.stamp) (to_be_bytes w16 element.verifier) rest
     ∙ (append_assoc (path_text element.path ++ value_text element.value) (stamp_text element.stamp) (to_be_bytes w16 element.verifier ++ rest)
     ∙ append_assoc (path_text element.path) (value_text element.value) (stamp_text element.stamp ++ (to_be_bytes w16 element.verifier ++ rest))) in
-    let first : path_at (element_text element ++ rest) ≡ Ok (element.path, value_text element.value ++ (stamp_text element.stamp ++ (to_be_bytes w16 element.verifier ++ rest))) =
-    ap path_at regrouped ∙ path_again element.path (value_text element.value ++ (stamp_text element.stamp ++ (to_be_bytes w16 element.verifier ++ rest))) (path_of_value longest element.path element.value is.kind) in
+    let first : path_at wide (element_text element ++ rest) ≡ Ok (element.path, value_text element.value ++ (stamp_text element.stamp ++ (to_be_bytes w16 element.verifier ++ rest))) =
+    ap (path_at wide) regrouped ∙ path_again wide element.path (value_text element.value ++ (stamp_text element.stamp ++ (to_be_bytes w16 element.verifier ++ rest))) is.tree (path_of_value longest element.path element.value is.kind) in
     ap (λ (r : Parsed (List Bool)). r >>= λ path. value_at longest path.0 path.1 >>= λ value. stamp_at value.1 >>= λ stamp. u16_at stamp.1 >>= λ verifier. Ok (record { path = path.0; value = value.0; stamp = stamp.0; verifier = verifier.0 }, verifier.1)) first
     ∙ (ap (λ (r : Parsed Value). r >>= λ value. stamp_at value.1 >>= λ stamp. u16_at stamp.1 >>= λ verifier. Ok (record { path = element.path; value = value.0; stamp = stamp.0; verifier = verifier.0 }, verifier.1)) (value_again longest element.path element.value (stamp_text element.stamp ++ (to_be_bytes w16 element.verifier ++ rest)) is.kind)
     ∙ (ap (λ (r : Parsed Stamp). r >>= λ stamp. u16_at stamp.1 >>= λ verifier. Ok (record { path = element.path; value = element.value; stamp = stamp.0; verifier = verifier.0 }, verifier.1)) (stamp_again element.stamp (to_be_bytes w16 element.verifier ++ rest) is.stamp)

@@ -1,12 +1,13 @@
 -- Readers that more bytes behind don't disturb: a field, one reader after another, and a choice of readers.
 use Rattle.std.proofs.Common.{◌≡◌, ℕ, ◌+◌, ◌≤◌, Bool, true, false, cond, ltb, List, [], ◌∷◌, ◌++◌, length, take, drop, Option, Some, None, Result, Ok, Err, refl, sym, ap, ◌∙◌, ◌⊎◌, inl, inr, arith}
-use Rattle.std.specs.Int.{w16, w32, byte_len, from_be_bytes, w64}
+use Rattle.std.specs.Int.{w16, w32, byte_len, from_be_bytes}
 use Rattle.std.proofs.lemmas.Bool.{ltb-false, le-ltb}
 use Rattle.std.proofs.lemmas.List.{take-append-le, drop-append-le, length-append, length-drop}
-use Rattle.tree_keys.specs.Path.{is_data}
+use Rattle.tree_keys.specs.Path.{tree_of, is_data}
 use Rattle.record_text.specs.declared.reader.TextFault.{TextFault}
 use Rattle.record_text.specs.declared.reader.TextFault.TheVariants.{Malformed, Truncated}
 use Rattle.record_text.specs.declared.value.Value.TheVariants as values
+use Rattle.record_text.specs.Tree.{word_width}
 use Rattle.record_text.specs.Fields.{Parsed, ◌>>=◌, ranged, field, KeepsOn}
 use Rattle.record_text.specs.Reading.{first_byte, run_at, byte_at, flag_in, count_in, path_in, path_at, blob_behind, blob_at, pointer_tag_in, path_below_in, path_below_at, pointer_behind, pointer_at, node_at, value_by, value_at, u16_at, u32_at, stamp_at, element_at}
 use Rattle.record_text.proofs.FieldLaws.{bind_ok, Ok-is, field_ok}
@@ -104,13 +105,13 @@ pub keeps_on-u32 : KeepsOn u32_at
 unfolding u32_at
 keeps_on-u32 = keeps_on-field 4 (λ run. Some (from_be_bytes w32 run))
 
-pub keeps_on-path : KeepsOn path_at
+pub keeps_on-path : (wide : Bool) → KeepsOn (path_at wide)
 unfolding path_at
-keeps_on-path = keeps_on-field (1 + byte_len w64) path_in
+keeps_on-path wide = keeps_on-field (1 + byte_len (word_width wide)) (path_in wide)
 
 pub keeps_on-path_below : (prefix : List Bool) → KeepsOn (path_below_at prefix)
 unfolding path_below_at
-keeps_on-path_below prefix = keeps_on-field (1 + byte_len w64) (path_below_in prefix)
+keeps_on-path_below prefix = keeps_on-field (1 + byte_len (word_width (tree_of prefix))) (path_below_in prefix)
 
 keeps_on-blob_behind : (longest : ℕ) (present : Bool) → KeepsOn (blob_behind longest present)
 keeps_on-blob_behind longest false = keeps_on-nothing None
@@ -153,10 +154,10 @@ keeps_on-stamp =
     keeps_on-then u32_at (λ epoch bytes. u32_at bytes >>= λ counter. Ok (record { epoch = epoch; counter = counter.0 }, counter.1)) keeps_on-u32
     (λ epoch. keeps_on-made u32_at (λ counter. record { epoch = epoch; counter = counter }) keeps_on-u32)
 
-pub keeps_on-element : (longest : ℕ) → KeepsOn (element_at longest)
+pub keeps_on-element : (wide : Bool) (longest : ℕ) → KeepsOn (element_at wide longest)
 unfolding element_at
-keeps_on-element longest =
-    keeps_on-then path_at (λ path bytes. value_at longest path bytes >>= λ value. stamp_at value.1 >>= λ stamp. u16_at stamp.1 >>= λ verifier. Ok (record { path = path; value = value.0; stamp = stamp.0; verifier = verifier.0 }, verifier.1)) keeps_on-path
+keeps_on-element wide longest =
+    keeps_on-then (path_at wide) (λ path bytes. value_at longest path bytes >>= λ value. stamp_at value.1 >>= λ stamp. u16_at stamp.1 >>= λ verifier. Ok (record { path = path; value = value.0; stamp = stamp.0; verifier = verifier.0 }, verifier.1)) (keeps_on-path wide)
     (λ path. keeps_on-then (value_at longest path) (λ value bytes. stamp_at bytes >>= λ stamp. u16_at stamp.1 >>= λ verifier. Ok (record { path = path; value = value; stamp = stamp.0; verifier = verifier.0 }, verifier.1)) (keeps_on-value longest path)
     (λ value. keeps_on-then stamp_at (λ stamp bytes. u16_at bytes >>= λ verifier. Ok (record { path = path; value = value; stamp = stamp; verifier = verifier.0 }, verifier.1)) keeps_on-stamp
     (λ stamp. keeps_on-made u16_at (λ verifier. record { path = path; value = value; stamp = stamp; verifier = verifier }) keeps_on-u16)))

@@ -1,7 +1,8 @@
 -- The texts of values: what was read as one is spelled so and of its kind, and what is spelled so is read.
-use Rattle.std.proofs.Common.{◌≡◌, ℕ, ◌≤◌, Bool, true, false, cond, eqb, leb, List, [], ◌∷◌, ◌++◌, length, take, Option, Some, None, IsTrue, Ok, refl, sym, ap, subst, ◌∙◌, append_assoc, arith, ◌⊎◌, inl, inr}
-use Rattle.std.proofs.lemmas.Bool.{leb-true, le-leb, eqb-true, eqb-false, eq-eqb, ne_eqb}
-use Rattle.tree_keys.specs.Path.{is_prefix, key_bits, IsPath, IsNodePath}
+use Rattle.std.proofs.Common.{◌≡◌, ℕ, ◌≤◌, Bool, true, false, cond, eqb, leb, List, [], ◌∷◌, ◌++◌, length, take, Option, Some, None, IsTrue, Ok, refl, sym, ap, subst, ◌∙◌, append_assoc, ◌⊎◌, inl, inr}
+use Rattle.std.proofs.lemmas.Bool.{false≢true, leb-true, le-leb, eqb-true}
+use Rattle.tree_keys.specs.Path.{tree_of, IsIn, IsPath, is_data, root_of, is_prefix}
+use Rattle.tree_keys.proofs.TreeLaws.{in-prefix, in-child, data-path, node-path, data-is, is-data, node-is, is-node}
 use Rattle.record_text.specs.declared.value.Pointer.{Pointer}
 use Rattle.record_text.specs.declared.value.Node.{Node}
 use Rattle.record_text.specs.declared.value.Value.{Value}
@@ -144,10 +145,10 @@ deferred_tag-in : (deferred : Bool) → pointer_tag_in (deferred_tag deferred �
 deferred_tag-in true = refl
 deferred_tag-in false = refl
 
--- a side that has a text, under a prefix of its path
+-- a side that has a text, under a prefix of its path of the path's tree
 abbrev pub IsUnder : List Bool → Option Pointer → Type 0
 IsUnder prefix None = Unit {0}
-IsUnder prefix (Some pointer) = IsTrue (is_prefix prefix pointer.path) × IsPath pointer.path × (length pointer.digest ≡ 32)
+IsUnder prefix (Some pointer) = IsTrue (is_prefix prefix pointer.path) × IsPath pointer.path × (length pointer.digest ≡ 32) × IsIn (tree_of prefix) pointer.path
 
 pub pointer_again_under : (prefix : List Bool) (pointer : Option Pointer) (rest : List ℕ) → IsUnder prefix pointer → pointer_at prefix (pointer_text pointer ++ rest) ≡ Ok (pointer, rest)
 unfolding pointer_at
@@ -157,19 +158,34 @@ pointer_again_under prefix (Some pointer) rest is =
     let first : field 1 pointer_tag_in (deferred_tag pointer.deferred ∷ (path_text pointer.path ++ pointer.digest) ++ rest) ≡ Ok (Some pointer.deferred, (path_text pointer.path ++ pointer.digest) ++ rest) =
     field_again 1 pointer_tag_in (deferred_tag pointer.deferred ∷ []) ((path_text pointer.path ++ pointer.digest) ++ rest) (Some pointer.deferred) refl (deferred_tag-in pointer.deferred) in
     let second : path_below_at prefix ((path_text pointer.path ++ pointer.digest) ++ rest) ≡ Ok (pointer.path, pointer.digest ++ rest) =
-    ap (path_below_at prefix) regrouped ∙ path_below_again prefix pointer.path (pointer.digest ++ rest) is.1 is.0 in
+    ap (path_below_at prefix) regrouped ∙ path_below_again prefix pointer.path (pointer.digest ++ rest) is.3 is.1 is.0 in
     ap (λ (r : Parsed (Option Bool)). r >>= λ tag. pointer_behind prefix tag.0 tag.1) first
     ∙ (ap (λ (r : Parsed (List Bool)). r >>= λ path. run_at 32 path.1 >>= λ digest. Ok (Some (record { path = path.0; digest = digest.0; deferred = pointer.deferred }), digest.1)) second
     ∙ ap (λ (r : Parsed (List ℕ)). r >>= λ digest. Ok (Some (record { path = pointer.path; digest = digest.0; deferred = pointer.deferred }), digest.1)) (run_again 32 pointer.digest rest is.2))
 
+-- a path with a bit behind it is of the tree that its first bit says
+of_its_tree : (node : List Bool) (side : Bool) → IsIn (tree_of (node ++ side ∷ [])) (node ++ side ∷ [])
+of_its_tree [] side = refl
+of_its_tree (first ∷ node) side = refl
+
+-- a path of a tree begins with its root
+from_root : (wide : Bool) (path : List Bool) → IsIn wide path → IsTrue (is_prefix (root_of wide) path)
+from_root wide [] within = absurd within
+from_root true (true ∷ bits) within = refl
+from_root true (false ∷ bits) within = absurd (false≢true within)
+from_root false (true ∷ bits) within = absurd (false≢true (sym within))
+from_root false (false ∷ bits) within = refl
+
 IsUnder-side : (node : List Bool) (side : Bool) (pointer : Option Pointer) → IsSide node side pointer → IsUnder (node ++ side ∷ []) pointer
 IsUnder-side node side None kind = tt
-IsUnder-side node side (Some pointer) kind = (kind.below, kind.fits, kind.digest)
+IsUnder-side node side (Some pointer) kind = (kind.below, kind.fits, kind.digest, in-prefix (tree_of (node ++ side ∷ [])) (node ++ side ∷ []) pointer.path (of_its_tree node side) kind.below)
 
--- whatever its node, a pointer is under the path of no bits
-pub IsUnder-root : (node : List Bool) (side : Bool) (pointer : Option Pointer) → IsSide node side pointer → IsUnder [] pointer
-IsUnder-root node side None kind = tt
-IsUnder-root node side (Some pointer) kind = (refl, kind.fits, kind.digest)
+-- whatever its node, a pointer is under the root of the node's tree
+pub IsUnder-root : (wide : Bool) (node : List Bool) (side : Bool) (pointer : Option Pointer) → IsIn wide node → IsSide node side pointer → IsUnder (root_of wide) pointer
+IsUnder-root wide node side None within kind = tt
+IsUnder-root wide node side (Some pointer) within kind =
+    let tree : IsIn wide pointer.path = in-prefix wide (node ++ side ∷ []) pointer.path (in-child wide node side within) kind.below in
+    (from_root wide pointer.path tree, kind.fits, kind.digest, tree)
 
 pub pointer_again : (node : List Bool) (side : Bool) (pointer : Option Pointer) (rest : List ℕ) → IsSide node side pointer → pointer_at (node ++ side ∷ []) (pointer_text pointer ++ rest) ≡ Ok (pointer, rest)
 pointer_again node side pointer rest kind =
@@ -197,42 +213,41 @@ node_again path node rest kind0 kind1 =
 
 -- ---- the value of a path
 
-value_by_begins : (longest : ℕ) (path : List Bool) (is_key : Bool) (bytes : List ℕ) (value : Value) (rest : List ℕ) → AreBytes bytes → IsPath path → eqb (length path) key_bits ≡ is_key
+value_by_begins : (longest : ℕ) (path : List Bool) (is_key : Bool) (bytes : List ℕ) (value : Value) (rest : List ℕ) → AreBytes bytes → IsPath path → is_data path ≡ is_key
     → value_by longest path is_key bytes ≡ Ok (value, rest) → Begins bytes (value_text value) rest × IsOf longest path value
 value_by_begins longest path true bytes value rest fits short is e =
     let a = bind_ok (blob_at longest bytes) (λ blob. Ok (values.Blob blob.0, blob.1)) (value, rest) e in
     let first = blob_begins longest bytes a.0.0 a.0.1 fits a.1 in
     let made : Value = values.Blob a.0.0 in
-    subst (λ (x : Value × List ℕ). Begins bytes (value_text x.0) x.1 × IsOf longest path x.0) (Ok-is (made, a.0.1) (value, rest) a.2) (first.0, (eqb-true _ _ is, first.1))
+    subst (λ (x : Value × List ℕ). Begins bytes (value_text x.0) x.1 × IsOf longest path x.0) (Ok-is (made, a.0.1) (value, rest) a.2) (first.0, (is-data path is, first.1))
 value_by_begins longest path false bytes value rest fits short is e =
     let a = bind_ok (node_at path bytes) (λ node. Ok (values.Node node.0, node.1)) (value, rest) e in
     let first = node_begins path bytes a.0.0 a.0.1 fits a.1 in
     let made : Value = values.Node a.0.0 in
-    let shorter : IsNodePath path = omega (arith, eqb-false _ _ is) in
-    subst (λ (x : Value × List ℕ). Begins bytes (value_text x.0) x.1 × IsOf longest path x.0) (Ok-is (made, a.0.1) (value, rest) a.2) (first.0, (shorter, first.1, first.2))
+    subst (λ (x : Value × List ℕ). Begins bytes (value_text x.0) x.1 × IsOf longest path x.0) (Ok-is (made, a.0.1) (value, rest) a.2) (first.0, (is-node path short is, first.1, first.2))
 
 pub value_begins : (longest : ℕ) (path : List Bool) (bytes : List ℕ) (value : Value) (rest : List ℕ) → AreBytes bytes → IsPath path
     → value_at longest path bytes ≡ Ok (value, rest) → Begins bytes (value_text value) rest × IsOf longest path value
 value_begins longest path bytes value rest fits short e =
-    value_by_begins longest path (eqb (length path) key_bits) bytes value rest fits short refl e
+    value_by_begins longest path (is_data path) bytes value rest fits short refl e
 
 pub value_again : (longest : ℕ) (path : List Bool) (value : Value) (rest : List ℕ) → IsOf longest path value → value_at longest path (value_text value ++ rest) ≡ Ok (value, rest)
 value_again longest path (values.Blob blob) rest kind =
-    ap (λ (b : Bool). value_by longest path b (blob_text blob ++ rest)) (eq-eqb _ _ kind.0)
+    ap (λ (b : Bool). value_by longest path b (blob_text blob ++ rest)) (data-is path kind.0)
     ∙ ap (λ (r : Parsed (Option (List ℕ))). r >>= λ blob. Ok (values.Blob blob.0, blob.1)) (blob_again longest blob rest kind.1)
 value_again longest path (values.Node node) rest kind =
-    ap (λ (b : Bool). value_by longest path b ((pointer_text node.side0 ++ pointer_text node.side1) ++ rest)) (ne_eqb _ _ (λ same. absurd (omega (arith, kind.0, same))))
+    ap (λ (b : Bool). value_by longest path b ((pointer_text node.side0 ++ pointer_text node.side1) ++ rest)) (node-is path kind.0)
     ∙ ap (λ (r : Parsed Node). r >>= λ node. Ok (values.Node node.0, node.1)) (node_again path node rest kind.1 kind.2)
 
 -- a path of some value is no longer than a data path
 pub path_of_value : (longest : ℕ) (path : List Bool) (value : Value) → IsOf longest path value → IsPath path
-path_of_value longest path (values.Blob blob) kind = omega (arith, kind.0)
-path_of_value longest path (values.Node node) kind = omega (arith, kind.0)
+path_of_value longest path (values.Blob blob) kind = data-path path kind.0
+path_of_value longest path (values.Node node) kind = node-path path kind.0
 
 -- what a path starts with is of its kind
 pub initial_value-kind : (longest : ℕ) (path : List Bool) → IsPath path → IsOf longest path (initial_value path)
-initial_value-kind longest path fits = go (eqb (length path) key_bits) refl
+initial_value-kind longest path fits = go (is_data path) refl
   where
-    go : (is_key : Bool) → eqb (length path) key_bits ≡ is_key → IsOf longest path (cond is_key (values.Blob None) (values.Node empty_node))
-    go true is = (eqb-true _ _ is, tt)
-    go false is = (omega (arith, eqb-false _ _ is), tt, tt)
+    go : (is_key : Bool) → is_data path ≡ is_key → IsOf longest path (cond is_key (values.Blob None) (values.Node empty_node))
+    go true is = (is-data path is, tt)
+    go false is = (is-node path fits is, tt, tt)

@@ -1,4 +1,5 @@
 -- What the clauses on texts cite, in reading order.
+pub mod Tree
 pub mod Longest
 pub mod Format
 pub mod Value

@@ -1,13 +1,14 @@
 -- What bytes mean as paths, values, stamps and elements: the fields in order, and the first fault.
 use Rattle.std.specs.Prelude.{ℕ, ◌+◌, ◌==◌, nat_le, Bool, true, false, List, [], ◌∷◌, ◌++◌, drop, slice_index, Option, Some, None, Ok, if◌then◌else◌}
-use Rattle.std.specs.Int.{w16, w32, byte_len, from_be_bytes, w64}
+use Rattle.std.specs.Int.{w16, w32, byte_len, from_be_bytes}
 use Rattle.lamport_clocks.specs.declared.stamp.Stamp.{Stamp}
-use Rattle.tree_keys.specs.Path.{path_in_word, is_prefix, key_bits, is_data}
+use Rattle.tree_keys.specs.Path.{tree_of, path_in_word, is_prefix, is_data}
 use Rattle.record_text.specs.declared.value.Pointer.{Pointer}
 use Rattle.record_text.specs.declared.value.Node.{Node}
 use Rattle.record_text.specs.declared.value.Value.{Value}
 use Rattle.record_text.specs.declared.value.Value.TheVariants as values
 use Rattle.record_text.specs.declared.element.Element.{Element}
+use Rattle.record_text.specs.Tree.{word_width}
 use Rattle.record_text.specs.Fields.{Parsed, field, ◌>>=◌}
 
 -- the first byte of a field
@@ -22,13 +23,13 @@ run_at n bytes = field n (λ run. Some run) bytes
 unfoldable pub byte_at : List ℕ → Parsed ℕ
 byte_at bytes = field 1 (λ run. Some (first_byte run)) bytes
 
--- the number of bits, and a word that holds so many with its unused bits 0
-abbrev pub path_in : List ℕ → Option (List Bool)
-path_in bytes = path_in_word key_bits (first_byte bytes) (from_be_bytes w64 (drop 1 bytes))
+-- a path of a tree: the number of bits that lead to it, and a word that holds so many with its unused bits 0
+abbrev pub path_in : Bool → List ℕ → Option (List Bool)
+path_in wide bytes = path_in_word wide (first_byte bytes) (from_be_bytes (word_width wide) (drop 1 bytes))
 
--- a path: its number of bits and its word
-unfoldable pub path_at : List ℕ → Parsed (List Bool)
-path_at bytes = field (1 + byte_len w64) path_in bytes
+-- a path of a tree: its number of bits and its word
+unfoldable pub path_at : Bool → List ℕ → Parsed (List Bool)
+path_at wide bytes = field (1 + byte_len (word_width wide)) (path_in wide) bytes
 
 -- 0 or 1
 abbrev pub flag_in : List ℕ → Option Bool
@@ -65,13 +66,13 @@ abbrev pub if_below : List Bool → Option (List Bool) → Option (List Bool)
 if_below prefix None = None
 if_below prefix (Some path) = if is_prefix prefix path then Some path else None
 
--- a path below a node on a side: one that has both as a prefix
+-- a path below a node on a side: one of the node's tree that has both as a prefix
 abbrev pub path_below_in : List Bool → List ℕ → Option (List Bool)
-path_below_in prefix bytes = if_below prefix (path_in bytes)
+path_below_in prefix bytes = if_below prefix (path_in (tree_of prefix) bytes)
 
 -- a path that has a prefix
 unfoldable pub path_below_at : List Bool → List ℕ → Parsed (List Bool)
-path_below_at prefix bytes = field (1 + byte_len w64) (path_below_in prefix) bytes
+path_below_at prefix bytes = field (1 + byte_len (word_width (tree_of prefix))) (path_below_in prefix) bytes
 
 -- behind an empty pointer's tag there is nothing, and behind another's the path and the digest
 abbrev pub pointer_behind : List Bool → Option Bool → List ℕ → Parsed (Option Pointer)
@@ -103,7 +104,7 @@ value_by longest path false bytes = do
   node ← node_at path bytes
   Ok (values.Node node.0, node.1)
 
--- by the length of the path that it stands at
+-- by the path that it stands at
 abbrev pub value_at : ℕ → List Bool → List ℕ → Parsed Value
 value_at longest path bytes = value_by longest path (is_data path) bytes
 
@@ -122,10 +123,10 @@ stamp_at bytes = do
   counter ← u32_at epoch.1
   Ok (record { epoch = epoch.0; counter = counter.0 }, counter.1)
 
--- a path, its value, a stamp, and the verifier that evicted it
-unfoldable pub element_at : ℕ → List ℕ → Parsed Element
-element_at longest bytes = do
-  path ← path_at bytes
+-- a path of a tree, its value, a stamp, and the verifier that evicted it
+unfoldable pub element_at : Bool → ℕ → List ℕ → Parsed Element
+element_at wide longest bytes = do
+  path ← path_at wide bytes
   value ← value_at longest path.0 path.1
   stamp ← stamp_at value.1
   verifier ← u16_at stamp.1

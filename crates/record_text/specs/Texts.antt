@@ -1,16 +1,17 @@
 -- The one text of each thing, as bytes. All numbers are big-endian.
 use Rattle.std.specs.Prelude.{ℕ, Bool, true, false, List, [], ◌∷◌, ◌++◌, length, Option, Some, None}
-use Rattle.std.specs.Int.{w16, w32, to_be_bytes, w64}
+use Rattle.std.specs.Int.{w16, w32, to_be_bytes}
 use Rattle.lamport_clocks.specs.declared.stamp.Stamp.{Stamp}
-use Rattle.tree_keys.specs.Path.{word_of, key_bits}
+use Rattle.tree_keys.specs.Path.{depth, tree_of, word_of}
 use Rattle.record_text.specs.declared.value.Pointer.{Pointer}
 use Rattle.record_text.specs.declared.value.Value.{Value}
 use Rattle.record_text.specs.declared.value.Value.TheVariants as values
 use Rattle.record_text.specs.declared.element.Element.{Element}
+use Rattle.record_text.specs.Tree.{word_width}
 
--- the number of bits, and the bits first in a word
+-- the number of bits that lead to it, and these first in a word as wide as the keys of its tree
 abbrev pub path_text : List Bool → List ℕ
-path_text path = length path ∷ to_be_bytes w64 (word_of key_bits path)
+path_text path = depth path ∷ to_be_bytes (word_width (tree_of path)) (word_of path)
 
 -- 0 for none; or 1, the number of bytes, and the bytes
 abbrev pub blob_text : Option (List ℕ) → List ℕ

@@ -1,6 +1,6 @@
 //! What follows from the definitions of texts. These functions do nothing: their contracts are the laws.
 ghost use Rattle.std.specs.Prelude.{◌≡◌, ℕ, ◌≤◌, Bool, List, ◌∷◌, ◌++◌, length, Err};
-ghost use Rattle.tree_keys.specs.Path.{IsPath};
+ghost use Rattle.tree_keys.specs.Path.{tree_of, IsIn, IsPath};
 ghost use Rattle.lamport_clocks.specs.declared.stamp.Stamp.{Stamp};
 ghost use Rattle.record_text.specs.declared.value.Value.{Value};
 ghost use Rattle.record_text.specs.declared.element.Element.{Element};
@@ -13,18 +13,19 @@ ghost use Rattle.record_text.specs.Texts.{path_text, value_text, stamp_text, ele
 ghost use Rattle.record_text.specs.Longest.{longest_blob};
 
 /// No text of a kind begins another of its kind: whatever follows two texts, they are one text of one thing
-/// where the bytes are the same. For values that holds among those of paths of one length.
+/// where the bytes are the same. For paths and elements that holds among those of one tree, and for values among those of
+/// paths of one tree and one length.
 pub fn no_text_begins_another()
-    ensures paths { (a b : List Bool) (x y : List ℕ)
-        → IsPath a → IsPath b
+    ensures paths { (wide : Bool) (a b : List Bool) (x y : List ℕ)
+        → IsIn wide a → IsIn wide b → IsPath a → IsPath b
         → path_text a ++ x ≡ path_text b ++ y → (a ≡ b) × (x ≡ y) }
     ensures values { (p q : List Bool) (a b : Value) (x y : List ℕ)
-        → length p ≡ length q → IsOf longest_blob p a → IsOf longest_blob q b
+        → tree_of p ≡ tree_of q → length p ≡ length q → IsOf longest_blob p a → IsOf longest_blob q b
         → value_text a ++ x ≡ value_text b ++ y → (a ≡ b) × (x ≡ y) }
     ensures stamps { (a b : Stamp) (x y : List ℕ) → IsStamp a → IsStamp b
         → stamp_text a ++ x ≡ stamp_text b ++ y → (a ≡ b) × (x ≡ y) }
-    ensures elements { (a b : Element) (x y : List ℕ)
-        → IsElement longest_blob a → IsElement longest_blob b
+    ensures elements { (wide : Bool) (a b : Element) (x y : List ℕ)
+        → IsElement wide longest_blob a → IsElement wide longest_blob b
         → element_text a ++ x ≡ element_text b ++ y → (a ≡ b) × (x ≡ y) }
 {}
 
@@ -37,23 +38,23 @@ pub fn initial_values_are_of_their_paths()
 /// More bytes behind change neither what was read, nor that the bytes are malformed. What is left is no
 /// longer than what there was.
 pub fn readers_keep_on()
-    ensures paths { KeepsOn path_at }
+    ensures paths { (wide : Bool) → KeepsOn (path_at wide) }
     ensures values { (path : List Bool) → KeepsOn (value_at longest_blob path) }
     ensures stamps { KeepsOn stamp_at }
-    ensures elements { KeepsOn (element_at longest_blob) }
+    ensures elements { (wide : Bool) → KeepsOn (element_at wide longest_blob) }
 {}
 
 /// A text that is cut short is truncated, wherever it is cut.
 pub fn fronts_are_truncated()
-    ensures paths { (path : List Bool) (front : List ℕ) (c : ℕ) (more : List ℕ)
-        → IsPath path → path_text path ≡ front ++ c ∷ more
-        → path_at front ≡ Err Truncated }
+    ensures paths { (wide : Bool) (path : List Bool) (front : List ℕ) (c : ℕ) (more : List ℕ)
+        → IsIn wide path → IsPath path → path_text path ≡ front ++ c ∷ more
+        → path_at wide front ≡ Err Truncated }
     ensures values { (path : List Bool) (value : Value) (front : List ℕ) (c : ℕ) (more : List ℕ)
         → IsOf longest_blob path value → value_text value ≡ front ++ c ∷ more
         → value_at longest_blob path front ≡ Err Truncated }
     ensures stamps { (stamp : Stamp) (front : List ℕ) (c : ℕ) (more : List ℕ)
         → IsStamp stamp → stamp_text stamp ≡ front ++ c ∷ more → stamp_at front ≡ Err Truncated }
-    ensures elements { (element : Element) (front : List ℕ) (c : ℕ) (more : List ℕ)
-        → IsElement longest_blob element → element_text element ≡ front ++ c ∷ more
-        → element_at longest_blob front ≡ Err Truncated }
+    ensures elements { (wide : Bool) (element : Element) (front : List ℕ) (c : ℕ) (more : List ℕ)
+        → IsElement wide longest_blob element → element_text element ≡ front ++ c ∷ more
+        → element_at wide longest_blob front ≡ Err Truncated }
 {}

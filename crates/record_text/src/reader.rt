@@ -1,7 +1,7 @@
 //! A reader over bytes, field by field.
-ghost use Rattle.std.specs.Prelude.{◌≡◌, ℕ, ◌<◌, ◌≤◌, ◌∷◌, [], ◌++◌, length, Ok, Err, IfOk, IfErr, IfSome, IsTrue};
+ghost use Rattle.std.specs.Prelude.{◌≡◌, ℕ, ◌<◌, ◌≤◌, ◌∷◌, [], ◌++◌, length, false, Ok, Err, IfOk, IfErr, IfSome, IsTrue};
 ghost use Rattle.std.specs.Int.{w64, from_be_bytes};
-ghost use Rattle.tree_keys.specs.Path.{is_prefix};
+ghost use Rattle.tree_keys.specs.Path.{IsIn, IsPath, IsNodePath, is_prefix};
 ghost use Rattle.record_text.specs.Value.{IsBlob, IsSide, IsOf};
 ghost use Rattle.record_text.specs.Fields.{Takes, field};
 ghost use Rattle.record_text.specs.Reading.{run_at, byte_at, flag_in, count_in, path_at, path_below_at, blob_at, path_in, pointer_tag_in, pointer_at, node_at, value_at, u16_at, u32_at, stamp_at, element_at};
@@ -93,8 +93,9 @@ impl<'a> Reader<'a> {
     /// A path: at most 64 bits, the unused bits 0.
     #[tactic(auto, unfolding(crate::specs::Reading::path_at))]
     pub fn path(&mut self) -> Result<Path, TextFault>
-        ensures takes { Takes result self.new (path_at self.old) }
-        ensures fits { IfOk result (λ path. length path ≤ KEY_BITS) }
+        ensures takes { Takes result self.new (path_at false self.old) }
+        ensures fits { IfOk result IsPath }
+        ensures tree { IfOk result (IsIn false) }
     {
         let bytes = self.run(PATH_TEXT_LEN)?;
         match path_in(bytes) {
@@ -106,8 +107,9 @@ impl<'a> Reader<'a> {
     // A path that begins with this prefix.
     #[tactic(auto, unfolding(crate::specs::Reading::path_below_at))]
     fn path_below(&mut self, prefix: &Path) -> Result<Path, TextFault>
+        requires tree { IsIn false prefix.now }
         ensures takes { Takes result self.new (path_below_at prefix.now self.old) }
-        ensures fits { IfOk result (λ path. length path ≤ KEY_BITS) }
+        ensures fits { IfOk result IsPath }
         ensures below { IfOk result (λ path. IsTrue (is_prefix prefix.now path)) }
     {
         let bytes = self.run(PATH_TEXT_LEN)?;
@@ -138,7 +140,8 @@ impl<'a> Reader<'a> {
     // The pointer of a node's side: empty, or to a path below the node on that side.
     #[tactic(auto, unfolding(crate::specs::Reading::pointer_at))]
     fn pointer(&mut self, node: &Path, side: bool) -> Result<Option<Pointer>, TextFault>
-        requires short { length node.now < 64 }
+        requires short { IsNodePath node.now }
+        requires tree { IsIn false node.now }
         ensures takes { Takes result self.new
             (pointer_at (node.now ++ side ∷ []) self.old) }
         ensures kind { IfOk result (IsSide node.now side) }
@@ -158,7 +161,8 @@ impl<'a> Reader<'a> {
     // The two pointers of the node at this path.
     #[tactic(auto, unfolding(crate::specs::Reading::node_at))]
     fn node(&mut self, path: &Path) -> Result<Node, TextFault>
-        requires short { length path.now < 64 }
+        requires short { IsNodePath path.now }
+        requires tree { IsIn false path.now }
         ensures takes { Takes result self.new (node_at path.now self.old) }
         ensures kind { IfOk result (λ node. IsOf longest_blob path.now (Value.Node node)) }
     {
@@ -184,7 +188,7 @@ impl<'a> Reader<'a> {
     /// An element: its path, its value, its stamp, and the verifier that evicted it.
     #[tactic(auto, unfolding(crate::specs::Reading::element_at))]
     pub fn element(&mut self) -> Result<Element, TextFault>
-        ensures takes { Takes result self.new (element_at longest_blob self.old) }
+        ensures takes { Takes result self.new (element_at false longest_blob self.old) }
         ensures kind { IfOk result (λ element. IsOf longest_blob element.path element.value) }
     {
         let path = self.path()?;
@@ -265,8 +269,9 @@ impl<'a> Reader<'a> {
 // The path that nine bytes spell, if they spell one.
 fn path_in(bytes: &[u8]) -> Option<Path>
     requires whole { length bytes.now ≡ PATH_TEXT_LEN }
-    ensures value { result ≡ path_in bytes.now }
-    ensures fits { IfSome result (λ path. length path ≤ KEY_BITS) }
+    ensures value { result ≡ path_in false bytes.now }
+    ensures fits { IfSome result IsPath }
+    ensures tree { IfSome result (IsIn false) }
 {
     Path::of_word(bytes[0], word_in(&bytes[1..]))
 }

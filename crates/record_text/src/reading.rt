@@ -1,6 +1,6 @@
 //! Reads a path, a value or an element that bytes spell.
-ghost use Rattle.std.specs.Prelude.{◌≡◌, ℕ, ◌≤◌, Bool, List, ◌++◌, length, take, Ok, IfOk};
-ghost use Rattle.tree_keys.specs.Path.{IsPath};
+ghost use Rattle.std.specs.Prelude.{◌≡◌, ℕ, ◌≤◌, Bool, false, List, ◌++◌, length, take, Ok, IfOk};
+ghost use Rattle.tree_keys.specs.Path.{IsIn, IsPath};
 ghost use Rattle.record_text.specs.declared.value.Value.{Value};
 ghost use Rattle.record_text.specs.declared.element.Element.{Element};
 ghost use Rattle.record_text.specs.Value.{IsOf};
@@ -18,11 +18,11 @@ use tree_keys::Path;
 /// The path whose text these bytes begin with, and the length of its text. Others may follow it.
 pub fn read_path(bytes: &[u8]) -> Result<(Path, usize), TextFault>
     // Which path or fault it is.
-    ensures exact { result ≡ counted bytes.now (path_at bytes.now) }
+    ensures exact { result ≡ counted bytes.now (path_at false bytes.now) }
     // What is read is spelled so.
     ensures found { IfOk result (λ found. take found.1 bytes.now ≡ path_text found.0) }
     // What is spelled so is read, whatever follows.
-    ensures only { (path : List Bool) (rest : List ℕ) → IsPath path
+    ensures only { (path : List Bool) (rest : List ℕ) → IsIn false path → IsPath path
         → bytes.now ≡ path_text path ++ rest
         → result ≡ Ok (path, length (path_text path)) }
 {
@@ -56,12 +56,12 @@ pub fn read_value(path: &Path, bytes: &[u8]) -> Result<(Value, usize), TextFault
 /// The element whose text these bytes begin with, and the length of its text. Others may follow it.
 pub fn read_element(bytes: &[u8]) -> Result<(Element, usize), TextFault>
     // Which element or fault it is.
-    ensures exact { result ≡ counted bytes.now (element_at longest_blob bytes.now) }
+    ensures exact { result ≡ counted bytes.now (element_at false longest_blob bytes.now) }
     // What is read is spelled so, and its value is of its path's kind.
     ensures found { IfOk result (λ found. take found.1 bytes.now ≡ element_text found.0) }
-    ensures kind { IfOk result (λ found. IsElement longest_blob found.0) }
+    ensures kind { IfOk result (λ found. IsElement false longest_blob found.0) }
     // What is spelled so is read, whatever follows.
-    ensures only { (element : Element) (rest : List ℕ) → IsElement longest_blob element
+    ensures only { (element : Element) (rest : List ℕ) → IsElement false longest_blob element
         → bytes.now ≡ element_text element ++ rest
         → result ≡ Ok (element, length (element_text element)) }
 {

@@ -1,8 +1,9 @@
 -- Each command that is accepted by path is accepted by slot, and does the same.
 use Rattle.std.proofs.Common.{◌≡◌, ℕ, ◌+◌, ◌<◌, Bool, false, nat_le, not, List, [], ◌∷◌, length, set, Option, Some, None, is_some, IsNone, IsSome, Ok, refl, sym, ◌∙◌, ap, subst, arith, length-append, length-set}
-use Rattle.std.proofs.lemmas.Bool.{leb-false, not-false, eqb-true}
+use Rattle.std.proofs.lemmas.Bool.{leb-false, not-false}
 use Rattle.std.proofs.lemmas.Result.{IfOk-at_ok}
-use Rattle.tree_keys.specs.Path.{is_data}
+use Rattle.tree_keys.specs.Path.{IsNodePath, is_data}
+use Rattle.tree_keys.proofs.TreeLaws.{is-data, data-no_node}
 use Rattle.lamport_clocks.specs.declared.stamp.Stamp.{Stamp}
 use Rattle.lamport_clocks.specs.Reading.{Reading}
 use Rattle.lamport_clocks.specs.Clock.{received, sent, advanced}
@@ -250,8 +251,8 @@ followed_evict_bm rules state slotted path parent stamp done alike is =
 -- ---- gets, puts and the next epoch
 
 -- a data path isn't a node's
-no_node : (longest : ℕ) (path : List Bool) → not (is_data path) ≡ false → length path < 64 → ⊥
-no_node longest path data_path short = omega (arith, eqb-true (length path) 64 (not-false _ data_path), short)
+no_node : (path : List Bool) → not (is_data path) ≡ false → IsNodePath path → ⊥
+no_node path data_path short = data-no_node path (is-data path (not-false _ data_path)) short
 
 data_by_path : (path own : List Bool) → own ≡ path → not (is_data path) ≡ false → not (is_data own) ≡ false
 data_by_path path own same is = ap (λ (p : List Bool). not (is_data p)) same ∙ is
@@ -261,7 +262,7 @@ followed_get : (rules : Rules) (state : State) (slotted : SlotState) (path : Lis
 followed_get rules state slotted path (values.Node node) done kind alike is =
     let entry = need-ok (entry_of path state.cache.entries) _ _ done is in
     let data_path = test-ok (not (is_data path)) _ _ done entry.2 in
-    absurd (no_node rules.scheme.format.longest path data_path.0 kind.0)
+    absurd (no_node path data_path.0 kind.0)
 followed_get rules state slotted path (values.Blob blob) done kind alike is =
     let slots = slotted.slots in
     let own = slot_of path (paths_in slots) in
@@ -286,7 +287,7 @@ followed_put : (rules : Rules) (state : State) (slotted : SlotState) (path : Lis
 followed_put rules state slotted path (values.Node node) done kind alike is =
     let entry = need-ok (entry_of path state.cache.entries) _ _ done is in
     let data_path = test-ok (not (is_data path)) _ _ done entry.2 in
-    absurd (no_node rules.scheme.format.longest path data_path.0 kind.0)
+    absurd (no_node path data_path.0 kind.0)
 followed_put rules state slotted path (values.Blob blob) done kind alike is =
     let xs = state.cache.entries in
     let slots = slotted.slots in

@@ -2,9 +2,11 @@
 use Rattle.std.proofs.Common.{◌≡◌, ℕ, zero, suc, ◌-◌, ◌==◌, ◌≤◌, Bool, true, false, List, [], ◌∷◌, length, map, replicate, Some, None, Ok, Err, if◌then◌else◌, refl, sym, ◌∙◌, ap, subst, arith}
 use Rattle.std.specs.List.{AllByRecursion}
 use Rattle.std.proofs.lemmas.Option.{none-some}
+use Rattle.tree_keys.specs.Path.{root_of}
 use Rattle.lamport_clocks.specs.declared.header.Header.{Header}
 use Rattle.lamport_clocks.specs.Reading.{Reading}
 use Rattle.record_text.specs.declared.value.Value.TheVariants as values
+use Rattle.record_text.specs.Tree.{wide_of}
 use Rattle.log_codec.specs.declared.command.Command.{Command}
 use Rattle.log_codec.specs.declared.command.Command.TheVariants.{AddM, EvictM, AddB, EvictB, EvictBM, Get, Put, NextEpoch}
 use Rattle.log_codec.specs.declared.slot_command.SlotCommand.{SlotCommand}
@@ -135,22 +137,23 @@ no_paths (suc count) = ap (λ (paths : SlotPaths). None ∷ paths) (no_paths cou
 opening_paths_in : (number : ℕ) (header : Header) → paths_in (slot_opening number header).slots ≡ opening_paths number header
 opening_paths_in number header = go (number == 0)
   where
-    go : (b : Bool) → paths_in (if b then Some root_entry ∷ empty_slots (header.cache - 1) else empty_slots header.cache)
-        ≡ (if b then Some [] ∷ replicate (header.cache - 1) None else replicate header.cache None)
-    go true = ap (λ (paths : SlotPaths). Some [] ∷ paths) (no_paths (header.cache - 1))
+    go : (b : Bool) → paths_in (if b then Some (root_entry (wide_of header)) ∷ empty_slots (header.cache - 1) else empty_slots header.cache)
+        ≡ (if b then Some (root_of (wide_of header)) ∷ replicate (header.cache - 1) None else replicate header.cache None)
+    go true = ap (λ (paths : SlotPaths). Some (root_of (wide_of header)) ∷ paths) (no_paths (header.cache - 1))
     go false = no_paths header.cache
 
 opening_standing : (number : ℕ) (header : Header) → standing_in (slot_opening number header).slots ≡ (opening number header).cache.entries
 opening_standing number header = go (number == 0)
   where
-    go : (b : Bool) → standing_in (if b then Some root_entry ∷ empty_slots (header.cache - 1) else empty_slots header.cache) ≡ (if b then root_entry ∷ [] else [])
-    go true = ap (λ (more : List Entry). root_entry ∷ more) (none_standing (header.cache - 1))
+    go : (b : Bool) → standing_in (if b then Some (root_entry (wide_of header)) ∷ empty_slots (header.cache - 1) else empty_slots header.cache)
+        ≡ (if b then root_entry (wide_of header) ∷ [] else [])
+    go true = ap (λ (more : List Entry). root_entry (wide_of header) ∷ more) (none_standing (header.cache - 1))
     go false = none_standing header.cache
 
 opening_distinct : (number : ℕ) (header : Header) → AreDistinct (opening number header).cache.entries
 opening_distinct number header = go (number == 0)
   where
-    go : (b : Bool) → AreDistinct (if b then root_entry ∷ [] else [])
+    go : (b : Bool) → AreDistinct (if b then root_entry (wide_of header) ∷ [] else [])
     go true = (refl, tt)
     go false = tt
 
@@ -161,14 +164,15 @@ opening_room number header some = go (number == 0)
     so_many zero = refl
     so_many (suc count) = ap (λ (n : ℕ). suc n) (so_many count)
 
-    go : (b : Bool) → length (if b then Some root_entry ∷ empty_slots (header.cache - 1) else empty_slots header.cache) ≡ header.cache
+    go : (b : Bool) → length (if b then Some (root_entry (wide_of header)) ∷ empty_slots (header.cache - 1) else empty_slots header.cache) ≡ header.cache
     go true = omega (arith, so_many (header.cache - 1), some)
     go false = so_many header.cache
 
 opening_count : (number : ℕ) (header : Header) → length (opening number header).cache.entries ≡ taken (opening_paths number header)
 opening_count number header = go (number == 0)
   where
-    go : (b : Bool) → length (if b then root_entry ∷ [] else []) ≡ taken (if b then Some [] ∷ replicate (header.cache - 1) None else replicate header.cache None)
+    go : (b : Bool) → length (if b then root_entry (wide_of header) ∷ [] else [])
+        ≡ taken (if b then Some (root_of (wide_of header)) ∷ replicate (header.cache - 1) None else replicate header.cache None)
     go true = ap (λ (n : ℕ). suc n) (sym (taken-none (header.cache - 1)))
     go false = sym (taken-none header.cache)
 

@@ -2,10 +2,11 @@
 use Rattle.std.proofs.Common.{◌≡◌, ℕ, zero, suc, ◌+◌, ◌-◌, ◌<◌, ◌≤◌, Bool, true, false, List, [], ◌∷◌, length, map, set, replicate, Some, None, option_map, if◌then◌else◌, refl, sym, ap, subst, arith}
 use Rattle.std.proofs.lemmas.Option.{none-some, same_Some}
 use Rattle.std.proofs.lemmas.Bool.{eq-eqb, ne_eqb}
-use Rattle.tree_keys.specs.Path.{same_path}
+use Rattle.tree_keys.specs.Path.{root_of, same_path}
 use Rattle.tree_keys.proofs.PathLaws.{same_path-true, same_path-self}
 use Rattle.free_numbers.specs.Free.{lowest_free}
 use Rattle.lamport_clocks.specs.declared.header.Header.{Header}
+use Rattle.record_text.specs.Tree.{wide_of}
 use Rattle.slot_rewriting.specs.Rewriting.{SlotPaths, slot_of, lowest_empty, HasSlot, HasNoSlot, HasEmpty, opening_paths}
 use Rattle.slot_rewriting.specs.Indexed.{path_in, is_empty, taken}
 
@@ -123,8 +124,8 @@ first_taken path zero some = absurd (omega (arith, some))
 first_taken path (suc n) some = ap (λ (m : ℕ). Some path ∷ replicate m None) (omega arith)
 
 -- so a verifier begins: the root is in slot 0 of verifier 0
-pub opening-root : (number : ℕ) (header : Header) → number ≡ 0 → opening_paths number header ≡ Some [] ∷ replicate (header.cache - 1) None
-opening-root number header first = ap (λ (b : Bool). if b then Some [] ∷ replicate (header.cache - 1) None else replicate header.cache None) (eq-eqb number 0 first)
+pub opening-root : (number : ℕ) (header : Header) → number ≡ 0 → opening_paths number header ≡ Some (root_of (wide_of header)) ∷ replicate (header.cache - 1) None
+opening-root number header first = ap (λ (b : Bool). if b then Some (root_of (wide_of header)) ∷ replicate (header.cache - 1) None else replicate header.cache None) (eq-eqb number 0 first)
 
 pub opening-others : (number : ℕ) (header : Header) → (number ≡ 0 → ⊥) → opening_paths number header ≡ replicate header.cache None
-opening-others number header other = ap (λ (b : Bool). if b then Some [] ∷ replicate (header.cache - 1) None else replicate header.cache None) (ne_eqb number 0 other)
+opening-others number header other = ap (λ (b : Bool). if b then Some (root_of (wide_of header)) ∷ replicate (header.cache - 1) None else replicate header.cache None) (ne_eqb number 0 other)

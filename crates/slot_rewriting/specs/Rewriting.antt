@@ -1,8 +1,9 @@
 -- What commands that name paths become where they name slots: each add takes the lowest empty slot, and what was in a slot
 -- that is left is gone from it.
 use Rattle.std.specs.Prelude.{ℕ, suc, ◌-◌, ◌==◌, ◌<◌, ◌≤◌, Bool, List, [], ◌∷◌, length, set, replicate, Option, Some, None, if◌then◌else◌}
-use Rattle.tree_keys.specs.Path.{same_path}
+use Rattle.tree_keys.specs.Path.{root_of, same_path}
 use Rattle.lamport_clocks.specs.declared.header.Header.{Header}
+use Rattle.record_text.specs.Tree.{wide_of}
 use Rattle.record_text.specs.declared.value.Value.{Value}
 use Rattle.record_text.specs.declared.value.Value.TheVariants as values
 use Rattle.log_codec.specs.declared.command.Command.{Command}
@@ -79,9 +80,9 @@ CanRewrite paths (Get path value) = HasSlot path paths
 CanRewrite paths (Put path value) = HasSlot path paths
 CanRewrite paths NextEpoch = Unit {0}
 
--- at the start the root stands in slot 0 of verifier 0
+-- at the start the root of the bundle's tree stands in slot 0 of verifier 0
 abbrev pub opening_paths : ℕ → Header → SlotPaths
-opening_paths number header = if number == 0 then Some [] ∷ replicate (header.cache - 1) None else replicate header.cache None
+opening_paths number header = if number == 0 then Some (root_of (wide_of header)) ∷ replicate (header.cache - 1) None else replicate header.cache None
 
 -- the commands of a log, by slots
 abbrev pub rewritten_from : SlotPaths → List Command → List SlotCommand

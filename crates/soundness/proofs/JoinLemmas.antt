@@ -1,5 +1,5 @@
 -- A child that comes in under its parent keeps the world; or it is what the exhibit shows, and that collides.
-use Rattle.std.proofs.Common.{◌≡◌, ◌≢◌, ◌⊎◌, ℕ, Bool, true, false, List, Option, Some, None, refl, sym, ◌∙◌, ap, subst, inl, inr, if◌then◌else◌, arith}
+use Rattle.std.proofs.Common.{◌≡◌, ◌≢◌, ◌⊎◌, ℕ, Bool, true, false, List, Option, Some, None, refl, sym, ◌∙◌, ap, subst, inl, inr, if◌then◌else◌}
 use Rattle.std.proofs.lemmas.Bool.{false≢true, true≢false}
 use Rattle.std.proofs.lemmas.Option.{none-some, same_Some}
 use Rattle.tree_keys.specs.Path.{side, is_data}
@@ -11,7 +11,7 @@ use Rattle.record_text.specs.declared.element.Element.{Element}
 use Rattle.record_text.specs.Value.{IsOf, IsPointer, node_side, with_side, empty_node, initial_value}
 use Rattle.record_text.specs.Texts.{value_text}
 use Rattle.merkle_records.specs.Merkle.{Digest, GivesDigests, pointer_to, pointing}
-use Rattle.merkle_records.proofs.KindLaws.{IsOf-after_evict, IsOf-with_side, is_prefix-side, length-side}
+use Rattle.merkle_records.proofs.KindLaws.{IsOf-after_evict, IsOf-with_side, is_prefix-side}
 use Rattle.verifier_cache.specs.declared.entry.Entry.{Entry}
 use Rattle.verifier_cache.specs.declared.entry.Hold.TheVariants.{M}
 use Rattle.verifier_cache.specs.Entry.{kid_of, set_kid, new_entry}
@@ -22,6 +22,7 @@ use Rattle.soundness.specs.Showing.{Shown, ShowSame, showing_both, DidAddM}
 use Rattle.soundness.specs.Spot.{Spot, untouched, cached, merkle, waiting, Spots, is_touched, side_of, pointer_at, home_of, LeadsBy, IsKeptBy, Covers, IsKind, IsTree}
 use Rattle.soundness.specs.World.{cached_in, blob_at, AllShown, with_shown, Stored, IsWorld}
 use Rattle.tree_keys.proofs.SideLaws.{above_apart, above_no_prefix}
+use Rattle.tree_keys.proofs.TreeLaws.{in-below, node-above}
 use Rattle.soundness.proofs.MovedLemmas.{this_or_other, pointer_kind}
 use Rattle.soundness.proofs.FamilyLaws.{IsAdded, added_how, pointer_set, pointer_set_other, kid_set}
 use Rattle.soundness.proofs.UnderLemmas.{FitsUnder, pair_moves, changed_parent, nothing_there, fits_empty, fits_split}
@@ -105,9 +106,9 @@ abbrev pub KeepsElsewhere : List Bool → Spots → Spots → Type 0
 KeepsElsewhere k old new = (path : List Bool) (element : Element) → k ≢ path → old path ≡ waiting element → new path ≡ waiting element
 
 -- the world behind a step, where what waited at the old spots waits on, and nothing else waits
-abbrev pub WorldAfter : ℕ → Digest → AllShown → LastEvicted → Stored → Spots → Type 0
-WorldAfter longest digest shown last stored old =
-    (spots : Spots) × IsWorld longest digest shown last stored spots × KeepsWaiting old spots × KeepsWaiting spots old
+abbrev pub WorldAfter : Bool → ℕ → Digest → AllShown → LastEvicted → Stored → Spots → Type 0
+WorldAfter wide longest digest shown last stored old =
+    (spots : Spots) × IsWorld wide longest digest shown last stored spots × KeepsWaiting old spots × KeepsWaiting spots old
 
 abbrev pub is_waiting : Spot → Bool
 is_waiting untouched = false
@@ -149,9 +150,9 @@ none_since old new k spot at never elsewhere path element waits = go (this_or_ot
     go (inr away) = elsewhere path element away waits
 
 -- What all joins have in common.
-pub join_world : (longest : ℕ) (digest : Digest) (shown : AllShown) (last : LastEvicted) (stored : Stored) (spots : Spots) (home : ℕ) (next : Shown) (parent child : Entry)
+pub join_world : (wide : Bool) (longest : ℕ) (digest : Digest) (shown : AllShown) (last : LastEvicted) (stored : Stored) (spots : Spots) (home : ℕ) (next : Shown) (parent child : Entry)
     → (on : Bool) (at now : Node) (pointer : Pointer)
-    → IsWorld longest digest shown last stored spots
+    → IsWorld wide longest digest shown last stored spots
     → spots parent.path ≡ cached home parent → node_of parent.value ≡ Some at → side parent.path child.path ≡ Some on
     → ShowSame next (showing_both (shown home) (changed_parent parent now on true) child.path (Some child))
     → node_side now on ≡ Some pointer → pointer.path ≡ child.path → pointer.deferred ≡ false
@@ -161,10 +162,11 @@ pub join_world : (longest : ℕ) (digest : Digest) (shown : AllShown) (last : La
     → ((other : ℕ) → cached_in other (spots child.path) ≡ None)
     → blob_of child.value ≡ blob_at (spots child.path)
     → ((element : Element) → spots child.path ≡ waiting element → ⊥)
-    → WorldAfter longest digest (with_shown shown home next) last stored spots
-join_world longest digest shown last stored spots home next parent child on at now pointer world was is_node below shows points to flag others kind child_kind hold fits hidden blob free = (
+    → WorldAfter wide longest digest (with_shown shown home next) last stored spots
+join_world wide longest digest shown last stored spots home next parent child on at now pointer world was is_node below shows points to flag others kind child_kind hold fits hidden blob free = (
   new,
-  world_pair longest digest shown last last stored spots home next parent after child.path (cached home child) world tree was apart
+  world_pair wide longest digest shown last last stored spots home next parent after child.path (cached home child) world tree was apart
+      (in-below wide parent.path child.path on (world.within parent.path (ap is_touched was)) below)
       (subst (λ (e : Option Entry). ShowSame next (showing_both (shown home) after child.path e)) (sym (cached_here home child)) shows)
       (λ other away. cached_elsewhere home other child away ∙ sym (hidden other))
       (sym (node_blob parent.value at is_node)) blob
@@ -202,10 +204,10 @@ pub record Joining (longest : ℕ) (digest : Digest) (shown : AllShown) (spots :
   pub shows : ShowSame next (showing_both (shown home) after child.path (Some child))
   pub added : IsAdded digest parent child.path value (record { parent = after; child = child })
 
-pub joining : (longest : ℕ) (digest : Digest) (shown : AllShown) (last : LastEvicted) (stored : Stored) (spots : Spots) (home : ℕ) (next : Shown) (parent after child : Entry)
-    → IsWorld longest digest shown last stored spots → DidAddM longest digest (shown home) next parent after child
+pub joining : (wide : Bool) (longest : ℕ) (digest : Digest) (shown : AllShown) (last : LastEvicted) (stored : Stored) (spots : Spots) (home : ℕ) (next : Shown) (parent after child : Entry)
+    → IsWorld wide longest digest shown last stored spots → DidAddM longest digest (shown home) next parent after child
     → Joining longest digest shown spots home next parent after child
-joining longest digest shown last stored spots home next parent after child world did = record {
+joining wide longest digest shown last stored spots home next parent after child world did = record {
   value = did.value;
   kind = did.kind;
   was = spot_of_shown home (spots parent.path) parent (sym (world.shows home parent.path) ∙ did.had_parent);
@@ -247,14 +249,14 @@ split_untouched longest digest shown spots home next parent after child tree j p
     (tree.cover parent.path child.path j.added.on (ap is_touched j.was) touched j.added.below)))
 
 -- Where the pointer led nowhere.
-pub join_empty : (longest : ℕ) (digest : Digest) (shown : AllShown) (last : LastEvicted) (stored : Stored) (spots : Spots) (home : ℕ) (next : Shown) (parent after child : Entry)
-    → GivesDigests digest → IsWorld longest digest shown last stored spots → (j : Joining longest digest shown spots home next parent after child)
+pub join_empty : (wide : Bool) (longest : ℕ) (digest : Digest) (shown : AllShown) (last : LastEvicted) (stored : Stored) (spots : Spots) (home : ℕ) (next : Shown) (parent after child : Entry)
+    → GivesDigests digest → IsWorld wide longest digest shown last stored spots → (j : Joining longest digest shown spots home next parent after child)
     → node_side j.added.at j.added.on ≡ None → j.value ≡ initial_value child.path
     → after ≡ changed_parent parent (pointing digest j.added.at j.added.on child.path j.value) j.added.on true
     → child ≡ new_entry child.path j.value M
-    → WorldAfter longest digest (with_shown shown home next) last stored spots
-join_empty longest digest shown last stored spots home next parent after child digests world j none initial after_is child_is =
-    join_world longest digest shown last stored spots home next parent child on at now (pointer_to digest child.path j.value) world j.was j.added.is_node j.added.below
+    → WorldAfter wide longest digest (with_shown shown home next) last stored spots
+join_empty wide longest digest shown last stored spots home next parent after child digests world j none initial after_is child_is =
+    join_world wide longest digest shown last stored spots home next parent child on at now (pointer_to digest child.path j.value) world j.was j.added.is_node j.added.below
     (subst (λ (a : Entry). ShowSame next (showing_both (shown home) a child.path (Some child))) after_is j.shows)
     (pointer_set at on _) refl refl (λ which other. pointer_set_other at on which _ other)
     (IsOf-after_evict longest digest parent.path child.path on at j.value digests j.added.below (parent_kind longest digest spots home parent at world.tree j.was j.added.is_node) j.kind)
@@ -288,15 +290,15 @@ join_empty longest digest shown last stored spots home next parent after child d
     was_untouched = empty_untouched longest digest shown spots home next parent after child world.tree j none
 
 -- Where the pointer led below the child.
-pub join_split : (longest : ℕ) (digest : Digest) (shown : AllShown) (last : LastEvicted) (stored : Stored) (spots : Spots) (home : ℕ) (next : Shown) (parent after child : Entry)
-    → GivesDigests digest → IsWorld longest digest shown last stored spots → (j : Joining longest digest shown spots home next parent after child)
+pub join_split : (wide : Bool) (longest : ℕ) (digest : Digest) (shown : AllShown) (last : LastEvicted) (stored : Stored) (spots : Spots) (home : ℕ) (next : Shown) (parent after child : Entry)
+    → GivesDigests digest → IsWorld wide longest digest shown last stored spots → (j : Joining longest digest shown spots home next parent after child)
     → (pointer : Pointer) → node_side j.added.at j.added.on ≡ Some pointer → (which : Bool) → side child.path pointer.path ≡ Some which
     → j.value ≡ initial_value child.path
     → after ≡ changed_parent parent (pointing digest j.added.at j.added.on child.path (initial_value child.path)) j.added.on true
     → child ≡ set_kid (new_entry child.path (values.Node (with_side empty_node which (Some pointer))) M) which (kid_of parent j.added.on)
-    → WorldAfter longest digest (with_shown shown home next) last stored spots
-join_split longest digest shown last stored spots home next parent after child digests world j pointer there which further initial after_is child_is =
-    join_world longest digest shown last stored spots home next parent child on at now (pointer_to digest child.path (initial_value child.path)) world j.was j.added.is_node j.added.below
+    → WorldAfter wide longest digest (with_shown shown home next) last stored spots
+join_split wide longest digest shown last stored spots home next parent after child digests world j pointer there which further initial after_is child_is =
+    join_world wide longest digest shown last stored spots home next parent child on at now (pointer_to digest child.path (initial_value child.path)) world j.was j.added.is_node j.added.below
     (subst (λ (a : Entry). ShowSame next (showing_both (shown home) a child.path (Some child))) after_is j.shows)
     (pointer_set at on _) refl refl (λ side other. pointer_set_other at on side _ other)
     (IsOf-after_evict longest digest parent.path child.path on at (initial_value child.path) digests j.added.below
@@ -331,7 +333,7 @@ join_split longest digest shown last stored spots home next parent after child d
 
     taken_kind : IsOf longest child.path (values.Node (with_side empty_node which (Some pointer)))
     taken_kind =
-        IsOf-with_side longest child.path empty_node which (Some pointer) (omega (arith, length-side child.path pointer.path which further, fits.fits), tt, tt)
+        IsOf-with_side longest child.path empty_node which (Some pointer) (node-above child.path pointer.path which further fits.fits, tt, tt)
         (record { below = is_prefix-side child.path pointer.path which further; fits = fits.fits; digest = fits.digest })
 
     bare : (side : Bool) → node_side empty_node side ≡ None

@@ -64,15 +64,15 @@ known longest digest spots home parent path value on at pointer tree was is_node
         (tree.link parent.path on pointer (parent_pointer spots home parent at on was is_node ∙ there))))
 
 -- Where the pointer leads to the child, which comes back with the value that it left with.
-join_same : (longest : ℕ) (digest : Digest) (shown : AllShown) (last : LastEvicted) (stored : Stored) (spots : Spots) (home : ℕ) (next : Shown) (parent after child : Entry)
-    → IsWorld longest digest shown last stored spots → (j : Joining longest digest shown spots home next parent after child)
+join_same : (wide : Bool) (longest : ℕ) (digest : Digest) (shown : AllShown) (last : LastEvicted) (stored : Stored) (spots : Spots) (home : ℕ) (next : Shown) (parent after child : Entry)
+    → IsWorld wide longest digest shown last stored spots → (j : Joining longest digest shown spots home next parent after child)
     → (pointer : Pointer) → node_side j.added.at j.added.on ≡ Some pointer → pointer.path ≡ child.path → pointer.deferred ≡ false
     → spots child.path ≡ merkle j.value
     → after ≡ changed_parent parent j.added.at j.added.on true
     → child ≡ new_entry child.path j.value M
-    → WorldAfter longest digest (with_shown shown home next) last stored spots
-join_same longest digest shown last stored spots home next parent after child world j pointer there to flag was_kept after_is child_is =
-    join_world longest digest shown last stored spots home next parent child on at at pointer world j.was j.added.is_node j.added.below
+    → WorldAfter wide longest digest (with_shown shown home next) last stored spots
+join_same wide longest digest shown last stored spots home next parent after child world j pointer there to flag was_kept after_is child_is =
+    join_world wide longest digest shown last stored spots home next parent child on at at pointer world j.was j.added.is_node j.added.below
     (subst (λ (a : Entry). ShowSame next (showing_both (shown home) a child.path (Some child))) after_is j.shows)
     there to flag (λ which other. refl)
     (parent_kind longest digest spots home parent at world.tree j.was j.added.is_node)
@@ -129,12 +129,12 @@ differing_cases old new = go (same_bytes (value_text old) (value_text new)) refl
     )
 
 -- what a join shows where the pointer leads to the child
-known_shows : (longest : ℕ) (digest : Digest) (shown : AllShown) (last : LastEvicted) (stored : Stored) (spots : Spots) (home : ℕ) (next : Shown) (parent after child : Entry)
-    → IsWorld longest digest shown last stored spots → (j : Joining longest digest shown spots home next parent after child)
+known_shows : (wide : Bool) (longest : ℕ) (digest : Digest) (shown : AllShown) (last : LastEvicted) (stored : Stored) (spots : Spots) (home : ℕ) (next : Shown) (parent after child : Entry)
+    → IsWorld wide longest digest shown last stored spots → (j : Joining longest digest shown spots home next parent after child)
     → (pointer : Pointer) → node_side j.added.at j.added.on ≡ Some pointer → pointer.path ≡ child.path
     → (k : Known longest digest spots child.path j.value) → child ≡ new_entry child.path j.value M
     → clash_of last (did_add_m parent after child) ≡ differing (Some k.kept) j.value
-known_shows longest digest shown last stored spots home next parent after child world j pointer there to k child_is =
+known_shows wide longest digest shown last stored spots home next parent after child world j pointer there to k child_is =
     clash_where last parent child after j.added.on j.added.at j.added.below j.added.is_node
     ∙ ap (λ (b : Bool). clash_at last b child) leads
     ∙ ap (λ (o : Option Value). differing o child.value) (world.was_evicted child.path k.kept k.at)
@@ -150,23 +150,23 @@ abbrev pub Clashes : Digest → LastEvicted → Change → Type 0
 Clashes digest last change = (strings : Strings) × (clash_of last change ≡ Some strings) × IsCollision digest strings
 
 -- a change shows nothing, and a world stands behind it
-abbrev pub Passes : ℕ → Digest → AllShown → LastEvicted → LastEvicted → Stored → Spots → Change → Type 0
-Passes longest digest shown last now_taken stored old change = (clash_of last change ≡ None) × WorldAfter longest digest shown now_taken stored old
+abbrev pub Passes : Bool → ℕ → Digest → AllShown → LastEvicted → LastEvicted → Stored → Spots → Change → Type 0
+Passes wide longest digest shown last now_taken stored old change = (clash_of last change ≡ None) × WorldAfter wide longest digest shown now_taken stored old
 
 -- A join shows two strings with one digest, or it shows nothing and keeps the world.
-pub join_step : (longest : ℕ) (digest : Digest) (shown : AllShown) (last : LastEvicted) (stored : Stored) (spots : Spots) (home : ℕ) (next : Shown) (parent after child : Entry)
-    → HasOneText longest → GivesDigests digest → IsWorld longest digest shown last stored spots → DidAddM longest digest (shown home) next parent after child
-    → Clashes digest last (did_add_m parent after child) ⊎ Passes longest digest (with_shown shown home next) last last stored spots (did_add_m parent after child)
-join_step longest digest shown last stored spots home next parent after child one digests world did = go j.added.how
+pub join_step : (wide : Bool) (longest : ℕ) (digest : Digest) (shown : AllShown) (last : LastEvicted) (stored : Stored) (spots : Spots) (home : ℕ) (next : Shown) (parent after child : Entry)
+    → HasOneText longest → GivesDigests digest → IsWorld wide longest digest shown last stored spots → DidAddM longest digest (shown home) next parent after child
+    → Clashes digest last (did_add_m parent after child) ⊎ Passes wide longest digest (with_shown shown home next) last last stored spots (did_add_m parent after child)
+join_step wide longest digest shown last stored spots home next parent after child one digests world did = go j.added.how
   where
     j : Joining longest digest shown spots home next parent after child
-    j = joining longest digest shown last stored spots home next parent after child world did
+    j = joining wide longest digest shown last stored spots home next parent after child world did
 
     clash_is : clash_of last (did_add_m parent after child) ≡ clash_at last (leads_to (node_side j.added.at j.added.on) child.path) child
     clash_is = clash_where last parent child after j.added.on j.added.at j.added.below j.added.is_node
 
     Outcome : Type 0
-    Outcome = Clashes digest last (did_add_m parent after child) ⊎ Passes longest digest (with_shown shown home next) last last stored spots (did_add_m parent after child)
+    Outcome = Clashes digest last (did_add_m parent after child) ⊎ Passes wide longest digest (with_shown shown home next) last last stored spots (did_add_m parent after child)
 
     no_clash : leads_to (node_side j.added.at j.added.on) child.path ≡ false → clash_of last (did_add_m parent after child) ≡ None
     no_clash apart = clash_is ∙ ap (λ (b : Bool). clash_at last b child) apart
@@ -178,14 +178,14 @@ join_step longest digest shown last stored spots home next parent after child on
     back pointer there to flag k after_is child_is = by (differing_cases k.kept j.value)
       where
         shows : clash_of last (did_add_m parent after child) ≡ differing (Some k.kept) j.value
-        shows = known_shows longest digest shown last stored spots home next parent after child world j pointer there to k child_is
+        shows = known_shows wide longest digest shown last stored spots home next parent after child world j pointer there to k child_is
 
         by : ((value_text k.kept ≡ value_text j.value) × (differing (Some k.kept) j.value ≡ None))
             ⊎ ((value_text k.kept ≢ value_text j.value) × (differing (Some k.kept) j.value ≡ Some (value_text k.kept, value_text j.value)))
             → Outcome
         by (inl same) = inr (
           shows ∙ same.1,
-          join_same longest digest shown last stored spots home next parent after child world j pointer there to flag
+          join_same wide longest digest shown last stored spots home next parent after child world j pointer there to flag
               (k.at ∙ ap merkle (one child.path k.kept j.value k.kind j.kind same.0)) after_is child_is,
         )
         by (inr apart) = inl ((value_text k.kept, value_text j.value), shows ∙ apart.1, record { differ = apart.0; same = k.same })
@@ -193,7 +193,7 @@ join_step longest digest shown last stored spots home next parent after child on
     go : IsAdd digest parent child.path j.value j.added.on j.added.at (record { parent = after; child = child }) → Outcome
     go (on_empty none initial family) = inr (
       no_clash (ap (λ (o : Option Pointer). leads_to o child.path) none),
-      join_empty longest digest shown last stored spots home next parent after child digests world j none initial
+      join_empty wide longest digest shown last stored spots home next parent after child digests world j none initial
           (ap (λ (f : Family). f.parent) family) (ap (λ (f : Family). f.child) family),
     )
     go (on_same pointer there to flag keeps no_kid family) =
@@ -202,19 +202,19 @@ join_step longest digest shown last stored spots home next parent after child on
         (ap (λ (f : Family). f.parent) family) (ap (λ (f : Family). f.child) family)
     go (on_split pointer there which further initial family) = inr (
       no_clash (ap (λ (o : Option Pointer). leads_to o child.path) there ∙ same_path-apart pointer.path child.path (λ same. above_apart child.path pointer.path which further (sym same))),
-      join_split longest digest shown last stored spots home next parent after child digests world j pointer there which further initial
+      join_split wide longest digest shown last stored spots home next parent after child digests world j pointer there which further initial
           (ap (λ (f : Family). f.parent) family) (ap (λ (f : Family). f.child) family),
     )
 
 -- A join that shows nothing finds its path untouched, or kept by its digest with the value that it brings.
-pub join_takes : (longest : ℕ) (digest : Digest) (shown : AllShown) (last : LastEvicted) (stored : Stored) (spots : Spots) (home : ℕ) (next : Shown) (parent after child : Entry)
-    → HasOneText longest → IsWorld longest digest shown last stored spots → DidAddM longest digest (shown home) next parent after child
+pub join_takes : (wide : Bool) (longest : ℕ) (digest : Digest) (shown : AllShown) (last : LastEvicted) (stored : Stored) (spots : Spots) (home : ℕ) (next : Shown) (parent after child : Entry)
+    → HasOneText longest → IsWorld wide longest digest shown last stored spots → DidAddM longest digest (shown home) next parent after child
     → clash_of last (did_add_m parent after child) ≡ None
     → (spots child.path ≡ untouched) ⊎ (spots child.path ≡ merkle child.value)
-join_takes longest digest shown last stored spots home next parent after child one world did free = go j.added.how
+join_takes wide longest digest shown last stored spots home next parent after child one world did free = go j.added.how
   where
     j : Joining longest digest shown spots home next parent after child
-    j = joining longest digest shown last stored spots home next parent after child world did
+    j = joining wide longest digest shown last stored spots home next parent after child world did
 
     Found : Type 0
     Found = (spots child.path ≡ untouched) ⊎ (spots child.path ≡ merkle child.value)
@@ -235,6 +235,6 @@ join_takes longest digest shown last stored spots home next parent after child o
     go (on_same pointer there to flag keeps no_kid family) =
         let k = known longest digest spots home parent child.path j.value j.added.on j.added.at pointer world.tree j.was j.added.is_node there to flag keeps no_kid in
         let child_is = ap (λ (f : Family). f.child) family in
-        back k child_is (known_shows longest digest shown last stored spots home next parent after child world j pointer there to k child_is)
+        back k child_is (known_shows wide longest digest shown last stored spots home next parent after child world j pointer there to k child_is)
     go (on_split pointer there which further initial family) =
         inl (split_untouched longest digest shown spots home next parent after child world.tree j pointer there which further)

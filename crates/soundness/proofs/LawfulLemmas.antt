@@ -1,13 +1,15 @@
 -- Each accepted command did what its change tells, and left the entries of the cache distinct.
-use Rattle.std.proofs.Common.{◌≡◌, ◌≢◌, ℕ, ◌==◌, Bool, true, false, not, ◌||◌, nat_le, List, [], ◌∷◌, length, if◌then◌else◌, Option, Some, None, is_some, IsNone, Ok, refl, sym, ◌∙◌, ap, subst}
-use Rattle.std.proofs.lemmas.Bool.{true≢false, not-false, eqb-true, ne_eqb}
+use Rattle.std.proofs.Common.{◌≡◌, ◌≢◌, ℕ, ◌==◌, Bool, true, false, not, ◌||◌, nat_le, List, [], ◌∷◌, if◌then◌else◌, Option, Some, None, is_some, IsNone, Ok, refl, sym, ◌∙◌, ap, subst}
+use Rattle.std.proofs.lemmas.Bool.{true≢false, not-false, ne_eqb}
 use Rattle.std.proofs.lemmas.Result.{IfOk-at_ok}
-use Rattle.tree_keys.specs.Path.{IsData, is_data}
+use Rattle.tree_keys.specs.Path.{IsData, is_data, root_of}
+use Rattle.tree_keys.proofs.TreeLaws.{is-data}
 use Rattle.lamport_clocks.specs.declared.header.Header.{Header}
 use Rattle.lamport_clocks.specs.declared.stamp.Stamp.{Stamp}
 use Rattle.lamport_clocks.specs.Clock.{received, sent, advanced}
 use Rattle.base_words.proofs.StepLaws.{test-ok}
 use Rattle.record_text.specs.declared.value.Value.{Value}
+use Rattle.record_text.specs.Tree.{wide_of}
 use Rattle.record_text.specs.Texts.{value_text}
 use Rattle.record_text.specs.Value.{IsOf, node_side, initial_value}
 use Rattle.log_codec.specs.declared.command.Command.{Command}
@@ -228,10 +230,9 @@ lawful_evict_bm rules state path parent stamp done distinct is =
       distinct-left path xs after.0 distinct,
     )
 
--- the test of a data path tells its length
-data_length : (path own : List Bool) → own ≡ path → not (is_data path) ≡ false
-    → IsData own
-data_length path own same is = ap (λ (p : List Bool). length p) same ∙ eqb-true _ _ (not-false _ is)
+-- the test of a data path tells that it is one
+data_tested : (path own : List Bool) → own ≡ path → not (is_data path) ≡ false → IsData own
+data_tested path own same is = subst IsData (sym same) (is-data path (not-false _ is))
 
 lawful_get : (rules : Rules) (state : State) (path : List Bool) (value : Value) (done : Change × State)
     → AreDistinct state.cache.entries → get state path value ≡ Ok done → LeavesDistinct rules state done
@@ -243,7 +244,7 @@ lawful_get rules state path value done distinct is =
     IfOk-at_ok (LeavesDistinct rules state) same.1 (
       record {
         had = found_own path xs entry.0 entry.1;
-        at_data = data_length path entry.0.path (entry_of-path path xs entry.0 entry.1) data_path.0;
+        at_data = data_tested path entry.0.path (entry_of-path path xs entry.0 entry.1) data_path.0;
         shown = λ j. refl;
       },
       distinct,
@@ -262,7 +263,7 @@ lawful_put rules state path value done kind distinct is =
       record {
         value = value;
         had = found;
-        at_data = data_length path entry.0.path own data_path.0;
+        at_data = data_tested path entry.0.path own data_path.0;
         kind = subst (λ (p : List Bool). IsOf rules.scheme.format.longest p value) (sym own) kind;
         wrote = refl;
         shown = λ j. shown-replaced j xs (with_value entry.0 value) entry.0 found;
@@ -376,20 +377,19 @@ path_timely rules state command done is = (ticks_step rules state command done i
 
 -- verifier 0 shows the root and nothing else
 pub opening_shown-root : (header : Header)
-    → ShowSame (shown_by (opening 0 header)) (showing (λ path. None) [] (Some root_entry))
-opening_shown-root header [] = refl
-opening_shown-root header (bit ∷ path) = refl
+    → ShowSame (shown_by (opening 0 header)) (showing (λ path. None) (root_of (wide_of header)) (Some (root_entry (wide_of header))))
+opening_shown-root header path = shown-append path [] (root_entry (wide_of header)) refl
 
 -- the others show nothing
 pub opening_shown-other : (number : ℕ) (header : Header) → number ≢ 0
     → ShowSame (shown_by (opening number header)) (λ path. None)
 opening_shown-other number header other path =
-    ap (λ (b : Bool). entry_of path (if b then root_entry ∷ [] else [])) (ne_eqb number 0 other)
+    ap (λ (b : Bool). entry_of path (if b then root_entry (wide_of header) ∷ [] else [])) (ne_eqb number 0 other)
 
 -- at the start the entries are distinct
 pub opening-distinct : (number : ℕ) (header : Header) → AreDistinct (opening number header).cache.entries
 opening-distinct number header = go (number == 0)
   where
-    go : (b : Bool) → AreDistinct (if b then root_entry ∷ [] else [])
+    go : (b : Bool) → AreDistinct (if b then root_entry (wide_of header) ∷ [] else [])
     go true = (refl, tt)
     go false = tt

@@ -32,16 +32,16 @@ pub record IsOut (child : Entry) (spot : Spot) : Type 0 where
   pub hidden : (home : ℕ) → cached_in home spot ≡ None
 
 -- the world behind a step that left a record at this spot, where nothing else waits that didn't
-abbrev pub LeftAt : ℕ → Digest → AllShown → LastEvicted → Stored → Spots → List Bool → Spot → Type 0
-LeftAt longest digest shown last stored old path spot =
-    (spots : Spots) × IsWorld longest digest shown last stored spots × KeepsWaiting old spots × (spots path ≡ spot)
+abbrev pub LeftAt : Bool → ℕ → Digest → AllShown → LastEvicted → Stored → Spots → List Bool → Spot → Type 0
+LeftAt wide longest digest shown last stored old path spot =
+    (spots : Spots) × IsWorld wide longest digest shown last stored spots × KeepsWaiting old spots × (spots path ≡ spot)
     × KeepsElsewhere path spots old
 
 -- What an evict and a deferral have in common: the parent's node changes, its kid bit is cleared, and its pointer
 -- leads where the child is now.
-leave_world : (longest : ℕ) (digest : Digest) (shown : AllShown) (last now_taken : LastEvicted) (stored : Stored) (spots : Spots) (home : ℕ) (next : Shown) (parent child after : Entry)
+leave_world : (wide : Bool) (longest : ℕ) (digest : Digest) (shown : AllShown) (last now_taken : LastEvicted) (stored : Stored) (spots : Spots) (home : ℕ) (next : Shown) (parent child after : Entry)
     → (changed : Node → Bool → Pointer → Node) (spot : Spot) (pointer : Pointer)
-    → IsWorld longest digest shown last stored spots
+    → IsWorld wide longest digest shown last stored spots
     → (left : IsLeft parent child after changed)
     → shown home parent.path ≡ Some parent → shown home child.path ≡ Some child
     → ShowSame next (showing_both (shown home) after child.path None)
@@ -51,10 +51,11 @@ leave_world : (longest : ℕ) (digest : Digest) (shown : AllShown) (last now_tak
     → (IsOf longest parent.path (values.Node left.at) → IsOf longest parent.path (values.Node (changed left.at left.on left.pointer)))
     → LeadsBy digest pointer.deferred None pointer.digest spot
     → ((path : List Bool) (value : Value) → with_pair spots home (changed_parent parent (changed left.at left.on left.pointer) left.on false) child.path spot path ≡ merkle value → now_taken path ≡ Some value)
-    → LeftAt longest digest (with_shown shown home next) now_taken stored spots child.path spot
-leave_world longest digest shown last now_taken stored spots home next parent child after changed spot pointer world left had_parent had_child shows out child_kind points to others kind leads taken_is = (
+    → LeftAt wide longest digest (with_shown shown home next) now_taken stored spots child.path spot
+leave_world wide longest digest shown last now_taken stored spots home next parent child after changed spot pointer world left had_parent had_child shows out child_kind points to others kind leads taken_is = (
   new,
-  world_pair longest digest shown last now_taken stored spots home next parent now_parent child.path spot world tree was apart
+  world_pair wide longest digest shown last now_taken stored spots home next parent now_parent child.path spot world tree was apart
+      (world.within child.path (ap is_touched was_child))
       (subst (λ (e : Option Entry). ShowSame next (showing_both (shown home) now_parent child.path e)) (sym (out.hidden home))
       (subst (λ (a : Entry). ShowSame next (showing_both (shown home) a child.path None)) left.after_is shows))
       (λ other away. out.hidden other ∙ sym (ap (cached_in other) was_child ∙ cached_elsewhere home other child away))
@@ -131,10 +132,10 @@ taken_now last spots home after k kept apart was path value is = go (this_or_oth
         ∙ was path value (sym (with_pair_other spots home after k path (merkle kept) away further) ∙ is)
 
 -- A child is evicted into its parent.
-pub leave_step : (longest : ℕ) (digest : Digest) (shown : AllShown) (last : LastEvicted) (stored : Stored) (spots : Spots) (home : ℕ) (next : Shown) (parent after child : Entry)
-    → GivesDigests digest → IsWorld longest digest shown last stored spots → DidEvictM digest (shown home) next parent after child
-    → WorldAfter longest digest (with_shown shown home next) (with_last_evicted last child.path child.value) stored spots
-leave_step longest digest shown last stored spots home next parent after child digests world did =
+pub leave_step : (wide : Bool) (longest : ℕ) (digest : Digest) (shown : AllShown) (last : LastEvicted) (stored : Stored) (spots : Spots) (home : ℕ) (next : Shown) (parent after child : Entry)
+    → GivesDigests digest → IsWorld wide longest digest shown last stored spots → DidEvictM digest (shown home) next parent after child
+    → WorldAfter wide longest digest (with_shown shown home next) (with_last_evicted last child.path child.value) stored spots
+leave_step wide longest digest shown last stored spots home next parent after child digests world did =
     (out.0, out.1, out.2, none_since spots out.0 child.path (merkle child.value) out.3 refl out.4)
   where
     left : IsLeft parent child after (evicted_into digest child)
@@ -145,8 +146,8 @@ leave_step longest digest shown last stored spots home next parent after child d
         child_kind longest digest spots home child world.tree
         (spot_of_shown home (spots child.path) child (sym (world.shows home child.path) ∙ did.had_child))
 
-    out : LeftAt longest digest (with_shown shown home next) (with_last_evicted last child.path child.value) stored spots child.path (merkle child.value)
-    out = leave_world longest digest shown last (with_last_evicted last child.path child.value) stored spots home next parent child after (evicted_into digest child)
+    out : LeftAt wide longest digest (with_shown shown home next) (with_last_evicted last child.path child.value) stored spots child.path (merkle child.value)
+    out = leave_world wide longest digest shown last (with_last_evicted last child.path child.value) stored spots home next parent child after (evicted_into digest child)
         (merkle child.value) (pointer_to digest child.path child.value) world left did.had_parent did.had_child did.shown
         (record { value = refl; touched = refl; homeless = λ which. refl; hidden = λ home. refl })
         of_kind
@@ -157,12 +158,12 @@ leave_step longest digest shown last stored spots home next parent after child d
         (above_apart parent.path child.path left.on left.below) world.was_evicted)
 
 -- A child is evicted out of its parent with an element.
-pub defer_step : (longest : ℕ) (digest : Digest) (shown : AllShown) (last : LastEvicted) (stored : Stored) (spots : Spots) (home : ℕ) (next : Shown) (parent after child : Entry) (element : Element)
-    → IsWorld longest digest shown last stored spots → DidEvictBM (shown home) next parent after child element
-    → LeftAt longest digest (with_shown shown home next) last stored spots element.path (waiting element)
-defer_step longest digest shown last stored spots home next parent after child element world did =
-    subst (λ (i : List Bool). LeftAt longest digest (with_shown shown home next) last stored spots i (waiting element)) (sym did.path)
-    (leave_world longest digest shown last last stored spots home next parent child after deferred_in
+pub defer_step : (wide : Bool) (longest : ℕ) (digest : Digest) (shown : AllShown) (last : LastEvicted) (stored : Stored) (spots : Spots) (home : ℕ) (next : Shown) (parent after child : Entry) (element : Element)
+    → IsWorld wide longest digest shown last stored spots → DidEvictBM (shown home) next parent after child element
+    → LeftAt wide longest digest (with_shown shown home next) last stored spots element.path (waiting element)
+defer_step wide longest digest shown last stored spots home next parent after child element world did =
+    subst (λ (i : List Bool). LeftAt wide longest digest (with_shown shown home next) last stored spots i (waiting element)) (sym did.path)
+    (leave_world wide longest digest shown last last stored spots home next parent child after deferred_in
     (waiting element) (deferred_pointer left.pointer) world left did.had_parent did.had_child did.shown
     (record { value = ap Some did.value; touched = refl; homeless = λ which. refl; hidden = λ home. refl })
     (did.path, subst (IsOf longest child.path) (sym did.value) of_kind)

@@ -1,16 +1,18 @@
 -- What is read as a command that names paths is typed, whatever the numbers: each value is of its path's kind.
-use Rattle.std.proofs.Common.{◌≡◌, ℕ, ◌+◌, ◌-◌, ◌/◌, ◌%◌, ◌^◌, ◌≤◌, ◌==◌, ◌&&◌, Bool, true, false, cond, eqb, leb, List, [], ◌∷◌, ◌++◌, length, take, Option, Some, None, Ok, Err, refl, sym, ap, subst, ◌∙◌, arith}
-use Rattle.std.specs.Int.{byte_len, w64}
-use Rattle.std.proofs.lemmas.Bool.{leb-true, eqb-true, eqb-false, and_parts}
+use Rattle.std.proofs.Common.{◌≡◌, ℕ, ◌+◌, ◌-◌, ◌/◌, ◌%◌, ◌^◌, ◌≤◌, ◌==◌, ◌&&◌, Bool, true, false, cond, leb, List, [], ◌∷◌, ◌++◌, length, take, Option, Some, None, Ok, Err, refl, sym, ap, subst, ◌∙◌, arith}
+use Rattle.std.specs.Int.{byte_len}
+use Rattle.std.proofs.lemmas.Bool.{leb-true, and_parts}
 use Rattle.std.proofs.lemmas.List.{length-take-le}
 use Rattle.tree_keys.specs.Bits.{bits_of}
 use Rattle.tree_keys.specs.BitsLaws.{length-bits_of}
-use Rattle.tree_keys.specs.Path.{path_in_word, is_prefix, key_bits, IsPath, IsNodePath}
+use Rattle.tree_keys.specs.Path.{key_bits, tree_of, IsPath, is_data, is_prefix, path_in_word}
+use Rattle.tree_keys.proofs.TreeLaws.{is-data, is-node}
 use Rattle.record_text.specs.declared.reader.TextFault.TheVariants.{Malformed}
 use Rattle.record_text.specs.declared.value.Pointer.{Pointer}
 use Rattle.record_text.specs.declared.value.Node.{Node}
 use Rattle.record_text.specs.declared.value.Value.{Value}
 use Rattle.record_text.specs.declared.value.Value.TheVariants as values
+use Rattle.record_text.specs.Tree.{word_width}
 use Rattle.record_text.specs.Value.{IsPointer, IsSide, IsBlob, IsOf}
 use Rattle.record_text.specs.Fields.{Parsed, ◌>>=◌, field}
 use Rattle.record_text.specs.Reading.{first_byte, byte_at, run_at, path_in, path_at, flag_in, count_in, blob_behind, blob_at, pointer_tag_in, if_below, path_below_in, path_below_at, pointer_behind, pointer_at, node_at, value_by, value_at, stamp_at, u16_at}
@@ -36,21 +38,17 @@ run_length n bytes run rest e =
     let is : take n bytes ≡ run = cc (f.1) in
     subst (λ (t : List ℕ). length t ≡ n) is (length-take-le n bytes f.0)
 
--- a path in a word has no more bits than the word
-held_length : (width count word : ℕ) (path : List Bool) → path_in_word width count word ≡ Some path
-    → length path ≤ width
-held_length width count word path e =
-    let unused : ℕ = width - count in
-    let c = chosen (leb count width && (word % 2 ^ unused == 0)) (bits_of count (word / 2 ^ unused)) path e in
+-- a path in a word is no longer than its tree's keys
+held_short : (wide : Bool) (count word : ℕ) (path : List Bool) → path_in_word wide count word ≡ Some path → IsPath path
+held_short wide count word path e =
+    let unused : ℕ = key_bits wide - count in
+    let c = chosen (leb count (key_bits wide) && (word % 2 ^ unused == 0)) (wide ∷ bits_of count (word / 2 ^ unused)) path e in
     let tests = and_parts _ _ c.0 in
-    let within : count ≤ width = leb-true _ _ tests.0 in
-    let len : length path ≡ count =
-    sym (ap (λ (bits : List Bool). length bits) c.1) ∙ length-bits_of count (word / 2 ^ unused) in
-    omega (arith, len, within)
+    let within : count ≤ key_bits wide = leb-true _ _ tests.0 in
+    subst IsPath c.1 (omega (arith, length-bits_of count (word / 2 ^ unused), within))
 
-path_length : (text : List ℕ) (path : List Bool) → path_in text ≡ Some path
-    → IsPath path
-path_length text path e = held_length key_bits (first_byte text) _ path e
+path_short : (wide : Bool) (text : List ℕ) (path : List Bool) → path_in wide text ≡ Some path → IsPath path
+path_short wide text path e = held_short wide (first_byte text) _ path e
 
 -- a path that is to have a prefix has it
 below_has : (prefix : List Bool) (found : Option (List Bool)) (path : List Bool)
@@ -60,21 +58,22 @@ below_has prefix (Some other) path e =
     let c = chosen (is_prefix prefix other) other path e in
     (ap (λ (x : List Bool). Some x) c.1, subst (λ (x : List Bool). is_prefix prefix x ≡ true) c.1 c.0)
 
-path_at-short : (bytes : List ℕ) (path : List Bool) (rest : List ℕ)
-    → path_at bytes ≡ Ok (path, rest) → IsPath path
+path_at-short : (wide : Bool) (bytes : List ℕ) (path : List Bool) (rest : List ℕ)
+    → path_at wide bytes ≡ Ok (path, rest) → IsPath path
 unfolding path_at
-path_at-short bytes path rest e =
-    let f = field_ok (1 + byte_len w64) path_in bytes path rest e in
-    path_length (take (1 + byte_len w64) bytes) path f.1
+path_at-short wide bytes path rest e =
+    let f = field_ok (1 + byte_len (word_width wide)) (path_in wide) bytes path rest e in
+    path_short wide (take (1 + byte_len (word_width wide)) bytes) path f.1
 
 path_below-short : (prefix : List Bool) (bytes : List ℕ) (path : List Bool) (rest : List ℕ)
     → path_below_at prefix bytes ≡ Ok (path, rest)
     → (is_prefix prefix path ≡ true) × IsPath path
 unfolding path_below_at
 path_below-short prefix bytes path rest e =
-    let f = field_ok (1 + byte_len w64) (path_below_in prefix) bytes path rest e in
-    let below = below_has prefix (path_in (take (1 + byte_len w64) bytes)) path f.1 in
-    (below.1, path_length (take (1 + byte_len w64) bytes) path below.0)
+    let wide = tree_of prefix in
+    let f = field_ok (1 + byte_len (word_width wide)) (path_below_in prefix) bytes path rest e in
+    let below = below_has prefix (path_in wide (take (1 + byte_len (word_width wide)) bytes)) path f.1 in
+    (below.1, path_short wide (take (1 + byte_len (word_width wide)) bytes) path below.0)
 
 -- ---- data values
 
@@ -161,27 +160,26 @@ node_at-sides path bytes node rest e =
 
 -- ---- the value of a path
 
-value_by-kind : (longest : ℕ) (path : List Bool) (is_data : Bool) (bytes : List ℕ) (value : Value)
-    (rest : List ℕ) → IsPath path → eqb (length path) key_bits ≡ is_data
-    → value_by longest path is_data bytes ≡ Ok (value, rest) → IsOf longest path value
+value_by-kind : (longest : ℕ) (path : List Bool) (data : Bool) (bytes : List ℕ) (value : Value)
+    (rest : List ℕ) → IsPath path → is_data path ≡ data
+    → value_by longest path data bytes ≡ Ok (value, rest) → IsOf longest path value
 value_by-kind longest path true bytes value rest short is e =
     let blob = bind_ok (blob_at longest bytes) (λ blob. Ok (values.Blob blob.0, blob.1)) (value, rest) e in
     let made : Value = values.Blob blob.0.0 in
     subst (λ (x : Value × List ℕ). IsOf longest path x.0) (Ok-is (made, blob.0.1) (value, rest) blob.2)
-    (eqb-true _ _ is, blob_at-fits longest bytes blob.0.0 blob.0.1 blob.1)
+    (is-data path is, blob_at-fits longest bytes blob.0.0 blob.0.1 blob.1)
 value_by-kind longest path false bytes value rest short is e =
     let node = bind_ok (node_at path bytes) (λ node. Ok (values.Node node.0, node.1)) (value, rest) e in
     let sides = node_at-sides path bytes node.0.0 node.0.1 node.1 in
     let made : Value = values.Node node.0.0 in
-    let shorter : IsNodePath path = omega (arith, short, eqb-false _ _ is) in
     subst (λ (x : Value × List ℕ). IsOf longest path x.0) (Ok-is (made, node.0.1) (value, rest) node.2)
-    (shorter, sides.0, sides.1)
+    (is-node path short is, sides.0, sides.1)
 
 -- What is read as the value of a path is of its kind.
 pub value_at-kind : (longest : ℕ) (path : List Bool) (bytes : List ℕ) (value : Value) (rest : List ℕ)
     → IsPath path → value_at longest path bytes ≡ Ok (value, rest) → IsOf longest path value
 value_at-kind longest path bytes value rest short e =
-    value_by-kind longest path (eqb (length path) key_bits) bytes value rest short refl e
+    value_by-kind longest path (is_data path) bytes value rest short refl e
 
 -- ---- commands
 
@@ -202,15 +200,15 @@ typed_then Is first second next bytes command rest e =
     next bytes t.0 t.1 t.2 t.1 command rest t.3
 
 -- a path, and a value of it
-pub typed_of : {C : Type 0} (Is : C → Type 0) (longest : ℕ) (second : List Bool → Value → List ℕ → Parsed C)
+pub typed_of : {C : Type 0} (Is : C → Type 0) (wide : Bool) (longest : ℕ) (second : List Bool → Value → List ℕ → Parsed C)
     → ((path : List Bool) (value : Value) → IsOf longest path value → ReadsTyped Is (second path value))
-    → ReadsTyped Is (λ bytes. then_at (path_at bytes) (λ path left.
+    → ReadsTyped Is (λ bytes. then_at (path_at wide bytes) (λ path left.
     then_at (value_at longest path left) (second path)))
-typed_of Is longest second next =
-    typed_then Is path_at (λ path left. then_at (value_at longest path left) (second path))
+typed_of Is wide longest second next =
+    typed_then Is (path_at wide) (λ path left. then_at (value_at longest path left) (second path))
     (λ bytes path left e.
     typed_then Is (value_at longest path) (second path) (λ more value rest is.
-    next path value (value_at-kind longest path more value rest (path_at-short bytes path left e) is)))
+    next path value (value_at-kind longest path more value rest (path_at-short wide bytes path left e) is)))
 
 pub typed_if : {C : Type 0} (Is : C → Type 0) (test : Bool) (first second : List ℕ → Parsed C)
     → ReadsTyped Is first → ReadsTyped Is second
@@ -227,24 +225,24 @@ typed_tagged Is behind typed =
 
 -- ---- commands that name paths
 
-add_m_typed : (longest : ℕ) → ReadsTyped (IsPathTyped longest) (add_m_at longest)
-add_m_typed longest =
-    typed_of (IsPathTyped longest) longest
-    (λ path value left. then_at (path_at left) (λ parent rest. Ok (AddM path value parent, rest)))
+add_m_typed : (wide : Bool) (longest : ℕ) → ReadsTyped (IsPathTyped longest) (add_m_at wide longest)
+add_m_typed wide longest =
+    typed_of (IsPathTyped longest) wide longest
+    (λ path value left. then_at (path_at wide left) (λ parent rest. Ok (AddM path value parent, rest)))
     (λ path value kind.
-    typed_then (IsPathTyped longest) path_at (λ parent rest. Ok (AddM path value parent, rest)) (λ bytes parent left e.
+    typed_then (IsPathTyped longest) (path_at wide) (λ parent rest. Ok (AddM path value parent, rest)) (λ bytes parent left e.
     typed_done (IsPathTyped longest) (AddM path value parent) kind))
 
-evict_m_typed : (longest : ℕ) → ReadsTyped (IsPathTyped longest) evict_m_at
-evict_m_typed longest =
-    typed_then (IsPathTyped longest) path_at
-    (λ path left. then_at (path_at left) (λ parent rest. Ok (EvictM path parent, rest))) (λ bytes path left e.
-    typed_then (IsPathTyped longest) path_at (λ parent rest. Ok (EvictM path parent, rest)) (λ bytes parent left e.
+evict_m_typed : (wide : Bool) (longest : ℕ) → ReadsTyped (IsPathTyped longest) (evict_m_at wide)
+evict_m_typed wide longest =
+    typed_then (IsPathTyped longest) (path_at wide)
+    (λ path left. then_at (path_at wide left) (λ parent rest. Ok (EvictM path parent, rest))) (λ bytes path left e.
+    typed_then (IsPathTyped longest) (path_at wide) (λ parent rest. Ok (EvictM path parent, rest)) (λ bytes parent left e.
     typed_done (IsPathTyped longest) (EvictM path parent) tt))
 
-add_b_typed : (longest : ℕ) → ReadsTyped (IsPathTyped longest) (add_b_at longest)
-add_b_typed longest =
-    typed_of (IsPathTyped longest) longest (λ path value left. two_at (AddB path value) stamp_at (λ stamp. u16_at) left)
+add_b_typed : (wide : Bool) (longest : ℕ) → ReadsTyped (IsPathTyped longest) (add_b_at wide longest)
+add_b_typed wide longest =
+    typed_of (IsPathTyped longest) wide longest (λ path value left. two_at (AddB path value) stamp_at (λ stamp. u16_at) left)
     (λ path value kind.
     typed_then (IsPathTyped longest) stamp_at
     (λ stamp left. then_at (u16_at left) (λ verifier rest. Ok (AddB path value stamp verifier, rest)))
@@ -252,49 +250,49 @@ add_b_typed longest =
     typed_then (IsPathTyped longest) u16_at (λ verifier rest. Ok (AddB path value stamp verifier, rest)) (λ bytes verifier left e.
     typed_done (IsPathTyped longest) (AddB path value stamp verifier) kind)))
 
-evict_b_typed : (longest : ℕ) → ReadsTyped (IsPathTyped longest) evict_b_at
-evict_b_typed longest =
-    typed_then (IsPathTyped longest) path_at
+evict_b_typed : (wide : Bool) (longest : ℕ) → ReadsTyped (IsPathTyped longest) (evict_b_at wide)
+evict_b_typed wide longest =
+    typed_then (IsPathTyped longest) (path_at wide)
     (λ path left. then_at (stamp_at left) (λ stamp rest. Ok (EvictB path stamp, rest))) (λ bytes path left e.
     typed_then (IsPathTyped longest) stamp_at (λ stamp rest. Ok (EvictB path stamp, rest)) (λ bytes stamp left e.
     typed_done (IsPathTyped longest) (EvictB path stamp) tt))
 
-evict_bm_typed : (longest : ℕ) → ReadsTyped (IsPathTyped longest) evict_bm_at
-evict_bm_typed longest =
-    typed_then (IsPathTyped longest) path_at
-    (λ path left. two_at (EvictBM path) path_at (λ parent. stamp_at) left) (λ bytes path left e.
-    typed_then (IsPathTyped longest) path_at
+evict_bm_typed : (wide : Bool) (longest : ℕ) → ReadsTyped (IsPathTyped longest) (evict_bm_at wide)
+evict_bm_typed wide longest =
+    typed_then (IsPathTyped longest) (path_at wide)
+    (λ path left. two_at (EvictBM path) (path_at wide) (λ parent. stamp_at) left) (λ bytes path left e.
+    typed_then (IsPathTyped longest) (path_at wide)
     (λ parent left. then_at (stamp_at left) (λ stamp rest. Ok (EvictBM path parent stamp, rest)))
     (λ bytes parent left e.
     typed_then (IsPathTyped longest) stamp_at (λ stamp rest. Ok (EvictBM path parent stamp, rest)) (λ bytes stamp left e.
     typed_done (IsPathTyped longest) (EvictBM path parent stamp) tt)))
 
-get_typed : (longest : ℕ) → ReadsTyped (IsPathTyped longest) (get_at longest)
-get_typed longest =
-    typed_of (IsPathTyped longest) longest (λ path value rest. Ok (Get path value, rest))
+get_typed : (wide : Bool) (longest : ℕ) → ReadsTyped (IsPathTyped longest) (get_at wide longest)
+get_typed wide longest =
+    typed_of (IsPathTyped longest) wide longest (λ path value rest. Ok (Get path value, rest))
     (λ path value kind. typed_done (IsPathTyped longest) (Get path value) tt)
 
-put_typed : (longest : ℕ) → ReadsTyped (IsPathTyped longest) (put_at longest)
-put_typed longest =
-    typed_of (IsPathTyped longest) longest (λ path value rest. Ok (Put path value, rest))
+put_typed : (wide : Bool) (longest : ℕ) → ReadsTyped (IsPathTyped longest) (put_at wide longest)
+put_typed wide longest =
+    typed_of (IsPathTyped longest) wide longest (λ path value rest. Ok (Put path value, rest))
     (λ path value kind. typed_done (IsPathTyped longest) (Put path value) kind)
 
-behind_typed : (longest : ℕ) (tag : ℕ) → ReadsTyped (IsPathTyped longest) (path_command_behind longest tag)
-behind_typed longest tag =
-    typed_if (IsPathTyped longest) (tag == 1) (add_m_at longest) _ (add_m_typed longest)
-    (typed_if (IsPathTyped longest) (tag == 2) evict_m_at _ (evict_m_typed longest)
-    (typed_if (IsPathTyped longest) (tag == 3) (add_b_at longest) _ (add_b_typed longest)
-    (typed_if (IsPathTyped longest) (tag == 4) evict_b_at _ (evict_b_typed longest)
-    (typed_if (IsPathTyped longest) (tag == 5) evict_bm_at _ (evict_bm_typed longest)
-    (typed_if (IsPathTyped longest) (tag == 6) (get_at longest) _ (get_typed longest)
-    (typed_if (IsPathTyped longest) (tag == 7) (put_at longest) _ (put_typed longest)
+behind_typed : (wide : Bool) (longest : ℕ) (tag : ℕ) → ReadsTyped (IsPathTyped longest) (path_command_behind wide longest tag)
+behind_typed wide longest tag =
+    typed_if (IsPathTyped longest) (tag == 1) (add_m_at wide longest) _ (add_m_typed wide longest)
+    (typed_if (IsPathTyped longest) (tag == 2) (evict_m_at wide) _ (evict_m_typed wide longest)
+    (typed_if (IsPathTyped longest) (tag == 3) (add_b_at wide longest) _ (add_b_typed wide longest)
+    (typed_if (IsPathTyped longest) (tag == 4) (evict_b_at wide) _ (evict_b_typed wide longest)
+    (typed_if (IsPathTyped longest) (tag == 5) (evict_bm_at wide) _ (evict_bm_typed wide longest)
+    (typed_if (IsPathTyped longest) (tag == 6) (get_at wide longest) _ (get_typed wide longest)
+    (typed_if (IsPathTyped longest) (tag == 7) (put_at wide longest) _ (put_typed wide longest)
     (typed_if (IsPathTyped longest) (tag == 8) (λ bytes. Ok (NextEpoch, bytes)) (λ bytes. Err Malformed)
     (typed_done (IsPathTyped longest) NextEpoch tt)
     (λ bytes command rest e. absurd (cc)))))))))
 
 -- What is read as a command that names paths is typed.
-pub path_command_typed : (longest : ℕ) (bytes : List ℕ) (command : Command) (rest : List ℕ)
-    → path_command_at longest bytes ≡ Ok (command, rest) → IsPathTyped longest command
+pub path_command_typed : (wide : Bool) (longest : ℕ) (bytes : List ℕ) (command : Command) (rest : List ℕ)
+    → path_command_at wide longest bytes ≡ Ok (command, rest) → IsPathTyped longest command
 unfolding path_command_at
-path_command_typed longest bytes command rest e =
-    typed_tagged (IsPathTyped longest) (λ tag left. path_command_behind longest tag left) (behind_typed longest) bytes command rest e
+path_command_typed wide longest bytes command rest e =
+    typed_tagged (IsPathTyped longest) (λ tag left. path_command_behind wide longest tag left) (behind_typed wide longest) bytes command rest e

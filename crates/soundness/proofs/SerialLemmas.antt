@@ -3,7 +3,7 @@ use Rattle.std.proofs.Common.{◌≡◌, ◌≢◌, ◌⊎◌, ℕ, zero, suc, �
 use Rattle.std.specs.Option.{option_or}
 use Rattle.std.specs.Map.{update}
 use Rattle.std.proofs.lemmas.Bool.{true≢false}
-use Rattle.tree_keys.specs.Bits.{number_of}
+use Rattle.tree_keys.specs.Path.{key_of}
 use Rattle.record_text.specs.declared.element.Element.{Element}
 use Rattle.merkle_records.specs.Merkle.{Digest, GivesDigests}
 use Rattle.stamp_order.specs.Serial.{IsSerialFrom}
@@ -125,28 +125,28 @@ waits_once_out element pending rest out =
     subst (λ (n : ℕ). 1 ≤ n) (sym (count_without element element pending rest out ∙ ap (λ (b : Bool). one_more b (count_of element rest)) (same_element-self element))) (omega arith)
 
 -- an element that waits is of its path
-pub waits_own : (longest : ℕ) (digest : Digest) (shown : AllShown) (last : LastEvicted) (stored : Stored) (spots : Spots) → IsWorld longest digest shown last stored spots
+pub waits_own : (wide : Bool) (longest : ℕ) (digest : Digest) (shown : AllShown) (last : LastEvicted) (stored : Stored) (spots : Spots) → IsWorld wide longest digest shown last stored spots
     → (path : List Bool) (x : Element) → spots path ≡ waiting x → x.path ≡ path
-waits_own longest digest shown last stored spots world path x there = (subst (IsKind longest path) there (world.tree.kind path)).0
+waits_own wide longest digest shown last stored spots world path x there = (subst (IsKind longest path) there (world.tree.kind path)).0
 
 -- a record that goes with an element stood in the cache, so it didn't wait
-pub free_at : (longest : ℕ) (digest : Digest) (shown : AllShown) (last : LastEvicted) (stored : Stored) (spots : Spots) (home : ℕ) (child : Entry) (element : Element)
-    → IsWorld longest digest shown last stored spots → shown home child.path ≡ Some child → element.path ≡ child.path
+pub free_at : (wide : Bool) (longest : ℕ) (digest : Digest) (shown : AllShown) (last : LastEvicted) (stored : Stored) (spots : Spots) (home : ℕ) (child : Entry) (element : Element)
+    → IsWorld wide longest digest shown last stored spots → shown home child.path ≡ Some child → element.path ≡ child.path
     → (x : Element) → spots element.path ≡ waiting x → ⊥
-free_at longest digest shown last stored spots home child element world had path x there =
+free_at wide longest digest shown last stored spots home child element world had path x there =
     not_waiting (spots element.path) (cached home child) x
     (ap spots path ∙ spot_of_shown home (spots child.path) child (sym (world.shows home child.path) ∙ had)) refl there
 
 -- ---- what comes
 
 -- What comes takes what is there, where it shows no clash.
-pub takes_there : (longest : ℕ) (digest : Digest) → HasOneText longest → (home : ℕ) (shown : AllShown) (next : Shown)
+pub takes_there : (wide : Bool) (longest : ℕ) (digest : Digest) → HasOneText longest → (home : ℕ) (shown : AllShown) (next : Shown)
     (last : LastEvicted) (stored : Stored) (spots : Spots) (pending : List Element) (behind : List Element → Type 0)
-    → IsWorld longest digest shown last stored spots → IsWaiting spots pending
+    → IsWorld wide longest digest shown last stored spots → IsWaiting spots pending
     → (change : Change) → HasDone longest digest (shown home) next change → IsScheduledBy pending change behind
     → clash_of last change ≡ None
     → TakesWhatIsThere last spots change
-takes_there longest digest one home shown next last stored spots pending behind world waits = go
+takes_there wide longest digest one home shown next last stored spots pending behind world waits = go
   where
     joined : (parent after child : Entry) → (spots child.path ≡ untouched) ⊎ (spots child.path ≡ merkle child.value)
         → TakesWhatIsThere last spots (did_add_m parent after child)
@@ -157,7 +157,7 @@ takes_there longest digest one home shown next last stored spots pending behind 
         → clash_of last change ≡ None → TakesWhatIsThere last spots change
     go (did_add_m parent after child) did scheduled free =
         joined parent after child
-        (join_takes longest digest shown last stored spots home next parent after child one world did free)
+        (join_takes wide longest digest shown last stored spots home next parent after child one world did free)
     go (did_evict_m parent after child) did scheduled free = tt
     go (did_add_b child element) did scheduled free =
         let there = waits.each element (waits_once_out element pending scheduled.0 scheduled.1) in
@@ -169,10 +169,10 @@ takes_there longest digest one home shown next last stored spots pending behind 
     go (did_next_epoch sealed) did scheduled free = tt
 
 -- What takes what is there comes to a path that no cache shows.
-pub fresh_there : (longest : ℕ) (digest : Digest) (shown : AllShown) (last : LastEvicted) (stored : Stored) (spots : Spots)
-    (home : ℕ) → IsWorld longest digest shown last stored spots
+pub fresh_there : (wide : Bool) (longest : ℕ) (digest : Digest) (shown : AllShown) (last : LastEvicted) (stored : Stored) (spots : Spots)
+    (home : ℕ) → IsWorld wide longest digest shown last stored spots
     → (change : Change) → TakesWhatIsThere last spots change → IsFresh (shown home) change
-fresh_there longest digest shown last stored spots home world = go
+fresh_there wide longest digest shown last stored spots home world = go
   where
     not_shown : (path : List Bool) (spot : Spot) → spots path ≡ spot → cached_in home spot ≡ None → IsNone (shown home path)
     not_shown path spot is none =
@@ -210,13 +210,13 @@ abbrev IsFree : LastEvicted → Change → List Event → Type 0
 IsFree last change events =
     option_or (clash_of last change) (first_clash (last_evicted_after last change) (map (λ (event : Event). event.change) events)) ≡ None
 
-pub run_keeps : (longest : ℕ) (digest : Digest) → HasOneText longest → GivesDigests digest → (events : List Event) (shown : AllShown) (last : LastEvicted) (stored : Stored) (spots : Spots) (pending : List Element)
-    → IsWorld longest digest shown last stored spots → IsWaiting spots pending → IsRun longest digest shown events → IsScheduled pending events
+pub run_keeps : (wide : Bool) (longest : ℕ) (digest : Digest) → HasOneText longest → GivesDigests digest → (events : List Event) (shown : AllShown) (last : LastEvicted) (stored : Stored) (spots : Spots) (pending : List Element)
+    → IsWorld wide longest digest shown last stored spots → IsWaiting spots pending → IsRun longest digest shown events → IsScheduled pending events
     → Collides digest last events ⊎ IsSound last stored events
-run_keeps longest digest one digests [] shown last stored spots pending world waits run scheduled = inr (refl, tt)
-run_keeps longest digest one digests (event ∷ events) shown last stored spots pending world waits run scheduled =
+run_keeps wide longest digest one digests [] shown last stored spots pending world waits run scheduled = inr (refl, tt)
+run_keeps wide longest digest one digests (event ∷ events) shown last stored spots pending world waits run scheduled =
     go (λ last stored spots pending world waits run scheduled.
-    run_keeps longest digest one digests events next_shown last stored spots pending world waits run scheduled)
+    run_keeps wide longest digest one digests events next_shown last stored spots pending world waits run scheduled)
     event.change run.1 run.0 scheduled
   where
     next : Shown
@@ -228,7 +228,7 @@ run_keeps longest digest one digests (event ∷ events) shown last stored spots 
     Further : Type 0
     Further =
         (last : LastEvicted) (stored : Stored) (spots : Spots) (pending : List Element)
-        → IsWorld longest digest next_shown last stored spots → IsWaiting spots pending → IsRun longest digest next_shown events → IsScheduled pending events
+        → IsWorld wide longest digest next_shown last stored spots → IsWaiting spots pending → IsRun longest digest next_shown events → IsScheduled pending events
         → Collides digest last events ⊎ IsSound last stored events
 
     -- what follows is a run, where an add is of a path that isn't shown
@@ -253,7 +253,7 @@ run_keeps longest digest one digests (event ∷ events) shown last stored spots 
     )
 
     joined : Further → (parent after child : Entry) → RunsOn (did_add_m parent after child) → DidAddM longest digest (shown event.verifier) next parent after child → IsScheduled pending events
-        → Clashes digest last (did_add_m parent after child) ⊎ Passes longest digest next_shown last last stored spots (did_add_m parent after child)
+        → Clashes digest last (did_add_m parent after child) ⊎ Passes wide longest digest next_shown last last stored spots (did_add_m parent after child)
         → Behind (did_add_m parent after child)
     joined further parent after child on did scheduled (inl clashes) = inl (
       clashes.0,
@@ -262,15 +262,15 @@ run_keeps longest digest one digests (event ∷ events) shown last stored spots 
     )
     joined further parent after child on did scheduled (inr passes) =
         let world_then = passes.1 in
-        let takes = takes_there longest digest one event.verifier shown next last stored spots pending (λ after. IsScheduled after events) world waits (did_add_m parent after child) did scheduled passes.0 in
-        let fresh = fresh_there longest digest shown last stored spots event.verifier world (did_add_m parent after child) takes in
+        let takes = takes_there wide longest digest one event.verifier shown next last stored spots pending (λ after. IsScheduled after events) world waits (did_add_m parent after child) did scheduled passes.0 in
+        let fresh = fresh_there wide longest digest shown last stored spots event.verifier world (did_add_m parent after child) takes in
         plain (did_add_m parent after child) passes.0 (λ serial. serial)
         (further last stored world_then.0 pending world_then.1 (wait_on spots world_then.0 pending world_then.2 world_then.3 waits) (on fresh) scheduled)
 
     went : Further → (change : Change) (element : Element) → IsRun longest digest next_shown events → clash_of last change ≡ None → last_evicted_after last change ≡ last
         → (IsSerialFrom stored (operations_in events) → IsSerialFrom stored (operations_in (record event { change = change } ∷ events)))
         → ((x : Element) → spots element.path ≡ waiting x → ⊥)
-        → LeftAt longest digest next_shown last stored spots element.path (waiting element) → IsScheduled (element ∷ pending) events → Behind change
+        → LeftAt wide longest digest next_shown last stored spots element.path (waiting element) → IsScheduled (element ∷ pending) events → Behind change
     went further change element run none same quiet free left scheduled =
         plain change none quiet
         (subst (λ (t : LastEvicted). Collides digest t events ⊎ IsSound t stored events) (sym same)
@@ -278,34 +278,34 @@ run_keeps longest digest one digests (event ∷ events) shown last stored spots 
 
     go : Further → (change : Change) → RunsOn change → HasDone longest digest (shown event.verifier) next change → IsScheduledBy pending change (λ after. IsScheduled after events) → Behind change
     go further (did_add_m parent after child) on did scheduled =
-        joined further parent after child on did scheduled (join_step longest digest shown last stored spots event.verifier next parent after child one digests world did)
+        joined further parent after child on did scheduled (join_step wide longest digest shown last stored spots event.verifier next parent after child one digests world did)
     go further (did_evict_m parent after child) on did scheduled =
-        let world_then = leave_step longest digest shown last stored spots event.verifier next parent after child digests world did in
+        let world_then = leave_step wide longest digest shown last stored spots event.verifier next parent after child digests world did in
         plain (did_evict_m parent after child) refl (λ serial. serial)
         (further (last_evicted_after last (did_evict_m parent after child)) stored world_then.0 pending world_then.1 (wait_on spots world_then.0 pending world_then.2 world_then.3 waits) (on tt) scheduled)
     go further (did_add_b child element) on did scheduled =
-        let takes = takes_there longest digest one event.verifier shown next last stored spots pending (λ after. IsScheduled after events) world waits (did_add_b child element) did scheduled refl in
-        let fresh = fresh_there longest digest shown last stored spots event.verifier world (did_add_b child element) takes in
-        let back = come_step longest digest shown last stored spots event.verifier next child element world did (waits.each element (waits_once_out element pending scheduled.0 scheduled.1)) in
+        let takes = takes_there wide longest digest one event.verifier shown next last stored spots pending (λ after. IsScheduled after events) world waits (did_add_b child element) did scheduled refl in
+        let fresh = fresh_there wide longest digest shown last stored spots event.verifier world (did_add_b child element) takes in
+        let back = come_step wide longest digest shown last stored spots event.verifier next child element world did (waits.each element (waits_once_out element pending scheduled.0 scheduled.1)) in
         plain (did_add_b child element) refl (λ serial. serial)
-        (further last stored back.0 scheduled.0 back.1 (wait_less spots back.0 pending scheduled.0 element scheduled.1 back.2 back.3 (waits_own longest digest shown last stored spots world) waits) (on fresh) scheduled.2)
+        (further last stored back.0 scheduled.0 back.1 (wait_less spots back.0 pending scheduled.0 element scheduled.1 back.2 back.3 (waits_own wide longest digest shown last stored spots world) waits) (on fresh) scheduled.2)
     go further (did_evict_b child element) on did scheduled =
-        went further (did_evict_b child element) element (on tt) refl refl (λ serial. serial) (free_at longest digest shown last stored spots event.verifier child element world did.had_child did.path)
-        (go_step longest digest shown last stored spots event.verifier next child element world did) scheduled
+        went further (did_evict_b child element) element (on tt) refl refl (λ serial. serial) (free_at wide longest digest shown last stored spots event.verifier child element world did.had_child did.path)
+        (go_step wide longest digest shown last stored spots event.verifier next child element world did) scheduled
     go further (did_evict_bm parent after child element) on did scheduled =
-        went further (did_evict_bm parent after child element) element (on tt) refl refl (λ serial. serial) (free_at longest digest shown last stored spots event.verifier child element world did.had_child did.path)
-        (defer_step longest digest shown last stored spots event.verifier next parent after child element world did) scheduled
+        went further (did_evict_bm parent after child element) element (on tt) refl refl (λ serial. serial) (free_at wide longest digest shown last stored spots event.verifier child element world did.had_child did.path)
+        (defer_step wide longest digest shown last stored spots event.verifier next parent after child element world did) scheduled
     go further (did_get entry) on did scheduled =
         plain (did_get entry) refl
-        (λ serial. (λ get. read_value longest digest shown last stored spots event.verifier next entry world did, serial))
-        (further last stored spots pending (same_step longest digest shown last stored spots event.verifier next world did.shown) waits (on tt) scheduled)
+        (λ serial. (λ get. read_value wide longest digest shown last stored spots event.verifier next entry world did, serial))
+        (further last stored spots pending (same_step wide longest digest shown last stored spots event.verifier next world did.shown) waits (on tt) scheduled)
     go further (did_put before after) on did scheduled =
-        let world_then = write_step longest digest shown last stored spots event.verifier next before after world did in
-        written (further last (update eqb stored (number_of after.path) (blob_of after.value)) world_then.0 pending world_then.1 (wait_on spots world_then.0 pending world_then.2 world_then.3 waits) (on tt) scheduled)
+        let world_then = write_step wide longest digest shown last stored spots event.verifier next before after world did in
+        written (further last (update eqb stored (key_of after.path) (blob_of after.value)) world_then.0 pending world_then.1 (wait_on spots world_then.0 pending world_then.2 world_then.3 waits) (on tt) scheduled)
       where
-        written : Collides digest last events ⊎ IsSound last (update eqb stored (number_of after.path) (blob_of after.value)) events → Behind (did_put before after)
+        written : Collides digest last events ⊎ IsSound last (update eqb stored (key_of after.path) (blob_of after.value)) events → Behind (did_put before after)
         written (inl collides) = inl collides
         written (inr sound) = inr (sound.0, (λ get. absurd (true≢false get), sound.1))
     go further (did_next_epoch sealed) on did scheduled =
         plain (did_next_epoch sealed) refl (λ serial. serial)
-        (further last stored spots pending (same_step longest digest shown last stored spots event.verifier next world did) waits (on tt) scheduled)
+        (further last stored spots pending (same_step wide longest digest shown last stored spots event.verifier next world did) waits (on tt) scheduled)

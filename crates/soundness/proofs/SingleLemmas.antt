@@ -1,11 +1,10 @@
 -- A record that comes in with its element, goes out with one, or is read or written, keeps the world.
-use Rattle.std.proofs.Common.{◌≡◌, ◌≢◌, ◌⊎◌, ℕ, Bool, true, false, List, length, Option, Some, None, eqb, refl, sym, ◌∙◌, ap, subst, inl, inr, if◌then◌else◌, arith}
+use Rattle.std.proofs.Common.{◌≡◌, ◌≢◌, ◌⊎◌, ℕ, Bool, true, false, List, Option, Some, None, eqb, refl, sym, ◌∙◌, ap, subst, inl, inr, if◌then◌else◌}
 use Rattle.std.specs.Map.{update}
 use Rattle.std.proofs.lemmas.Bool.{false≢true, true≢false, eq-eqb, ne_eqb, cases_eq}
 use Rattle.std.proofs.lemmas.Map.{update_same, update_other}
-use Rattle.tree_keys.specs.Bits.{bits_of, number_of}
-use Rattle.tree_keys.proofs.BitsLaws.{bits_of-number_of}
-use Rattle.tree_keys.specs.Path.{IsData}
+use Rattle.tree_keys.specs.Path.{IsIn, IsData, key_path, key_of}
+use Rattle.tree_keys.proofs.TreeLaws.{data-no_node, key_path-of}
 use Rattle.record_text.specs.declared.value.Value.{Value}
 use Rattle.record_text.specs.declared.value.Value.TheVariants as values
 use Rattle.record_text.specs.declared.element.Element.{Element}
@@ -40,16 +39,16 @@ taken_one last spots k spot not_merkle was path value is = go (this_or_other k p
     go (inr away) = was path value (sym (with_spot_other spots k path spot away) ∙ is)
 
 -- no data value changed
-holds_one : (stored : Stored) (spots : Spots) (k : List Bool) (spot : Spot) → blob_at spot ≡ blob_at (spots k)
-    → ((path : List Bool) → IsData path → blob_at (spots path) ≡ stored (number_of path))
-    → (path : List Bool) → IsData path → blob_at (with_spot spots k spot path) ≡ stored (number_of path)
-holds_one stored spots k spot same_blob was path wide = go (this_or_other k path)
+holds_one : (wide : Bool) (stored : Stored) (spots : Spots) (k : List Bool) (spot : Spot) → blob_at spot ≡ blob_at (spots k)
+    → ((path : List Bool) → IsIn wide path → IsData path → blob_at (spots path) ≡ stored (key_of path))
+    → (path : List Bool) → IsIn wide path → IsData path → blob_at (with_spot spots k spot path) ≡ stored (key_of path)
+holds_one wide stored spots k spot same_blob was path within whole = go (this_or_other k path)
   where
-    go : (k ≡ path) ⊎ (k ≢ path) → blob_at (with_spot spots k spot path) ≡ stored (number_of path)
+    go : (k ≡ path) ⊎ (k ≢ path) → blob_at (with_spot spots k spot path) ≡ stored (key_of path)
     go (inl same) =
         ap (λ (j : List Bool). blob_at (with_spot spots k spot j)) (sym same) ∙ ap blob_at (with_spot_at spots k spot) ∙ same_blob
-        ∙ ap (λ (j : List Bool). blob_at (spots j)) same ∙ was path wide
-    go (inr away) = ap blob_at (with_spot_other spots k path spot away) ∙ was path wide
+        ∙ ap (λ (j : List Bool). blob_at (spots j)) same ∙ was path within whole
+    go (inr away) = ap blob_at (with_spot_other spots k path spot away) ∙ was path within whole
 
 -- what waits elsewhere waits on
 keeps_one : (spots : Spots) (k : List Bool) (spot : Spot) → ((element : Element) → spots k ≡ waiting element → ⊥) → KeepsWaiting spots (with_spot spots k spot)
@@ -71,24 +70,25 @@ not_both hold is_b is_m = true≢false (ap by_element (sym is_b ∙ is_m))
 -- ---- in and out with an element
 
 -- the world behind a step that took the record of a path back, where what waited elsewhere waits on, and nothing else
-abbrev pub TookBack : ℕ → Digest → AllShown → LastEvicted → Stored → Spots → List Bool → Type 0
-TookBack longest digest shown last stored old k =
-    (spots : Spots) × IsWorld longest digest shown last stored spots × KeepsElsewhere k old spots
+abbrev pub TookBack : Bool → ℕ → Digest → AllShown → LastEvicted → Stored → Spots → List Bool → Type 0
+TookBack wide longest digest shown last stored old k =
+    (spots : Spots) × IsWorld wide longest digest shown last stored spots × KeepsElsewhere k old spots
     × ((path : List Bool) (element : Element) → spots path ≡ waiting element → (k ≢ path) × (old path ≡ waiting element))
 
 -- A record comes in with the element that it waits with.
-pub come_step : (longest : ℕ) (digest : Digest) (shown : AllShown) (last : LastEvicted) (stored : Stored) (spots : Spots) (home : ℕ) (next : Shown) (child : Entry) (element : Element)
-    → IsWorld longest digest shown last stored spots → DidAddB longest (shown home) next child element
+pub come_step : (wide : Bool) (longest : ℕ) (digest : Digest) (shown : AllShown) (last : LastEvicted) (stored : Stored) (spots : Spots) (home : ℕ) (next : Shown) (child : Entry) (element : Element)
+    → IsWorld wide longest digest shown last stored spots → DidAddB longest (shown home) next child element
     → spots element.path ≡ waiting element
-    → TookBack longest digest (with_shown shown home next) last stored spots element.path
-come_step longest digest shown last stored spots home next child element world did waits = (
+    → TookBack wide longest digest (with_shown shown home next) last stored spots element.path
+come_step wide longest digest shown last stored spots home next child element world did waits = (
   with_spot spots k (cached home child),
-  world_one longest digest shown last last stored stored spots home next k (cached home child) world
+  world_one wide longest digest shown last last stored stored spots home next k (cached home child) world
       (one_moves longest digest spots (with_spot spots k (cached home child)) k (cached home child) moves world.tree)
+      (world.within k (ap is_touched was))
       (subst (λ (e : Option Entry). ShowSame next (showing_of e)) (sym (cached_here home child)) did.shown)
       (λ other away. cached_elsewhere home other child away ∙ ap (cached_in other) (sym was))
       (taken_one last spots k (cached home child) refl world.was_evicted)
-      (holds_one stored spots k (cached home child) (ap blob_of value_is ∙ ap blob_at (sym was)) world.holds),
+      (holds_one wide stored spots k (cached home child) (ap blob_of value_is ∙ ap blob_at (sym was)) world.holds),
   λ path other apart there. with_spot_other spots k path (cached home child) (λ same. apart (sym path_is ∙ same)) ∙ there,
   λ path other there. (
     λ same. not_waiting (with_spot spots k (cached home child) path) (cached home child) other
@@ -136,18 +136,19 @@ come_step longest digest shown last stored spots home next child element world d
         led false (Some other) kept leads = absurd leads
 
 -- A record goes out with an element.
-pub go_step : (longest : ℕ) (digest : Digest) (shown : AllShown) (last : LastEvicted) (stored : Stored) (spots : Spots) (home : ℕ) (next : Shown) (child : Entry) (element : Element)
-    → IsWorld longest digest shown last stored spots → DidEvictB (shown home) next child element
-    → LeftAt longest digest (with_shown shown home next) last stored spots element.path (waiting element)
-go_step longest digest shown last stored spots home next child element world did =
-    subst (λ (i : List Bool). LeftAt longest digest (with_shown shown home next) last stored spots i (waiting element)) (sym did.path) (
+pub go_step : (wide : Bool) (longest : ℕ) (digest : Digest) (shown : AllShown) (last : LastEvicted) (stored : Stored) (spots : Spots) (home : ℕ) (next : Shown) (child : Entry) (element : Element)
+    → IsWorld wide longest digest shown last stored spots → DidEvictB (shown home) next child element
+    → LeftAt wide longest digest (with_shown shown home next) last stored spots element.path (waiting element)
+go_step wide longest digest shown last stored spots home next child element world did =
+    subst (λ (i : List Bool). LeftAt wide longest digest (with_shown shown home next) last stored spots i (waiting element)) (sym did.path) (
       with_spot spots child.path (waiting element),
-      world_one longest digest shown last last stored stored spots home next child.path (waiting element) world
+      world_one wide longest digest shown last last stored stored spots home next child.path (waiting element) world
           (one_moves longest digest spots (with_spot spots child.path (waiting element)) child.path (waiting element) moves world.tree)
+          (world.within child.path (ap is_touched was))
           did.shown
           (λ other away. sym (ap (cached_in other) was ∙ cached_elsewhere home other child away))
           (taken_one last spots child.path (waiting element) refl world.was_evicted)
-          (holds_one stored spots child.path (waiting element) (ap blob_of did.value ∙ ap blob_at (sym was)) world.holds),
+          (holds_one wide stored spots child.path (waiting element) (ap blob_of did.value ∙ ap blob_at (sym was)) world.holds),
       keeps_one spots child.path (waiting element) (λ other waits. not_waiting (spots child.path) (cached home child) other was refl waits),
       with_spot_at spots child.path (waiting element),
       one_since spots child.path (waiting element),
@@ -176,11 +177,11 @@ go_step longest digest shown last stored spots home next child element world did
 -- ---- read and written
 
 -- Caches that show the same have the same world.
-pub same_step : (longest : ℕ) (digest : Digest) (shown : AllShown) (last : LastEvicted) (stored : Stored) (spots : Spots) (home : ℕ) (next : Shown)
-    → IsWorld longest digest shown last stored spots → ShowSame next (shown home)
-    → IsWorld longest digest (with_shown shown home next) last stored spots
-same_step longest digest shown last stored spots home next world same =
-    record { tree = world.tree; shows = shows; was_evicted = world.was_evicted; holds = world.holds }
+pub same_step : (wide : Bool) (longest : ℕ) (digest : Digest) (shown : AllShown) (last : LastEvicted) (stored : Stored) (spots : Spots) (home : ℕ) (next : Shown)
+    → IsWorld wide longest digest shown last stored spots → ShowSame next (shown home)
+    → IsWorld wide longest digest (with_shown shown home next) last stored spots
+same_step wide longest digest shown last stored spots home next world same =
+    record { tree = world.tree; within = world.within; shows = shows; was_evicted = world.was_evicted; holds = world.holds }
   where
     shows : (other : ℕ) (path : List Bool) → with_shown shown home next other path ≡ cached_in other (spots path)
     shows other path = go (cases_eq other home)
@@ -192,31 +193,33 @@ same_step longest digest shown last stored spots home next world same =
         go (inr apart) = ap (λ (b : Bool). (if b then next else shown other) path) (ne_eqb other home apart) ∙ world.shows other path
 
 -- What is read is the plain map's.
-pub read_value : (longest : ℕ) (digest : Digest) (shown : AllShown) (last : LastEvicted) (stored : Stored) (spots : Spots) (home : ℕ) (next : Shown) (entry : Entry)
-    → IsWorld longest digest shown last stored spots → DidGet (shown home) next entry
-    → blob_of entry.value ≡ stored (number_of entry.path)
-read_value longest digest shown last stored spots home next entry world did =
-    ap blob_at (sym (spot_of_shown home (spots entry.path) entry (sym (world.shows home entry.path) ∙ did.had))) ∙ world.holds entry.path did.at_data
+pub read_value : (wide : Bool) (longest : ℕ) (digest : Digest) (shown : AllShown) (last : LastEvicted) (stored : Stored) (spots : Spots) (home : ℕ) (next : Shown) (entry : Entry)
+    → IsWorld wide longest digest shown last stored spots → DidGet (shown home) next entry
+    → blob_of entry.value ≡ stored (key_of entry.path)
+read_value wide longest digest shown last stored spots home next entry world did =
+    let was : spots entry.path ≡ cached home entry = spot_of_shown home (spots entry.path) entry (sym (world.shows home entry.path) ∙ did.had) in
+    ap blob_at (sym was) ∙ world.holds entry.path (world.within entry.path (ap is_touched was)) did.at_data
 
 -- a data path's value has no pointers
 data_bare : (longest : ℕ) (path : List Bool) (value : Value) (on : Bool) → IsData path → IsOf longest path value → side_of (node_of value) on ≡ None
-data_bare longest path (values.Blob blob) on wide kind = refl
-data_bare longest path (values.Node held) on wide kind = absurd (omega (arith, kind.0))
+data_bare longest path (values.Blob blob) on whole kind = refl
+data_bare longest path (values.Node held) on whole kind = absurd (data-no_node path whole kind.0)
 
--- a path is had back from its number
-one_number : (p q : List Bool) → length p ≡ length q → number_of p ≡ number_of q → p ≡ q
-one_number p q wide same =
-    sym (bits_of-number_of p) ∙ ap (λ (n : ℕ). bits_of n (number_of p)) wide ∙ ap (bits_of (length q)) same ∙ bits_of-number_of q
+-- a data path of a tree is had back from its key
+one_key : (wide : Bool) (p q : List Bool) → IsIn wide p → IsIn wide q → IsData p → IsData q → key_of p ≡ key_of q → p ≡ q
+one_key wide p q within also whole full same =
+    sym (key_path-of wide p within whole) ∙ ap (key_path wide) same ∙ key_path-of wide q also full
 
 -- A data value is written, in the cache and in the plain map.
-pub write_step : (longest : ℕ) (digest : Digest) (shown : AllShown) (last : LastEvicted) (stored : Stored) (spots : Spots) (home : ℕ) (next : Shown) (before after : Entry)
-    → IsWorld longest digest shown last stored spots → DidPut longest (shown home) next before after
-    → WorldAfter longest digest (with_shown shown home next) last (update eqb stored (number_of after.path) (blob_of after.value)) spots
-write_step longest digest shown last stored spots home next before after world did =
-    subst (λ (a : Entry). WorldAfter longest digest (with_shown shown home next) last (update eqb stored (number_of a.path) (blob_of a.value)) spots) (sym did.wrote) (
+pub write_step : (wide : Bool) (longest : ℕ) (digest : Digest) (shown : AllShown) (last : LastEvicted) (stored : Stored) (spots : Spots) (home : ℕ) (next : Shown) (before after : Entry)
+    → IsWorld wide longest digest shown last stored spots → DidPut longest (shown home) next before after
+    → WorldAfter wide longest digest (with_shown shown home next) last (update eqb stored (key_of after.path) (blob_of after.value)) spots
+write_step wide longest digest shown last stored spots home next before after world did =
+    subst (λ (a : Entry). WorldAfter wide longest digest (with_shown shown home next) last (update eqb stored (key_of a.path) (blob_of a.value)) spots) (sym did.wrote) (
       with_spot spots before.path spot,
-      world_one longest digest shown last last stored (update eqb stored (number_of before.path) (blob_of did.value)) spots home next before.path spot world
+      world_one wide longest digest shown last last stored (update eqb stored (key_of before.path) (blob_of did.value)) spots home next before.path spot world
           (one_moves longest digest spots (with_spot spots before.path spot) before.path spot moves world.tree)
+          (world.within before.path (ap is_touched was))
           (subst (λ (e : Option Entry). ShowSame next (showing (shown home) before.path e)) (ap Some did.wrote ∙ sym (cached_here home now)) did.shown)
           (λ other away. cached_elsewhere home other now away ∙ sym (ap (cached_in other) was ∙ cached_elsewhere home other before away))
           (taken_one last spots before.path spot refl world.was_evicted)
@@ -250,15 +253,15 @@ write_step longest digest shown last stored spots home next before after world d
       of_kind = (refl, did.kind);
     }
 
-    holds : (path : List Bool) → IsData path
-        → blob_at (with_spot spots before.path spot path) ≡ update eqb stored (number_of before.path) (blob_of did.value) (number_of path)
-    holds path wide = go (this_or_other before.path path)
+    holds : (path : List Bool) → IsIn wide path → IsData path
+        → blob_at (with_spot spots before.path spot path) ≡ update eqb stored (key_of before.path) (blob_of did.value) (key_of path)
+    holds path within whole = go (this_or_other before.path path)
       where
-        go : (before.path ≡ path) ⊎ (before.path ≢ path) → blob_at (with_spot spots before.path spot path) ≡ update eqb stored (number_of before.path) (blob_of did.value) (number_of path)
+        go : (before.path ≡ path) ⊎ (before.path ≢ path) → blob_at (with_spot spots before.path spot path) ≡ update eqb stored (key_of before.path) (blob_of did.value) (key_of path)
         go (inl same) =
             ap (λ (j : List Bool). blob_at (with_spot spots before.path spot j)) (sym same) ∙ ap blob_at (with_spot_at spots before.path spot)
-            ∙ sym (update_same eqb stored (number_of before.path) (blob_of did.value) (number_of path) (eq-eqb _ _ (ap number_of same)))
+            ∙ sym (update_same eqb stored (key_of before.path) (blob_of did.value) (key_of path) (eq-eqb _ _ (ap key_of same)))
         go (inr away) =
-            ap blob_at (with_spot_other spots before.path path spot away) ∙ world.holds path wide
-            ∙ sym (update_other eqb stored (number_of before.path) (blob_of did.value) (number_of path)
-            (ne_eqb _ _ (λ same. away (one_number before.path path (did.at_data ∙ sym wide) same))))
+            ap blob_at (with_spot_other spots before.path path spot away) ∙ world.holds path within whole
+            ∙ sym (update_other eqb stored (key_of before.path) (blob_of did.value) (key_of path)
+            (ne_eqb _ _ (λ same. away (one_key wide before.path path (world.within before.path (ap is_touched was)) within did.at_data whole same))))

@@ -2,6 +2,7 @@
 use Rattle.std.proofs.Common.{◌≡◌, ℕ, zero, suc, ◌-◌, ◌==◌, Bool, true, false, List, [], ◌∷◌, Some, if◌then◌else◌, refl, sym, ap, subst}
 use Rattle.std.specs.List.{AllByRecursion}
 use Rattle.lamport_clocks.specs.declared.header.Header.{Header}
+use Rattle.record_text.specs.Tree.{wide_of}
 use Rattle.log_codec.specs.declared.slot_command.SlotCommand.{SlotCommand}
 use Rattle.merkle_records.specs.Scheme.{Scheme}
 use Rattle.verifier_cache.specs.declared.entry.Entry.{Entry}
@@ -30,8 +31,9 @@ opening_standing : (number : ℕ) (header : Header) → standing_in (slot_openin
 opening_standing number header = go (number == 0)
   where
     go : (b : Bool)
-        → standing_in (if b then Some root_entry ∷ empty_slots (header.cache - 1) else empty_slots header.cache) ≡ (if b then root_entry ∷ [] else [])
-    go true = ap (λ (more : List Entry). root_entry ∷ more) (none_standing (header.cache - 1))
+        → standing_in (if b then Some (root_entry (wide_of header)) ∷ empty_slots (header.cache - 1) else empty_slots header.cache)
+        ≡ (if b then root_entry (wide_of header) ∷ [] else [])
+    go true = ap (λ (more : List Entry). root_entry (wide_of header) ∷ more) (none_standing (header.cache - 1))
     go false = none_standing header.cache
 
 -- so they show the same

@@ -1,9 +1,10 @@
 -- Each accepted command that names slots is lawful: it did what its change tells, and where its add was of a path that stood
 -- in no slot, no path stands in two slots after it.
 use Rattle.std.proofs.Common.{◌≡◌, ◌≢◌, ℕ, ◌<◌, Bool, false, not, nat_le, List, length, Option, Some, None, is_some, Ok, refl, sym, ◌∙◌, ap, subst}
-use Rattle.std.proofs.lemmas.Bool.{ltb-true, eqb-true, not-false}
+use Rattle.std.proofs.lemmas.Bool.{ltb-true, not-false}
 use Rattle.std.proofs.lemmas.Result.{IfOk-at_ok}
 use Rattle.tree_keys.specs.Path.{IsData, is_data}
+use Rattle.tree_keys.proofs.TreeLaws.{is-data}
 use Rattle.lamport_clocks.specs.declared.stamp.Stamp.{Stamp}
 use Rattle.lamport_clocks.specs.Clock.{received, sent, advanced}
 use Rattle.base_words.proofs.StepLaws.{test-ok}
@@ -48,9 +49,9 @@ IsSlotLawful rules state done = IsLawful rules.scheme.format.longest rules.schem
 within_slots : (state : SlotState) (slot : ℕ) → not (is_slot state.slots slot) ≡ false → slot < length state.slots
 within_slots state slot is = ltb-true slot (length state.slots) (not-false _ is)
 
--- the test of a data path tells its length
+-- the test of a data path tells that it is one
 at_data : (path : List Bool) → not (is_data path) ≡ false → IsData path
-at_data path is = eqb-true _ _ (not-false _ is)
+at_data path is = is-data path (not-false _ is)
 
 -- ---- a parent with its child
 

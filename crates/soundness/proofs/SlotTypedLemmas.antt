@@ -1,5 +1,5 @@
 -- What is read as a command that names slots is typed, whatever the numbers.
-use Rattle.std.proofs.Common.{◌≡◌, ℕ, ◌==◌, List, Ok, Err}
+use Rattle.std.proofs.Common.{◌≡◌, ℕ, ◌==◌, Bool, List, Ok, Err}
 use Rattle.record_text.specs.declared.reader.TextFault.TheVariants.{Malformed}
 use Rattle.record_text.specs.Fields.{Parsed}
 use Rattle.record_text.specs.Reading.{path_at, value_at, blob_at, stamp_at, u16_at}
@@ -15,13 +15,13 @@ slot_first : (longest : ℕ) (second : ℕ → List ℕ → Parsed SlotCommand) 
     → ReadsTyped (IsSlotTyped longest) (λ bytes. then_at (u16_at bytes) second)
 slot_first longest second next = typed_then (IsSlotTyped longest) u16_at second (λ bytes slot left e. next slot)
 
-add_m_typed : (longest : ℕ) → ReadsTyped (IsSlotTyped longest) (add_m_at longest)
-add_m_typed longest =
+add_m_typed : (wide : Bool) (longest : ℕ) → ReadsTyped (IsSlotTyped longest) (add_m_at wide longest)
+add_m_typed wide longest =
     slot_first longest
-    (λ slot left. then_at (path_at left) (λ path left. then_at (value_at longest path left) (λ value left.
+    (λ slot left. then_at (path_at wide left) (λ path left. then_at (value_at longest path left) (λ value left.
     then_at (u16_at left) (λ parent rest. Ok (AddM slot path value parent, rest)))))
     (λ slot.
-    typed_of (IsSlotTyped longest) longest
+    typed_of (IsSlotTyped longest) wide longest
     (λ path value left. then_at (u16_at left) (λ parent rest. Ok (AddM slot path value parent, rest)))
     (λ path value kind.
     typed_then (IsSlotTyped longest) u16_at (λ parent rest. Ok (AddM slot path value parent, rest)) (λ bytes parent left e.
@@ -34,13 +34,13 @@ evict_m_typed longest =
     slot_first longest (λ parent rest. Ok (EvictM slot parent, rest))
     (λ parent. typed_done (IsSlotTyped longest) (EvictM slot parent) tt))
 
-add_b_typed : (longest : ℕ) → ReadsTyped (IsSlotTyped longest) (add_b_at longest)
-add_b_typed longest =
+add_b_typed : (wide : Bool) (longest : ℕ) → ReadsTyped (IsSlotTyped longest) (add_b_at wide longest)
+add_b_typed wide longest =
     slot_first longest
-    (λ slot left. then_at (path_at left) (λ path left. then_at (value_at longest path left) (λ value left.
+    (λ slot left. then_at (path_at wide left) (λ path left. then_at (value_at longest path left) (λ value left.
     then_at (stamp_at left) (λ stamp left. then_at (u16_at left) (λ verifier rest. Ok (AddB slot path value stamp verifier, rest))))))
     (λ slot.
-    typed_of (IsSlotTyped longest) longest
+    typed_of (IsSlotTyped longest) wide longest
     (λ path value left. then_at (stamp_at left) (λ stamp left.
     then_at (u16_at left) (λ verifier rest. Ok (AddB slot path value stamp verifier, rest))))
     (λ path value kind.
@@ -80,11 +80,11 @@ put_typed longest =
     typed_then (IsSlotTyped longest) (blob_at longest) (λ value rest. Ok (Put slot value, rest)) (λ bytes value left e.
     typed_done (IsSlotTyped longest) (Put slot value) (blob_at-fits longest bytes value left e)))
 
-behind_typed : (longest : ℕ) (tag : ℕ) → ReadsTyped (IsSlotTyped longest) (slot_command_behind longest tag)
-behind_typed longest tag =
-    typed_if (IsSlotTyped longest) (tag == 1) (add_m_at longest) _ (add_m_typed longest)
+behind_typed : (wide : Bool) (longest : ℕ) (tag : ℕ) → ReadsTyped (IsSlotTyped longest) (slot_command_behind wide longest tag)
+behind_typed wide longest tag =
+    typed_if (IsSlotTyped longest) (tag == 1) (add_m_at wide longest) _ (add_m_typed wide longest)
     (typed_if (IsSlotTyped longest) (tag == 2) evict_m_at _ (evict_m_typed longest)
-    (typed_if (IsSlotTyped longest) (tag == 3) (add_b_at longest) _ (add_b_typed longest)
+    (typed_if (IsSlotTyped longest) (tag == 3) (add_b_at wide longest) _ (add_b_typed wide longest)
     (typed_if (IsSlotTyped longest) (tag == 4) evict_b_at _ (evict_b_typed longest)
     (typed_if (IsSlotTyped longest) (tag == 5) evict_bm_at _ (evict_bm_typed longest)
     (typed_if (IsSlotTyped longest) (tag == 6) (get_at longest) _ (get_typed longest)
@@ -94,8 +94,8 @@ behind_typed longest tag =
     (λ bytes command rest e. absurd (cc)))))))))
 
 -- What is read as a command that names slots is typed.
-pub slot_command_typed : (longest : ℕ) (bytes : List ℕ) (command : SlotCommand) (rest : List ℕ)
-    → slot_command_at longest bytes ≡ Ok (command, rest) → IsSlotTyped longest command
+pub slot_command_typed : (wide : Bool) (longest : ℕ) (bytes : List ℕ) (command : SlotCommand) (rest : List ℕ)
+    → slot_command_at wide longest bytes ≡ Ok (command, rest) → IsSlotTyped longest command
 unfolding slot_command_at
-slot_command_typed longest bytes command rest e =
-    typed_tagged (IsSlotTyped longest) (λ tag left. slot_command_behind longest tag left) (behind_typed longest) bytes command rest e
+slot_command_typed wide longest bytes command rest e =
+    typed_tagged (IsSlotTyped longest) (λ tag left. slot_command_behind wide longest tag left) (behind_typed wide longest) bytes command rest e

@@ -5,7 +5,8 @@ use Rattle.std.specs.List.{AllByRecursion}
 use Rattle.std.proofs.lemmas.Bool.{leb-true}
 use Rattle.lamport_clocks.specs.declared.header.Header.{Header}
 use Rattle.record_text.specs.declared.element.Element.{Element}
-use Rattle.record_text.proofs.OneTextLaws.{one_value}
+use Rattle.record_text.proofs.OneTextLaws.{one_value_at}
+use Rattle.record_text.specs.Tree.{wide_of}
 use Rattle.record_text.specs.Longest.{longest_blob}
 use Rattle.log_codec.specs.declared.command.Command.{Command}
 use Rattle.log_codec.specs.declared.log_command.LogCommand.{LogCommand}
@@ -25,10 +26,10 @@ use Rattle.soundness.specs.PathHistory.{path_histories_of}
 use Rattle.soundness.specs.IsHistory.{AreHistories}
 use Rattle.soundness.specs.Sound.{AreBalanced, IsSerialOrCollides}
 use Rattle.soundness.specs.Permutation.{count_of}
-use Rattle.soundness.specs.Spot.{untouched, waiting}
+use Rattle.soundness.specs.Spot.{waiting}
 use Rattle.soundness.specs.Showing.{opening_shown}
 use Rattle.soundness.specs.World.{IsWaiting}
-use Rattle.soundness.proofs.JoinLemmas.{not_waiting}
+use Rattle.soundness.proofs.JoinLemmas.{is_waiting, not_waiting}
 use Rattle.soundness.proofs.KnownLemmas.{HasOneText}
 use Rattle.soundness.proofs.PermutationLaws.{count_permuted}
 use Rattle.soundness.proofs.SerialLemmas.{run_keeps, Collides as CollidesAt, IsSound}
@@ -36,13 +37,13 @@ use Rattle.soundness.proofs.ScheduleLemmas.{AreEven, scheduled}
 use Rattle.soundness.proofs.PathHistoryLaws.{path_logs_histories}
 use Rattle.soundness.proofs.LogHistoryLemmas.{logs_histories}
 use Rattle.soundness.proofs.OrderLemmas.{are_timely, order_run, order_timed, order_sorted, order_splits}
-use Rattle.soundness.proofs.OpeningLemmas.{opening_spots, opening_world}
+use Rattle.soundness.proofs.OpeningLemmas.{opening_spots, opening_cases, opening_world}
 use Rattle.soundness.proofs.CertifiedLaws.{same_sum-true, even_where_none, uneven_where_some}
 
 -- no two values of a path have one text
 pub one_text : HasOneText longest_blob
 one_text path a b is_a is_b same =
-    (one_value longest_blob path path a b [] [] refl is_a is_b (ap (λ (text : List ℕ). text ++ []) same)).0
+    (one_value_at longest_blob path a b [] [] is_a is_b (ap (λ (text : List ℕ). text ++ []) same)).0
 
 -- events up to an epoch are of no later one
 pub all_within : (epoch : ℕ) (events : List Event) → AllByRecursion (λ event. event.at.epoch ≤ epoch) (up_to event_moment epoch events)
@@ -55,12 +56,13 @@ all_within epoch (event ∷ events) = go (nat_le event.at.epoch epoch) refl (all
     go false is further = further
 
 -- nothing waits at the opening
-pub none_waiting : IsWaiting opening_spots []
-none_waiting = record { each = λ x there. absurd (omega (arith, there)); once = λ x. omega arith; only = only }
+pub none_waiting : (wide : Bool) → IsWaiting (opening_spots wide) []
+none_waiting wide = record { each = λ x there. absurd (omega (arith, there)); once = λ x. omega arith; only = only }
   where
-    only : (path : List Bool) (x : Element) → opening_spots path ≡ waiting x → 1 ≤ count_of x []
-    only [] x there = absurd (not_waiting (opening_spots []) (opening_spots []) x refl refl there)
-    only (bit ∷ path) x there = absurd (not_waiting (opening_spots (bit ∷ path)) untouched x refl refl there)
+    only : (path : List Bool) (x : Element) → opening_spots wide path ≡ waiting x → 1 ≤ count_of x []
+    only path x there =
+        absurd (not_waiting (opening_spots wide path) (opening_spots wide path) x refl
+        (opening_cases wide (λ path spot. is_waiting spot ≡ false) refl (λ path. refl) path) there)
 
 -- Of any histories.
 pub histories_sound : (functions : DigestFunctions) (header : Header) (histories : List (List Event)) (count : ℕ)
@@ -84,8 +86,8 @@ histories_sound functions header histories count digests are balanced = by (firs
         → CollidesAt functions.digest none_evicted (order_up_to (header.first + n) histories) ⊎ IsSound none_evicted none_everywhere (order_up_to (header.first + n) histories)
     runs n even =
         let split = order_splits (header.first + n) histories in
-        run_keeps longest_blob functions.digest one_text digests (order_up_to (header.first + n) histories) (opening_shown header) none_evicted none_everywhere opening_spots []
-        (opening_world functions.digest header) none_waiting
+        run_keeps (wide_of header) longest_blob functions.digest one_text digests (order_up_to (header.first + n) histories) (opening_shown header) none_evicted none_everywhere (opening_spots (wide_of header)) []
+        (opening_world functions.digest header) (none_waiting (wide_of header))
         (order_run header longest_blob functions.digest histories (header.first + n) are)
         (scheduled header.first (header.first + n) (order_up_to (header.first + n) histories) split.0
         (all_within (header.first + n) order)

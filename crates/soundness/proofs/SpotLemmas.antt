@@ -1,12 +1,13 @@
 -- Behind each front of a run that shows no clash, the spots agree with what the front left, and what comes next takes
 -- what is there.
-use Rattle.std.proofs.Common.{◌≡◌, ◌⊎◌, ℕ, List, [], ◌∷◌, ◌++◌, Option, Some, None, refl, sym, ◌∙◌, ap, subst, inl, inr}
+use Rattle.std.proofs.Common.{◌≡◌, ◌⊎◌, ℕ, Bool, List, [], ◌∷◌, ◌++◌, Option, Some, None, refl, sym, ◌∙◌, ap, subst, inl, inr}
 use Rattle.record_hash.specs.Functions.{DigestFunctions}
 use Rattle.std.specs.Option.{unwrap_or, option_or}
 use Rattle.std.proofs.lemmas.Option.{none-some}
 use Rattle.lamport_clocks.specs.declared.header.Header.{Header}
 use Rattle.record_text.specs.declared.element.Element.{Element}
 use Rattle.record_text.specs.declared.operation.Operation.{Operation}
+use Rattle.record_text.specs.Tree.{wide_of}
 use Rattle.record_text.specs.Longest.{longest_blob}
 use Rattle.merkle_records.specs.Merkle.{Digest, GivesDigests}
 use Rattle.stamp_order.specs.Serial.{none_everywhere, map_after}
@@ -58,18 +59,18 @@ no_clash_front last (first ∷ front) event free =
 -- ---- one step
 
 -- a world behind a step in which these wait, of whom this holds
-abbrev Moved : ℕ → Digest → AllShown → LastEvicted → Stored → List Element → (List Element → Type 0) → Type 0
-Moved longest digest shown last stored pending behind =
-    (spots : Spots) × IsWorld longest digest shown last stored spots × IsWaiting spots pending × behind pending
+abbrev Moved : Bool → ℕ → Digest → AllShown → LastEvicted → Stored → List Element → (List Element → Type 0) → Type 0
+Moved wide longest digest shown last stored pending behind =
+    (spots : Spots) × IsWorld wide longest digest shown last stored spots × IsWaiting spots pending × behind pending
 
-module _ (longest : ℕ) (digest : Digest) (one : HasOneText longest) where
+module _ (wide : Bool) (longest : ℕ) (digest : Digest) (one : HasOneText longest) where
   -- A step that shows no clash keeps the world, and its change tells what was last evicted and stored, and what waits.
   moved : GivesDigests digest → (event : Event) (shown : AllShown) (next : Shown) (last : LastEvicted) (stored : Stored)
       (spots : Spots) (pending : List Element) (behind : List Element → Type 0)
-      → IsWorld longest digest shown last stored spots → IsWaiting spots pending
+      → IsWorld wide longest digest shown last stored spots → IsWaiting spots pending
       → (change : Change) → HasDone longest digest (shown event.verifier) next change
       → IsScheduledBy pending change behind → clash_of last change ≡ None
-      → Moved longest digest (with_shown shown event.verifier next) (last_evicted_after last change)
+      → Moved wide longest digest (with_shown shown event.verifier next) (last_evicted_after last change)
       (stored_behind stored (operations_by event change)) (pending_after pending change) behind
   moved digests event shown next last stored spots pending behind world waits = go
     where
@@ -77,11 +78,11 @@ module _ (longest : ℕ) (digest : Digest) (one : HasOneText longest) where
       home = event.verifier
 
       After : LastEvicted → Stored → List Element → Type 0
-      After last stored pending = Moved longest digest (with_shown shown home next) last stored pending behind
+      After last stored pending = Moved wide longest digest (with_shown shown home next) last stored pending behind
 
       joined : (parent after child : Entry) → behind pending → clash_of last (did_add_m parent after child) ≡ None
           → Clashes digest last (did_add_m parent after child)
-          ⊎ Passes longest digest (with_shown shown home next) last last stored spots (did_add_m parent after child)
+          ⊎ Passes wide longest digest (with_shown shown home next) last last stored spots (did_add_m parent after child)
           → After last stored pending
       joined parent after child scheduled free (inl clashes) = absurd (none-some clashes.0 (sym free ∙ clashes.1))
       joined parent after child scheduled free (inr passes) =
@@ -90,10 +91,10 @@ module _ (longest : ℕ) (digest : Digest) (one : HasOneText longest) where
 
       went : (child : Entry) (element : Element) → shown home child.path ≡ Some child → element.path ≡ child.path
           → behind (element ∷ pending)
-          → LeftAt longest digest (with_shown shown home next) last stored spots element.path (waiting element)
+          → LeftAt wide longest digest (with_shown shown home next) last stored spots element.path (waiting element)
           → After last stored (element ∷ pending)
       went child element had path scheduled left =
-          let free = free_at longest digest shown last stored spots home child element world had path in
+          let free = free_at wide longest digest shown last stored spots home child element world had path in
           (left.0, left.1, wait_more spots left.0 pending element left.2 left.3 left.4 free waits, scheduled)
 
       go : (change : Change) → HasDone longest digest (shown home) next change → IsScheduledBy pending change behind
@@ -101,40 +102,40 @@ module _ (longest : ℕ) (digest : Digest) (one : HasOneText longest) where
           → After (last_evicted_after last change) (stored_behind stored (operations_by event change)) (pending_after pending change)
       go (did_add_m parent after child) did scheduled free =
           joined parent after child scheduled free
-          (join_step longest digest shown last stored spots home next parent after child one digests world did)
+          (join_step wide longest digest shown last stored spots home next parent after child one digests world did)
       go (did_evict_m parent after child) did scheduled free =
-          let now = leave_step longest digest shown last stored spots home next parent after child digests world did in
+          let now = leave_step wide longest digest shown last stored spots home next parent after child digests world did in
           (now.0, now.1, wait_on spots now.0 pending now.2 now.3 waits, scheduled)
       go (did_add_b child element) did scheduled free =
           let there = waits.each element (waits_once_out element pending scheduled.0 scheduled.1) in
-          let back = come_step longest digest shown last stored spots home next child element world did there in
+          let back = come_step wide longest digest shown last stored spots home next child element world did there in
           let left = wait_less spots back.0 pending scheduled.0 element scheduled.1 back.2 back.3
-          (waits_own longest digest shown last stored spots world) waits in
+          (waits_own wide longest digest shown last stored spots world) waits in
           let out = ap (λ (rest : Option (List Element)). unwrap_or rest pending) scheduled.1 in
           subst (After last stored) (sym out) (back.0, back.1, left, scheduled.2)
       go (did_evict_b child element) did scheduled free =
           went child element did.had_child did.path scheduled
-          (go_step longest digest shown last stored spots home next child element world did)
+          (go_step wide longest digest shown last stored spots home next child element world did)
       go (did_evict_bm parent after child element) did scheduled free =
           went child element did.had_child did.path scheduled
-          (defer_step longest digest shown last stored spots home next parent after child element world did)
+          (defer_step wide longest digest shown last stored spots home next parent after child element world did)
       go (did_get entry) did scheduled free =
-          let same = same_step longest digest shown last stored spots home next world did.shown in
+          let same = same_step wide longest digest shown last stored spots home next world did.shown in
           (spots, same, waits, scheduled)
       go (did_put before after) did scheduled free =
-          let now = write_step longest digest shown last stored spots home next before after world did in
+          let now = write_step wide longest digest shown last stored spots home next before after world did in
           (now.0, now.1, wait_on spots now.0 pending now.2 now.3 waits, scheduled)
       go (did_next_epoch sealed) did scheduled free =
-          (spots, same_step longest digest shown last stored spots home next world did, waits, scheduled)
+          (spots, same_step wide longest digest shown last stored spots home next world did, waits, scheduled)
 
 -- ---- a front
 
 -- What stands behind a front: a world whose caches show what is told and in which these wait, and the events that go
 -- on from there.
-record Stand (longest : ℕ) (digest : Digest) (told : AllShown) (last : LastEvicted) (stored : Stored)
+record Stand (wide : Bool) (longest : ℕ) (digest : Digest) (told : AllShown) (last : LastEvicted) (stored : Stored)
     (pending : List Element) (back : List Event) : Type 0 where
   spots : Spots
-  world : IsWorld longest digest told last stored spots
+  world : IsWorld wide longest digest told last stored spots
   waits : IsWaiting spots pending
   run : IsRun longest digest told back
   scheduled : IsScheduled pending back
@@ -148,22 +149,22 @@ abbrev pub AreFresh : AllShown → List Event → Type 0
 AreFresh told [] = Unit {0}
 AreFresh told (event ∷ events) = IsFresh (told event.verifier) event.change × AreFresh (told_behind told event) events
 
-module _ (longest : ℕ) (digest : Digest) (one : HasOneText longest) (digests : GivesDigests digest) where
+module _ (wide : Bool) (longest : ℕ) (digest : Digest) (one : HasOneText longest) (digests : GivesDigests digest) where
   -- what the next event adds isn't shown
   fresh_next : (event : Event) (back : List Event) (told : AllShown) (last : LastEvicted) (stored : Stored)
       (pending : List Element)
-      → Stand longest digest told last stored pending (event ∷ back) → clash_of last event.change ≡ None
+      → Stand wide longest digest told last stored pending (event ∷ back) → clash_of last event.change ≡ None
       → IsFresh (told event.verifier) event.change
   fresh_next event back told last stored pending stand free =
-      fresh_there longest digest told last stored stand.spots event.verifier stand.world event.change
-      (takes_there longest digest one event.verifier told (shown_after (told event.verifier) event.change) last stored stand.spots pending
+      fresh_there wide longest digest told last stored stand.spots event.verifier stand.world event.change
+      (takes_there wide longest digest one event.verifier told (shown_after (told event.verifier) event.change) last stored stand.spots pending
       (λ after. IsScheduled after back) stand.world stand.waits event.change stand.run.0 stand.scheduled free)
 
   -- One event on.
   stand_on : (event : Event) (back : List Event) (told : AllShown) (last : LastEvicted) (stored : Stored)
       (pending : List Element)
-      → Stand longest digest told last stored pending (event ∷ back) → clash_of last event.change ≡ None
-      → Stand longest digest (told_behind told event) (last_evicted_after last event.change)
+      → Stand wide longest digest told last stored pending (event ∷ back) → clash_of last event.change ≡ None
+      → Stand wide longest digest (told_behind told event) (last_evicted_after last event.change)
       (stored_behind stored (operations_by event event.change)) (pending_after pending event.change) back
   stand_on event back told last stored pending stand free = record {
     spots = now.0;
@@ -176,22 +177,22 @@ module _ (longest : ℕ) (digest : Digest) (one : HasOneText longest) (digests :
       next : Shown
       next = shown_after (told event.verifier) event.change
 
-      now : Moved longest digest (told_behind told event) (last_evicted_after last event.change)
+      now : Moved wide longest digest (told_behind told event) (last_evicted_after last event.change)
           (stored_behind stored (operations_by event event.change)) (pending_after pending event.change)
           (λ after. IsScheduled after back)
       now =
-          moved longest digest one digests event told next last stored stand.spots pending
+          moved wide longest digest one digests event told next last stored stand.spots pending
           (λ after. IsScheduled after back) stand.world stand.waits event.change stand.run.0 stand.scheduled free
 
   -- A whole front on, where it shows no clash.
   stand_behind : (front back : List Event) (told : AllShown) (last : LastEvicted) (stored : Stored) (pending : List Element)
-      → Stand longest digest told last stored pending (front ++ back) → first_clash last (changes_in front) ≡ None
-      → Stand longest digest (shown_behind told front) (last_evicted_behind last (changes_in front))
+      → Stand wide longest digest told last stored pending (front ++ back) → first_clash last (changes_in front) ≡ None
+      → Stand wide longest digest (shown_behind told front) (last_evicted_behind last (changes_in front))
       (stored_behind stored (operations_in front)) (pending_behind pending (changes_in front)) back
   stand_behind [] back told last stored pending stand free = stand
   stand_behind (event ∷ front) back told last stored pending stand free =
       subst (λ (s : Stored).
-      Stand longest digest (shown_behind now front) (last_evicted_behind now_taken (changes_in front)) s
+      Stand wide longest digest (shown_behind now front) (last_evicted_behind now_taken (changes_in front)) s
       (pending_behind now_pending (changes_in front)) back)
       (sym (stored_behind-append stored (operations_by event event.change) (operations_in front)))
       (stand_behind front back now now_taken (stored_behind stored (operations_by event event.change)) now_pending
@@ -211,7 +212,7 @@ module _ (longest : ℕ) (digest : Digest) (one : HasOneText longest) (digests :
 
   -- What the events of a front add isn't shown before them.
   fresh_behind : (front back : List Event) (told : AllShown) (last : LastEvicted) (stored : Stored) (pending : List Element)
-      → Stand longest digest told last stored pending (front ++ back) → first_clash last (changes_in front) ≡ None
+      → Stand wide longest digest told last stored pending (front ++ back) → first_clash last (changes_in front) ≡ None
       → AreFresh told front
   fresh_behind [] back told last stored pending stand free = tt
   fresh_behind (event ∷ front) back told last stored pending stand free =
@@ -226,7 +227,7 @@ module _ (longest : ℕ) (digest : Digest) (one : HasOneText longest) (digests :
 -- what stands behind a front of the merged order
 abbrev StandBehind : Digest → Header → List Event → List Event → Type 0
 StandBehind digest header front back =
-    Stand longest_blob digest (shown_behind (opening_shown header) front) (last_evicted_behind none_evicted (changes_in front))
+    Stand (wide_of header) longest_blob digest (shown_behind (opening_shown header) front) (last_evicted_behind none_evicted (changes_in front))
     (stored_behind none_everywhere (operations_in front)) (pending_behind [] (changes_in front)) back
 
 module _ (functions : DigestFunctions) (header : Header) (histories : List (List Event)) (last : ℕ) where
@@ -235,9 +236,9 @@ module _ (functions : DigestFunctions) (header : Header) (histories : List (List
       → ArePermuted header.first last (order_of histories)
       → StandBehind functions.digest header [] (order_up_to last histories)
   at_opening are permuted = record {
-    spots = opening_spots;
+    spots = opening_spots (wide_of header);
     world = opening_world functions.digest header;
-    waits = none_waiting;
+    waits = none_waiting (wide_of header);
     run = order_run header longest_blob functions.digest histories last are;
     scheduled = order_scheduled header histories last (are_timely longest_blob functions.digest header 0 histories are)
         permuted;
@@ -251,7 +252,7 @@ module _ (functions : DigestFunctions) (header : Header) (histories : List (List
       → first_clash none_evicted (changes_in front) ≡ None
       → StandBehind functions.digest header front back
   stand_at front back digests are permuted is free =
-      stand_behind longest_blob functions.digest one_text digests front back (opening_shown header) none_evicted none_everywhere []
+      stand_behind (wide_of header) longest_blob functions.digest one_text digests front back (opening_shown header) none_evicted none_everywhere []
       (subst (λ (l : List Event). StandBehind functions.digest header [] l) is (at_opening are permuted)) free
 
   -- the spots of a stand agree with what the front left
@@ -278,7 +279,7 @@ module _ (functions : DigestFunctions) (header : Header) (histories : List (List
       → first_clash none_evicted (changes_in front) ≡ None
       → AreFresh (opening_shown header) front
   all_fresh front back digests are permuted is free =
-      fresh_behind longest_blob functions.digest one_text digests front back (opening_shown header) none_evicted none_everywhere []
+      fresh_behind (wide_of header) longest_blob functions.digest one_text digests front back (opening_shown header) none_evicted none_everywhere []
       (subst (λ (l : List Event). StandBehind functions.digest header [] l) is (at_opening are permuted)) free
 
   -- The next event takes what is there.
@@ -293,7 +294,7 @@ module _ (functions : DigestFunctions) (header : Header) (histories : List (List
       let stand = stand_at front (event ∷ back) digests are permuted is parts.0 in (
         stand.spots,
         placed front (event ∷ back) stand,
-        takes_there longest_blob functions.digest one_text event.verifier (shown_behind (opening_shown header) front)
+        takes_there (wide_of header) longest_blob functions.digest one_text event.verifier (shown_behind (opening_shown header) front)
             (shown_after (shown_behind (opening_shown header) front event.verifier) event.change) _ _ stand.spots _
             (λ after. IsScheduled after back) stand.world stand.waits event.change stand.run.0 stand.scheduled
             parts.1,

@@ -1,9 +1,10 @@
 -- Commands whose values are of their paths' kinds. Whatever is read from a log is so.
-use Rattle.std.specs.Prelude.{ℕ, List}
+use Rattle.std.specs.Prelude.{ℕ, Bool, List}
 use Rattle.std.specs.List.{AllByRecursion}
 use Rattle.record_text.specs.Value.{IsOf, IsBlob}
 use Rattle.log_codec.specs.declared.command.Command.{Command}
 use Rattle.log_codec.specs.declared.command.Command.TheVariants as paths
+use Rattle.log_codec.specs.Command.{IsCommandIn}
 use Rattle.log_codec.specs.declared.slot_command.SlotCommand.{SlotCommand}
 use Rattle.log_codec.specs.declared.slot_command.SlotCommand.TheVariants as slots
 use Rattle.log_codec.specs.declared.log_command.LogCommand.{LogCommand}
@@ -42,3 +43,11 @@ AreTyped longest logs = AllByRecursion (AllByRecursion (IsTyped longest)) logs
 
 abbrev pub ArePathsTyped : ℕ → List (List Command) → Type 0
 ArePathsTyped longest logs = AllByRecursion (AllByRecursion (IsPathTyped longest)) logs
+
+-- a typed command that names paths of this tree alone
+abbrev pub IsPathTypedIn : Bool → ℕ → Command → Type 0
+IsPathTypedIn wide longest command = IsCommandIn wide command × IsPathTyped longest command
+
+-- the commands of each log are so
+abbrev pub ArePathsTypedIn : Bool → ℕ → List (List Command) → Type 0
+ArePathsTypedIn wide longest logs = AllByRecursion (AllByRecursion (IsPathTypedIn wide longest)) logs

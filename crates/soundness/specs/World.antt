@@ -1,12 +1,12 @@
 -- All caches together, what was last evicted and the plain map, and the spots that agree with them; and what events leave.
-use Rattle.std.specs.Prelude.{◌≡◌, ◌⊎◌, ℕ, ◌≤◌, ◌==◌, Bool, List, [], ◌∷◌, map, Option, Some, None, if◌then◌else◌}
+use Rattle.std.specs.Prelude.{◌≡◌, ◌⊎◌, ℕ, ◌≤◌, ◌==◌, Bool, true, List, [], ◌∷◌, map, Option, Some, None, if◌then◌else◌}
 use Rattle.std.specs.Option.{unwrap_or}
-use Rattle.tree_keys.specs.Bits.{number_of}
-use Rattle.tree_keys.specs.Path.{IsData}
+use Rattle.tree_keys.specs.Path.{IsIn, IsData, key_of}
 use Rattle.lamport_clocks.specs.declared.header.Header.{Header}
 use Rattle.record_text.specs.declared.value.Value.{Value}
 use Rattle.record_text.specs.declared.element.Element.{Element}
 use Rattle.record_text.specs.declared.operation.Operation.{Operation}
+use Rattle.record_text.specs.Tree.{wide_of}
 use Rattle.record_text.specs.Longest.{longest_of}
 use Rattle.merkle_records.specs.Merkle.{Digest}
 use Rattle.stamp_order.specs.Serial.{none_everywhere, map_after}
@@ -19,7 +19,7 @@ use Rattle.soundness.specs.Clash.{LastEvicted, none_evicted, last_evicted_after}
 use Rattle.soundness.specs.Timed.{added_among, evicted_among}
 use Rattle.soundness.specs.Permutation.{count_of, without_one}
 use Rattle.soundness.specs.Showing.{Shown, opening_shown, shown_after}
-use Rattle.soundness.specs.Spot.{Spot, untouched, cached, merkle, waiting, Spots, value_at, IsTree}
+use Rattle.soundness.specs.Spot.{Spot, untouched, cached, merkle, waiting, Spots, is_touched, value_at, IsTree}
 
 -- ---- what a spot shows
 
@@ -53,14 +53,19 @@ with_shown shown home next = λ other. if other == home then next else shown oth
 abbrev pub Stored : Type 0
 Stored = ℕ → Option (List ℕ)
 
--- The spots are a tree, the caches show them, a record that is kept by its digest is what an evictM took out, and the
--- data values are those of the plain map.
-pub record IsWorld (longest : ℕ) (digest : Digest) (shown : AllShown) (last : LastEvicted) (stored : Stored)
+-- the touched paths are all of one tree: of that whose keys are wide, or of the other
+abbrev pub AreIn : Bool → Spots → Type 0
+AreIn wide spots = (path : List Bool) → is_touched (spots path) ≡ true → IsIn wide path
+
+-- The spots are a tree, all within one of the two, the caches show them, a record that is kept by its digest is what an
+-- evictM took out, and the data values are those of the plain map.
+pub record IsWorld (wide : Bool) (longest : ℕ) (digest : Digest) (shown : AllShown) (last : LastEvicted) (stored : Stored)
     (spots : Spots) : Type 0 where
   pub tree : IsTree longest digest spots
+  pub within : AreIn wide spots
   pub shows : (home : ℕ) (path : List Bool) → shown home path ≡ cached_in home (spots path)
   pub was_evicted : (path : List Bool) (value : Value) → spots path ≡ merkle value → last path ≡ Some value
-  pub holds : (path : List Bool) → IsData path → blob_at (spots path) ≡ stored (number_of path)
+  pub holds : (path : List Bool) → IsIn wide path → IsData path → blob_at (spots path) ≡ stored (key_of path)
 
 -- The elements that were evicted and not added back each wait at the spot of their path, none twice, and no others do.
 pub record IsWaiting (spots : Spots) (pending : List Element) : Type 0 where
@@ -117,7 +122,7 @@ stored_behind stored (operation ∷ operations) = stored_behind (map_after opera
 -- The spots agree with what the caches show behind these events, what was last evicted by them, and their plain map; and
 -- just what was evicted and not added back waits.
 pub record IsBehind (digest : Digest) (header : Header) (events : List Event) (spots : Spots) : Type 0 where
-  pub world : IsWorld (longest_of header) digest (shown_behind (opening_shown header) events)
+  pub world : IsWorld (wide_of header) (longest_of header) digest (shown_behind (opening_shown header) events)
       (last_evicted_behind none_evicted (changes_in events)) (stored_behind none_everywhere (operations_in events)) spots
   pub waits : IsWaiting spots (pending_behind [] (changes_in events))
 

@@ -68,6 +68,13 @@ take-bits_of n front number within =
     (ap (take front) (bits_of-split front (n - front) number)
     ∙ take_at (bits_of front (number / 2 ^ (n - front))) (bits_of (n - front) number) front (length-bits_of front (number / 2 ^ (n - front))))
 
+-- the same behind one bit more
+pub take-behind : (first : Bool) (n front number : ℕ) → front ≤ n → take (1 + front) (first ∷ bits_of n number) ≡ first ∷ bits_of front (number / 2 ^ (n - front))
+take-behind first n front number within =
+    let more : suc front ≡ 1 + front = omega arith in
+    subst (λ (m : ℕ). take m (first ∷ bits_of n number) ≡ first ∷ bits_of front (number / 2 ^ (n - front))) more
+    (ap (λ (bits : List Bool). first ∷ bits) (take-bits_of n front number within))
+
 -- the bit at a place, from the number
 pub bit_of-bits_of : (n index number : ℕ) → index < n → slice_get (bits_of n number) index ≡ Some (number / 2 ^ (n - 1 - index) % 2 == 1)
 unfolding bits_of
@@ -75,6 +82,13 @@ bit_of-bits_of zero index number within = absurd (omega arith)
 bit_of-bits_of (suc n) zero number within = ap (λ (k : ℕ). Some (number / 2 ^ k % 2 == 1)) (omega arith)
 bit_of-bits_of (suc n) (suc index) number within =
     bit_of-bits_of n index number (omega arith) ∙ ap (λ (k : ℕ). Some (number / 2 ^ k % 2 == 1)) (omega arith)
+
+-- the same behind one bit more
+pub bit-behind : (first : Bool) (n index number : ℕ) → index < n → slice_get (first ∷ bits_of n number) (1 + index) ≡ Some (number / 2 ^ (n - 1 - index) % 2 == 1)
+bit-behind first n index number within =
+    let more : suc index ≡ 1 + index = omega arith in
+    subst (λ (m : ℕ). slice_get (first ∷ bits_of n number) m ≡ Some (number / 2 ^ (n - 1 - index) % 2 == 1)) more
+    (bit_of-bits_of n index number within)
 
 -- the number of the first bits is below the power of their count
 pub first_below : (bits len front : ℕ) → front ≤ len → bits < 2 ^ len → bits / 2 ^ (len - front) < 2 ^ front
@@ -116,8 +130,8 @@ child_fits len bits digit short small bit =
 -- what a path's view tells of its fields
 pub ruleset path_view = (length-bits_of, number_back)
 
-pub ruleset bit_view = (length-bits_of, bit_of-bits_of)
+pub ruleset bit_view = (length-bits_of, bit_of-bits_of, bit-behind)
 
-pub ruleset front_view = (length-bits_of, take-bits_of)
+pub ruleset front_view = (length-bits_of, take-behind)
 
 pub ruleset child_view = (length-bits_of, child_below, child_fits, child_bits)

@@ -158,7 +158,15 @@ common_of m a n b w s own others least is_own is_others within same apart =
             at_end true first = common-end_left s (bits_of m a) (bits_of n b) (omega (arith, count, whole, leb-true m n first))
             at_end false first = common-end_right s (bits_of m a) (bits_of n b) (omega (arith, other, whole, leb-false m n first))
 
-pub ruleset common_view = (length-bits_of, common_of)
+-- the same behind one bit more
+pub common-behind : (m a n b w s own others : ℕ) → w ≡ min m n → own ≡ a / 2 ^ (m - w) → others ≡ b / 2 ^ (n - w) → s ≤ w → own / 2 ^ (w - s) ≡ others / 2 ^ (w - s)
+    → (s < w → own / 2 ^ (w - s - 1) % 2 ≢ others / 2 ^ (w - s - 1) % 2) → common (false ∷ bits_of m a) (false ∷ bits_of n b) ≡ take (1 + s) (false ∷ bits_of m a)
+common-behind m a n b w s own others least is_own is_others within same apart =
+    let more : suc s ≡ 1 + s = omega arith in
+    subst (λ (k : ℕ). common (false ∷ bits_of m a) (false ∷ bits_of n b) ≡ take k (false ∷ bits_of m a)) more
+    (ap (λ (bits : List Bool). false ∷ bits) (common_of m a n b w s own others least is_own is_others within same apart))
+
+pub ruleset common_view = (length-bits_of, common-behind)
 
 -- ---- the same of the count that the code takes
 

@@ -2,5 +2,6 @@
 pub mod BitsLaws
 pub mod PathLaws
 pub mod SideLaws
+pub mod TreeLaws
 mod CommonLemmas
 mod WordLemmas

@@ -1,26 +1,68 @@
--- How paths lie to each other, by their bits alone, and a path in a word of its tree's width.
+-- Paths of two trees, how they lie to each other, by their bits alone, and a path in a word of its tree's width.
+--
+-- A path is a list of bits. The first says of which tree it is: false of the tree whose keys have 64 bits, true of the one
+-- whose keys have 128. The others lead on from the root of that tree, so its root is that one bit alone. The empty list is
+-- above both trees and of neither.
 use Rattle.std.specs.Prelude.{◌≡◌, ◌<◌, ◌≤◌, ℕ, ◌-◌, ◌*◌, ◌/◌, ◌%◌, ◌^◌, ◌==◌, nat_le, ◌&&◌, Bool, true, false, List, [], ◌∷◌, length, Option, Some, None, IsSome, if◌then◌else◌}
 use Rattle.tree_keys.specs.Bits.{bits_of, number_of}
 
--- the number of bits of a key
-abbrev pub key_bits : ℕ
-key_bits = 64
+-- the number of bits of a tree's keys
+abbrev pub key_bits : Bool → ℕ
+key_bits false = 64
+key_bits true = 128
 
--- no longer than a key
+-- how many bits lead from the root of its tree to a path
+abbrev pub depth : List Bool → ℕ
+depth [] = 0
+depth (wide ∷ bits) = length bits
+
+-- of which tree a path is
+abbrev pub tree_of : List Bool → Bool
+tree_of [] = false
+tree_of (wide ∷ bits) = wide
+
+-- a path of this tree
+abbrev pub IsIn : Bool → List Bool → Type 0
+IsIn wide [] = ⊥
+IsIn wide (first ∷ bits) = first ≡ wide
+
+-- no longer than the keys of its tree
 abbrev pub IsPath : List Bool → Type 0
-IsPath path = length path ≤ key_bits
+IsPath [] = Unit {0}
+IsPath (wide ∷ bits) = length bits ≤ key_bits wide
 
 -- a data path: it has all bits of a key
 abbrev pub IsData : List Bool → Type 0
-IsData path = length path ≡ key_bits
+IsData [] = ⊥
+IsData (wide ∷ bits) = length bits ≡ key_bits wide
 
 -- the same as a test
 abbrev pub is_data : List Bool → Bool
-is_data path = length path == key_bits
+is_data [] = false
+is_data (wide ∷ bits) = length bits == key_bits wide
 
 -- the path of a node: it is shorter than a key
 abbrev pub IsNodePath : List Bool → Type 0
-IsNodePath path = length path < key_bits
+IsNodePath [] = Unit {0}
+IsNodePath (wide ∷ bits) = length bits < key_bits wide
+
+-- the root of a tree
+abbrev pub root_of : Bool → List Bool
+root_of wide = wide ∷ []
+
+-- the data path of a key of a tree
+abbrev pub key_path : Bool → ℕ → List Bool
+key_path wide key = wide ∷ bits_of (key_bits wide) key
+
+-- the key of a data path: the number that the bits behind the first spell
+abbrev pub key_of : List Bool → ℕ
+key_of [] = 0
+key_of (wide ∷ bits) = number_of bits
+
+-- two numbers made of a path: how many bits lead to it, and the number that these spell
+abbrev pub with_numbers : {X : Type 0} → (ℕ → ℕ → X) → List Bool → X
+with_numbers make [] = make 0 0
+with_numbers make (wide ∷ bits) = make (length bits) (number_of bits)
 
 -- two bits are the same
 abbrev pub same_bit : Bool → Bool → Bool
@@ -58,13 +100,14 @@ common [] k = []
 common (a ∷ p) [] = []
 common (a ∷ p) (b ∷ k) = if same_bit a b then a ∷ common p k else []
 
--- A path in a word of so many bits: its own bits first, the unused bits 0.
-abbrev pub word_of : ℕ → List Bool → ℕ
-word_of width path = number_of path * 2 ^ (width - length path)
+-- A path in a word of its tree's width: the bits behind the first come first, and the unused bits are 0.
+abbrev pub word_of : List Bool → ℕ
+word_of [] = 0
+word_of (wide ∷ bits) = number_of bits * 2 ^ (key_bits wide - length bits)
 
--- The path of so many bits that a word holds: it is one where the unused bits are 0.
-abbrev pub path_in_word : ℕ → ℕ → ℕ → Option (List Bool)
-path_in_word width count word =
-    if nat_le count width && (word % 2 ^ (width - count) == 0)
-    then Some (bits_of count (word / 2 ^ (width - count)))
+-- The path of a tree that so many bits of a word lead to: it is one where the unused bits are 0.
+abbrev pub path_in_word : Bool → ℕ → ℕ → Option (List Bool)
+path_in_word wide count word =
+    if nat_le count (key_bits wide) && (word % 2 ^ (key_bits wide - count) == 0)
+    then Some (wide ∷ bits_of count (word / 2 ^ (key_bits wide - count)))
     else None

@@ -1,15 +1,15 @@
-//! Paths of 0 to 64 bits, and how they lie to each other.
-ghost use Rattle.std.specs.Prelude.{◌≡◌, ◌+◌, ◌-◌, ◌*◌, ◌/◌, ◌%◌, ◌^◌, ◌<◌, ◌≤◌, ◌==◌, ◌≢◌, ◌↔◌, min, Bool, List, [], ◌∷◌, ◌++◌, length, take, slice_get, IsTrue, IfSome, IfNone, Some, None};
+//! Paths of the tree whose keys have 64 bits, and how they lie to each other.
+ghost use Rattle.std.specs.Prelude.{◌≡◌, ◌+◌, ◌-◌, ◌*◌, ◌/◌, ◌%◌, ◌^◌, ◌<◌, ◌≤◌, ◌==◌, ◌≢◌, ◌↔◌, min, Bool, false, List, [], ◌∷◌, ◌++◌, length, take, slice_get, IsTrue, IfSome, IfNone, Some, None};
 ghost use Rattle.tree_keys.specs.Bits.{bits_of, bit_value, number_of};
-ghost use Rattle.tree_keys.specs.Path.{side, IsBelow, is_prefix, same_path, common, word_of, path_in_word};
+ghost use Rattle.tree_keys.specs.Path.{depth, tree_of, IsIn, IsPath, IsData, IsNodePath, root_of, key_path, side, IsBelow, is_prefix, same_path, common, word_of, path_in_word};
 
 use std::marker::Model;
 
 /// The number of bits of a key: a path of so many bits is a data path.
 pub const KEY_BITS: u8 = 64;
 
-/// A path of the tree: 0 to 64 bits, the first bit most significant. Shorter paths come first in their order, and those of
-/// one length by their bits.
+/// A path of the tree whose keys have 64 bits: 0 to 64 bits that lead to it from the root, the first bit most significant.
+/// Shorter paths come first in their order, and those of one length by their bits.
 #[derive(Clone, Copy, Debug, PartialEq, Eq, PartialOrd, Ord)]
 #[tactic(auto, using(crate::proofs::BitsLaws::path_view))]
 pub struct Path {
@@ -19,35 +19,36 @@ pub struct Path {
 }
 
 impl Model for Path {
-    ghost use Rattle.std.specs.Prelude.{◌≤◌, ◌<◌, ◌^◌, Bool, List, length};
-    ghost use Rattle.tree_keys.specs.Bits.{bits_of, number_of};
+    ghost use Rattle.std.specs.Prelude.{◌≤◌, ◌<◌, ◌^◌, Bool, false, List, ◌∷◌};
+    ghost use Rattle.tree_keys.specs.Bits.{bits_of};
     ghost use Rattle.tree_keys.specs.BitsLaws.{fields_back};
+    ghost use Rattle.tree_keys.specs.Path.{with_numbers};
 
     ghost Value = { List Bool };
 
-    ghost view = { λ p. bits_of p.len p.bits };
+    ghost view = { λ p. false ∷ bits_of p.len p.bits };
 
     ghost invariant = { λ p. (p.len ≤ 64) × (p.bits < 2 ^ p.len) };
 
-    ghost inverse = { λ path. record { len = length path; bits = number_of path } };
+    ghost inverse = { with_numbers (λ len bits. record { len = len; bits = bits }) };
 
     ghost inverse_ok = { λ p small. fields_back (λ len bits. record { len = len; bits = bits }) p.len p.bits small.1 };
 }
 
 #[tactic(auto, using(crate::proofs::BitsLaws::path_view))]
 impl Path {
-    /// The path of no bits.
+    /// The root, to which no bits lead.
     #[tactic(auto, unfolding(crate::specs::Bits::bits_of))]
     pub fn root() -> Self
-        ensures empty { result ≡ [] }
+        ensures empty { result ≡ root_of false }
     {
         Path { len: 0, bits: 0 }
     }
 
-    /// The data path of a key: its 64 bits.
+    /// The data path of a key: its 64 bits lead to it.
     pub fn of_key(key: u64) -> Self
-        ensures bits { result ≡ bits_of 64 key }
-        ensures whole { length result ≡ 64 }
+        ensures bits { result ≡ key_path false key }
+        ensures whole { IsData result }
     {
         Path {
             len: KEY_BITS,
@@ -55,18 +56,20 @@ impl Path {
         }
     }
 
-    /// The number of bits.
+    /// How many bits lead to it from the root.
     pub fn len(&self) -> u8
-        ensures value { result ≡ length self.now }
+        ensures value { result ≡ depth self.now }
         ensures fits { result ≤ 64 }
+        ensures tree { tree_of self.now ≡ false }
+        ensures within { IsIn false self.now }
     {
         self.len
     }
 
     /// The key of a data path. A shorter path has none.
     pub fn key(&self) -> Option<u64>
-        ensures node { IfNone result (length self.now < 64) }
-        ensures spelled { IfSome result (λ key. self.now ≡ bits_of 64 key) }
+        ensures node { IfNone result (IsNodePath self.now) }
+        ensures spelled { IfSome result (λ key. self.now ≡ key_path false key) }
     {
         if self.len == KEY_BITS {
             Some(self.bits)
@@ -78,7 +81,7 @@ impl Path {
     /// The path one bit longer on this side.
     #[tactic(auto, using(crate::proofs::BitsLaws::child_view))]
     pub fn child(&self, side: bool) -> Self
-        requires short { length self.now < 64 }
+        requires short { IsNodePath self.now }
         ensures appended { result ≡ self.now ++ side ∷ [] }
     {
         Path {
@@ -87,11 +90,11 @@ impl Path {
         }
     }
 
-    /// The first bits, so many of them.
+    /// The path that the first bits lead to, so many of them.
     #[tactic(auto, using(crate::proofs::BitsLaws::front_view))]
     pub fn front(&self, len: u8) -> Self
-        requires within { len ≤ length self.now }
-        ensures bits { result ≡ take len self.now }
+        requires within { len ≤ depth self.now }
+        ensures bits { result ≡ take (1 + len) self.now }
     {
         Path {
             len,
@@ -99,11 +102,11 @@ impl Path {
         }
     }
 
-    /// The bit at this place, counted from 0.
+    /// The bit at this place of those that lead to it, counted from 0.
     #[tactic(auto, using(crate::proofs::BitsLaws::bit_view))]
     pub fn bit(&self, index: u8) -> bool
-        requires within { index < length self.now }
-        ensures value { slice_get self.now index ≡ Some result }
+        requires within { index < depth self.now }
+        ensures value { slice_get self.now (1 + index) ≡ Some result }
     {
         (self.bits >> (self.len - 1 - index)) % 2 == 1
     }
@@ -172,10 +175,10 @@ impl Path {
         self.front(shared)
     }
 
-    /// The path in a word of 64 bits: its own bits first, the unused bits 0.
+    /// The path in a word of 64 bits: the bits that lead to it come first, the unused bits are 0.
     #[tactic(auto, using(crate::proofs::WordLemmas::word_view))]
     pub fn word(&self) -> u64
-        ensures value { result ≡ word_of 64 self.now }
+        ensures value { result ≡ word_of self.now }
     {
         if self.len == 0 {
             return 0;
@@ -183,11 +186,11 @@ impl Path {
         self.bits << (KEY_BITS - self.len)
     }
 
-    /// The path of so many bits in a word of 64 bits. There is none past 64 bits, and none where an
-    /// unused bit isn't 0.
+    /// The path that the first bits of a word of 64 bits lead to, so many of them. There is none past 64 bits, and none where
+    /// an unused bit isn't 0.
     #[tactic(auto, using(crate::proofs::WordLemmas::of_word_view))]
     pub fn of_word(len: u8, word: u64) -> Option<Self>
-        ensures value { result ≡ path_in_word 64 len word }
+        ensures value { result ≡ path_in_word false len word }
     {
         if len > KEY_BITS {
             return None;

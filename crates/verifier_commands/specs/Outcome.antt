@@ -1,6 +1,6 @@
 -- What an accepted command hands up: the part of a change that sums and answers are made from.
 use Rattle.std.specs.Prelude.{ℕ, List, Option, None, Result, Ok, Err}
-use Rattle.tree_keys.specs.Bits.{number_of}
+use Rattle.tree_keys.specs.Path.{key_of}
 use Rattle.record_text.specs.declared.value.Value.{Value}
 use Rattle.record_text.specs.declared.value.Value.TheVariants as values
 use Rattle.record_text.specs.declared.refusal.Refusal.{Refusal}
@@ -20,8 +20,8 @@ outcome_of (did_evict_m parent after child) = outcomes.EvictM
 outcome_of (did_add_b child element) = outcomes.AddB element
 outcome_of (did_evict_b child element) = outcomes.EvictB element
 outcome_of (did_evict_bm parent after child element) = outcomes.EvictBM element
-outcome_of (did_get entry) = outcomes.Get (number_of entry.path) (blob_of entry.value)
-outcome_of (did_put before after) = outcomes.Put (number_of after.path) (blob_of after.value)
+outcome_of (did_get entry) = outcomes.Get (key_of entry.path) (blob_of entry.value)
+outcome_of (did_put before after) = outcomes.Put (key_of after.path) (blob_of after.value)
 outcome_of (did_next_epoch sealed) = outcomes.NextEpoch sealed
 
 -- a step by what it hands up, whatever the state

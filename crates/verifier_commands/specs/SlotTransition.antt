@@ -7,6 +7,7 @@ use Rattle.lamport_clocks.specs.declared.header.Header.{Header}
 use Rattle.lamport_clocks.specs.declared.stamp.Stamp.{Stamp}
 use Rattle.lamport_clocks.specs.Clock.{received, sent, advanced, opening_reading}
 use Rattle.base_words.specs.Steps.{test, need, and_then}
+use Rattle.record_text.specs.Tree.{wide_of}
 use Rattle.record_text.specs.declared.value.Value.{Value}
 use Rattle.record_text.specs.declared.value.Value.TheVariants as values
 use Rattle.record_text.specs.declared.refusal.Refusal.{Refusal}
@@ -136,7 +137,7 @@ slot_transition rules state NextEpoch = next_epoch state
 
 -- At the start the root stands in slot 0 of verifier 0, and all other slots are empty.
 abbrev pub opening_slots : ℕ → Header → Slots
-opening_slots number header = if number == 0 then Some root_entry ∷ empty_slots (header.cache - 1) else empty_slots header.cache
+opening_slots number header = if number == 0 then Some (root_entry (wide_of header)) ∷ empty_slots (header.cache - 1) else empty_slots header.cache
 
 -- the slots of the start, and the clock at the first epoch
 abbrev pub slot_opening : ℕ → Header → SlotState

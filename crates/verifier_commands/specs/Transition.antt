@@ -29,10 +29,11 @@ use Rattle.verifier_commands.specs.Changes.{add_under, evict_under, defer_under,
 abbrev pub Step : Type 0
 Step = Result (Change × State) Refusal
 
--- the path of no bits
+-- the root of a tree: one bit alone
 abbrev pub is_root : List Bool → Bool
-is_root [] = true
-is_root (bit ∷ path) = false
+is_root [] = false
+is_root (wide ∷ []) = true
+is_root (wide ∷ bit ∷ bits) = false
 
 -- there is no room for another entry
 abbrev pub is_full : State → Bool

@@ -46,6 +46,7 @@ pub(crate) fn clock_refusal(fault: ClockFault) -> Refusal
 }
 
 // Whether the path is the root.
+#[tactic(auto, using(crate::proofs::KeyLemmas::root_view))]
 pub(crate) fn is_root(path: &Path) -> bool
     ensures value { result ≡ is_root path.now }
 {

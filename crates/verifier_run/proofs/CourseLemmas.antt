@@ -24,14 +24,14 @@ use Rattle.verifier_run.specs.Progress.{Progress, between_commands, progress_beh
 -- ---- apart from what is kept
 
 -- no bytes begin no command yet
-no_command_by : (by_path : Bool) (longest : ℕ) → command_by by_path longest [] ≡ Err faults.Truncated
+no_command_by : (by_path wide : Bool) (longest : ℕ) → command_by by_path wide longest [] ≡ Err faults.Truncated
 unfolding path_command_at slot_command_at byte_at
-no_command_by true longest = refl
-no_command_by false longest = refl
+no_command_by true wide longest = refl
+no_command_by false wide longest = refl
 
 pub no_command : (format : LogFormat) → command_at format [] ≡ Err faults.Truncated
 unfolding command_at
-no_command format = no_command_by format.by_path format.longest
+no_command format = no_command_by format.by_path format.wide format.longest
 
 same_behind : {A : Type 0} (course : Course A) (bytes : List ℕ) (parsed : Parsed LogCommand) (more others : LogCommand → List ℕ → Progress A) → ((command : LogCommand) (rest : List ℕ) → parsed ≡ Ok (command, rest) → more command rest ≡ others command rest) → progress_behind course bytes parsed more ≡ progress_behind course bytes parsed others
 same_behind course bytes (Ok found) more others same = same found.0 found.1 refl

@@ -5,4 +5,4 @@ use Rattle.log_codec.proofs.GrammarLaws.{one_of}
 use Rattle.log_codec.proofs.path_laws.no_path_command_begins_another.Goals as goal
 
 pub returns : goal.returns
-returns c = record { one = one_of (path_grammar longest_blob) (path_exact longest_blob) }
+returns c = record { one = λ wide a b x y in_a is_a in_b is_b. one_of (path_grammar wide longest_blob) (path_exact wide longest_blob) a b x y (in_a, is_a) (in_b, is_b) }

@@ -6,7 +6,7 @@ use Rattle.log_codec.proofs.path_laws.path_commands_keep_on.Goals as goal
 
 pub returns : goal.returns
 returns c = record {
-  more = keeps_on-path_command longest_blob;
-  shorter = path_command_shorter longest_blob;
-  front = front_of (path_grammar longest_blob) (path_exact longest_blob);
+  more = λ wide. keeps_on-path_command wide longest_blob;
+  shorter = λ wide. path_command_shorter wide longest_blob;
+  front = λ wide command front byte back inside is. front_of (path_grammar wide longest_blob) (path_exact wide longest_blob) command front byte back (inside, is);
 }

@@ -5,8 +5,8 @@ use Rattle.log_codec.proofs.slot_laws.slot_commands_are_read_as_spelled.Goals as
 
 pub returns : goal.returns
 returns c = record {
-  spelled = λ bytes command rest fits read.
-      let begins = slot_command_begins longest_blob bytes command rest (AreBytes-from_all bytes fits) read in
-      (begins.0.parts, begins.1);
-  read = slot_command_again longest_blob;
+  spelled = λ wide bytes command rest fits read.
+      let begins = slot_command_begins wide longest_blob bytes command rest (AreBytes-from_all bytes fits) read in
+      (begins.0.parts, begins.1.0, begins.1.1);
+  read = λ wide command rest inside is. slot_command_again wide longest_blob command rest (inside, is);
 }

@@ -5,7 +5,7 @@ use Rattle.log_codec.proofs.slot_laws.slot_commands_keep_on.Goals as goal
 
 pub returns : goal.returns
 returns c = record {
-  more = keeps_on-slot_command longest_blob;
-  shorter = slot_command_shorter longest_blob;
-  front = front_of (slot_grammar longest_blob) (slot_exact longest_blob);
+  more = λ wide. keeps_on-slot_command wide longest_blob;
+  shorter = λ wide. slot_command_shorter wide longest_blob;
+  front = λ wide command front byte back inside is. front_of (slot_grammar wide longest_blob) (slot_exact wide longest_blob) command front byte back (inside, is);
 }

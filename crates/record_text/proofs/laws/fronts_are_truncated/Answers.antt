@@ -7,5 +7,5 @@ returns c = record {
   paths = path_front;
   values = value_front longest_blob;
   stamps = stamp_front;
-  elements = element_front longest_blob;
+  elements = λ wide. element_front wide longest_blob;
 }

@@ -7,5 +7,5 @@ returns c = record {
   paths = one_path;
   values = one_value longest_blob;
   stamps = one_stamp;
-  elements = one_element longest_blob;
+  elements = λ wide. one_element wide longest_blob;
 }

@@ -7,5 +7,5 @@ returns c = record {
   paths = keeps_on-path;
   values = keeps_on-value longest_blob;
   stamps = keeps_on-stamp;
-  elements = keeps_on-element longest_blob;
+  elements = λ wide. keeps_on-element wide longest_blob;
 }
