@@ -4,7 +4,7 @@ use Rattle.std.proofs.lemmas.Nat.{shr-shr, pow_pos, mod_low, shr_high, mod_below
 use Rattle.std.proofs.lemmas.List.{take_at}
 use Rattle.std.proofs.Math.Nat.{pow-suc, pow-le-pow_right}
 use Rattle.tree_keys.specs.Bits.{bits_of, bit_value, number_of}
-use Rattle.tree_keys.specs.BitsLaws.{length-bits_of, top_digit, mod_small, number_back}
+use Rattle.tree_keys.specs.BitsLaws.{length-bits_of, top_digit, mod_small, number_back, number_behind}
 
 -- bits are those of the whole number's quotient, and then those of the number
 pub bits_of-split : (j k number : ℕ) → bits_of (j + k) number ≡ bits_of j (number / 2 ^ k) ++ bits_of k number
@@ -128,7 +128,7 @@ child_fits len bits digit short small bit =
     omega arith
 
 -- what a path's view tells of its fields
-pub ruleset path_view = (length-bits_of, number_back)
+pub ruleset path_view = (length-bits_of, number_behind, number_back)
 
 pub ruleset bit_view = (length-bits_of, bit_of-bits_of, bit-behind)
 

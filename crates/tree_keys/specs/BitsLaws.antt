@@ -1,5 +1,5 @@
 -- Laws of bits that a type seen as a list of bits owes: its two fields can be had back from the list.
-use Rattle.std.proofs.Common.{◌≡◌, ℕ, zero, suc, ◌+◌, ◌*◌, ◌/◌, ◌%◌, ◌^◌, ◌<◌, ◌==◌, length, refl, sym, ◌∙◌, ap, subst, arith}
+use Rattle.std.proofs.Common.{◌≡◌, ℕ, zero, suc, ◌+◌, ◌*◌, ◌/◌, ◌%◌, ◌^◌, ◌<◌, ◌==◌, Bool, false, List, ◌∷◌, length, refl, sym, ◌∙◌, ap, subst, arith}
 use Rattle.std.proofs.lemmas.Nat.{mod-pow-add, mod_low}
 use Rattle.tree_keys.specs.Bits.{bits_of, bit_value, number_of}
 
@@ -38,8 +38,13 @@ mod_small n number small = subst (λ (m : ℕ). m % 2 ^ n ≡ number) (omega ari
 pub number_back : (n number : ℕ) → number < 2 ^ n → number_of (bits_of n number) ≡ number
 number_back n number small = number_of-bits_of n number ∙ mod_small n number small
 
--- the count of the bits of a number, and the number that they spell, are the two that they were made of
-pub fields_back : {X : Type 0} (make : ℕ → ℕ → X) (n number : ℕ) → number < 2 ^ n → make (length (bits_of n number)) (number_of (bits_of n number)) ≡ make n number
+-- a first bit that is false counts nothing
+pub number_behind : (bits : List Bool) → number_of (false ∷ bits) ≡ number_of bits
+unfolding number_of
+number_behind bits = omega arith
+
+-- the count of the bits of a number, and the number that they spell behind a first one, are the two that they were made of
+pub fields_back : {X : Type 0} (make : ℕ → ℕ → X) (n number : ℕ) → number < 2 ^ n → make (length (bits_of n number)) (number_of (false ∷ bits_of n number)) ≡ make n number
 fields_back make n number small =
-    ap (λ (len : ℕ). make len (number_of (bits_of n number))) (length-bits_of n number)
-    ∙ ap (λ (bits : ℕ). make n bits) (number_back n number small)
+    ap (λ (len : ℕ). make len (number_of (false ∷ bits_of n number))) (length-bits_of n number)
+    ∙ ap (λ (bits : ℕ). make n bits) (number_behind (bits_of n number) ∙ number_back n number small)

@@ -59,10 +59,11 @@ abbrev pub key_of : List Bool → ℕ
 key_of [] = 0
 key_of (wide ∷ bits) = number_of bits
 
--- two numbers made of a path: how many bits lead to it, and the number that these spell
+-- Two numbers made of a path: how many bits lead to it, and the number that all its bits spell. No other path has both, and
+-- those of the empty list are of no tree's path.
 abbrev pub with_numbers : {X : Type 0} → (ℕ → ℕ → X) → List Bool → X
-with_numbers make [] = make 0 0
-with_numbers make (wide ∷ bits) = make (length bits) (number_of bits)
+with_numbers make [] = make 0 2
+with_numbers make (wide ∷ bits) = make (length bits) (number_of (wide ∷ bits))
 
 -- two bits are the same
 abbrev pub same_bit : Bool → Bool → Bool
