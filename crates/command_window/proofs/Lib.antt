@@ -1,3 +1,4 @@
 -- Lemmas on windows.
 mod GoesOnLemmas
 mod ReadLemmas
+pub mod WindowLaws

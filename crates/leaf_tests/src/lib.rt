@@ -2,7 +2,7 @@
 //!
 //! A crate with tests is proved twice, so tests have a crate of their own for each layer. There is one file
 //! for each crate that is tested: `paths` for `tree_keys`, `clocks` for `lamport_clocks`, `digests` for
-//! `record_hash`, `lanes` for `lane_sha`, `sums` for `multiset_sum` and `objects` for `fv_outside`. A table is one text, a row a line,
+//! `record_hash`, `eights` for its answers to eight texts at once, `lanes` for `lane_sha`, `sums` for `multiset_sum` and `objects` for `fv_outside`. A table is one text, a row a line,
 //! which is read as the test runs: begin at `rows`.
 #![tactic(auto)]
 
@@ -10,6 +10,8 @@
 mod clocks;
 #[cfg(test)]
 mod digests;
+#[cfg(test)]
+mod eights;
 #[cfg(test)]
 mod lanes;
 #[cfg(test)]

@@ -8,6 +8,7 @@ use crate::digest_functions::Digests;
 
 /// Digests that know those of one text and of one element ahead, and ask others for all else. A text is compared with the
 /// known one byte by byte.
+#[derive(Drop)]
 pub struct KnownDigests<'a, D: Digests> {
     /// The others.
     pub digests: &'a D,
@@ -34,7 +35,7 @@ impl<'a, D: Digests> Digests for KnownDigests<'a, D> {
 
     fn element_lanes(&self, bytes: &[u8]) -> [u32; 8] {
         if let Some(known) = &self.lanes {
-            if known.0 == bytes {
+            if bytes == known.0 {
                 let lanes = known.1;
                 return lanes;
             }

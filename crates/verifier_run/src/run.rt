@@ -1,7 +1,9 @@
 //! A verifier's log in any pieces.
-ghost use Rattle.std.specs.Prelude.{◌≡◌, ◌+◌, ◌<◌, ◌≤◌, ◌^◌, ◌++◌, [], length, take, drop, IsSome, IsOk, IfOk, IfErr, OnOk, OnErr};
+ghost use Rattle.std.specs.Prelude.{◌≡◌, ◌+◌, ◌<◌, ◌≤◌, ◌^◌, ◌++◌, [], length, take, drop, None, IsSome, IsOk, IfOk, IfErr, OnOk, OnErr};
 ghost use Rattle.arrayvec.specs.ArrayVec.{array_vec_len};
 ghost use Rattle.lamport_clocks.specs.Header.{IsHeader};
+ghost use Rattle.record_text.specs.Format.{format_of};
+ghost use Rattle.command_window.specs.Window.{AreReadOf, AreRight};
 ghost use Rattle.merkle_records.specs.Scheme.{scheme_of};
 ghost use Rattle.verifier_commands.specs.Machine.{opening_machine};
 ghost use Rattle.verifier_run.specs.Progress.{Progress, between_commands, opening_progress, progress_over, fed, ended, weight};
@@ -11,6 +13,7 @@ use crate::kept::Kept;
 use crate::tracer::Tracer;
 use arrayvec::ArrayVec;
 use base_words::Memory;
+use command_window::CommandWindow;
 use lamport_clocks::Header;
 use log_codec::{Decoded, LONGEST_COMMAND_TEXT, read_command};
 use multiset_sum::Part;
@@ -29,6 +32,8 @@ pub struct FeedStop {
 #[derive(Drop)]
 pub struct Run<T: Kept = Operation> {
     tracer: Tracer<T>,
+    // the commands that come next, while a piece is taken
+    window: CommandWindow,
     held: ArrayVec<u8, LONGEST_COMMAND_TEXT>,
 }
 
@@ -53,6 +58,7 @@ impl<T: Kept> Run<T> {
         let tracer = Tracer::new(alloc, number, header)?;
         Ok(Run {
             tracer,
+            window: CommandWindow::new(alloc, number),
             held: ArrayVec::new(),
         })
     }
@@ -135,7 +141,7 @@ impl<T: Kept> Run<T> {
             self.new ≡ fed T.keeps (scheme_of (D.functions d.now) self.old.course.machine.header) self.old (take stop.taken piece.now)) }
         ensures within { IfErr result (λ stop. stop.taken ≤ length piece.now) }
     {
-        let taken = follow(&mut self.tracer, d, piece)?;
+        let taken = follow(&mut self.tracer, &mut self.window, d, piece)?;
         append(&mut self.held, behind(piece, taken));
         Ok(())
     }
@@ -175,7 +181,11 @@ impl<T: Kept> Run<T> {
     pub fn into_items(self) -> Vec<T>
         ensures value { result.items ≡ self.course.items }
     {
-        let Run { tracer, held: _ } = self;
+        let Run {
+            tracer,
+            window: _,
+            held: _,
+        } = self;
         tracer.into_items()
     }
 }
@@ -212,10 +222,12 @@ impl Run<Operation> {
 }
 
 // Takes the commands that are whole, up to the first that is refused, and answers where the one that is cut
-// begins: at the end, if none is.
+// begins: at the end, if none is. They are read ahead, a window of them at a time; where the window has room for none, for
+// want of memory, one by one.
 #[tactic(auto, using(crate::proofs::FollowLemmas::following))]
 fn follow<T: Kept, D: Digests>(
     tracer: &mut Tracer<T>,
+    window: &mut CommandWindow,
     d: &D,
     bytes: &[u8],
 ) -> Result<usize, FeedStop>
@@ -231,6 +243,18 @@ fn follow<T: Kept, D: Digests>(
 {
     let mut taken = 0;
     while tracer.refused().is_none() {
+        window.read(d, tracer.header(), behind(bytes, taken));
+        if !window.commands().is_empty() {
+            match follow_window(tracer, window, d, behind(bytes, taken)) {
+                Ok(more) => taken += more,
+                Err(stop) => {
+                    return Err(FeedStop {
+                        taken: taken + stop.taken,
+                    });
+                }
+            }
+            continue;
+        }
         match read_command(tracer.header(), behind(bytes, taken)) {
             Decoded::Read(command, len) => match tracer.apply(d, &command) {
                 Ok(()) => taken += len,
@@ -244,6 +268,45 @@ fn follow<T: Kept, D: Digests>(
         }
     }
     Ok(bytes.len())
+}
+
+// Takes the commands of a window, which the bytes begin with, up to the first that is refused, and answers how many bytes
+// these take.
+fn follow_window<T: Kept, D: Digests>(
+    tracer: &mut Tracer<T>,
+    window: &CommandWindow,
+    d: &D,
+    bytes: &[u8],
+) -> Result<usize, FeedStop>
+    requires room { tracer.old.machine.accepted + length bytes.now < 2 ^ 63 }
+    requires read { AreReadOf (format_of tracer.old.machine.header) bytes.now window.now }
+    requires right { AreRight (D.functions d.now) window.now }
+    requires some { 0 < length window.now }
+    requires going { tracer.old.refused ≡ None }
+    ensures ok { IfOk result (λ taken.
+        progress_over T.keeps (scheme_of (D.functions d.now) tracer.old.machine.header) tracer.old (take taken bytes.now)
+        ≡ between_commands tracer.new) }
+    ensures some { IfOk result (λ taken. 0 < taken) }
+    ensures within { IfOk result (λ taken. taken ≤ length bytes.now) }
+    ensures header { tracer.new.machine.header ≡ tracer.old.machine.header }
+    ensures accepted { IfOk result (λ taken. tracer.new.machine.accepted ≤ tracer.old.machine.accepted + taken) }
+    ensures stop { IfErr result (λ stop.
+        progress_over T.keeps (scheme_of (D.functions d.now) tracer.old.machine.header) tracer.old (take stop.taken bytes.now)
+        ≡ between_commands tracer.new) }
+    ensures stop_within { IfErr result (λ stop. stop.taken ≤ length bytes.now) }
+{
+    let mut taken = 0;
+    for place in 0..window.commands().len() {
+        if tracer.refused().is_some() {
+            return Ok(taken);
+        }
+        let read = &window.commands()[place];
+        match tracer.apply(&window.known(d, place), &read.command) {
+            Ok(()) => taken += read.len,
+            Err(Memory) => return Err(FeedStop { taken }),
+        }
+    }
+    Ok(taken)
 }
 
 // Appends bytes for which there is room.
