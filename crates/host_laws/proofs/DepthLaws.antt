@@ -18,19 +18,21 @@ not_root [] some = absurd (omega (arith, some))
 not_root (wide ∷ []) some = absurd (omega (arith, some))
 not_root (wide ∷ bit ∷ bits) some = refl
 
--- and it is of a tree, so it has a bit more than those
+-- and it has one bit more, the first, which says its tree
 pub depth_in : (path : List Bool) → 0 < depth path → length path ≡ suc (depth path)
 depth_in [] some = absurd (omega (arith, some))
 depth_in (wide ∷ bits) some = refl
 
--- and is of that tree
+-- and is of the tree that this bit says
 pub own_tree : (path : List Bool) → 0 < depth path → IsIn (tree_of path) path
 own_tree [] some = absurd (omega (arith, some))
 own_tree (wide ∷ bits) some = refl
 
+-- so it isn't empty
 pub some_path : (path : List Bool) → 0 < depth path → 0 < length path
 some_path path some = omega (arith, depth_in path some)
 
+-- nor is any path of a tree
 pub some_in : (wide : Bool) (path : List Bool) → IsIn wide path → 0 < length path
 some_in wide path within = omega (arith, length-in wide path within)
 
