@@ -2,7 +2,8 @@
 use Rattle.std.proofs.Common.{◌≡◌, ℕ, suc, ◌+◌, ◌<◌, ◌≤◌, Bool, true, false, not, List, [], ◌∷◌, ◌++◌, length, nat_le, Option, Some, None, is_some, Result, Ok, Err, if◌then◌else◌, refl, sym, ◌∙◌, ap, inl, inr, arith}
 use Rattle.std.proofs.lemmas.Bool.{false≢true}
 use Rattle.std.proofs.lemmas.Bool.Decides.{nat_tests}
-use Rattle.tree_keys.specs.Path.{same_path, is_prefix}
+use Rattle.tree_keys.specs.Path.{depth, same_path}
+use Rattle.tree_keys.proofs.PathLaws.{same_path-apart}
 use Rattle.tree_keys.proofs.SideLaws.{is_prefix-self}
 use Rattle.lamport_clocks.specs.declared.clock.ClockFault.{ClockFault}
 use Rattle.lamport_clocks.specs.Reading.{Reading}
@@ -26,6 +27,7 @@ use Rattle.host_plan.specs.Moments.{taking, renewing}
 use Rattle.host_plan.specs.Visit.{between}
 use Rattle.host_laws.specs.Running.{Told, run}
 use Rattle.host_laws.specs.Served.{IsBare}
+use Rattle.host_laws.proofs.DepthLaws.{not_root, deeper-prefix}
 use Rattle.host_laws.proofs.MomentLaws.{received-taken, sent-given, received-ended, sent-ended}
 use Rattle.host_laws.proofs.StepLemmas.{test-passed, need-there, timed-there}
 use Rattle.host_laws.proofs.RunLaws.{run-one, run-step, run-append, run-refused, run-step_refused, run-append_refused}
@@ -34,22 +36,17 @@ use Rattle.host_laws.proofs.WorksLaws.{IsClear, standing, Works}
 
 -- ---- a verifier at rest
 
-root_apart : (k : List Bool) → is_root k ≡ false → same_path k [] ≡ false
-root_apart [] is = is
-root_apart (bit ∷ k) is = refl
-
-below_no_root : (path k : List Bool) → is_root path ≡ false → is_prefix path k ≡ true → is_root k ≡ false
-below_no_root [] k is begins = absurd (false≢true (sym is))
-below_no_root (bit ∷ path) [] is begins = absurd (false≢true begins)
-below_no_root (bit ∷ path) (b ∷ k) is begins = refl
+-- a path to which bits lead is none of the roots
+root_apart : (k root : List Bool) → 0 < depth k → is_root root ≡ true → same_path k root ≡ false
+root_apart k root some is =
+    same_path-apart k root (λ same. false≢true (sym (not_root k some) ∙ (ap (λ (path : List Bool). is_root path) same ∙ is)))
 
 -- nothing stands in its cache below the root
-pub clear-bare : (entries : List Entry) (path : List Bool) → IsBare entries → is_root path ≡ false → IsClear path entries
-clear-bare entries path (inl is) apart k begins = ap (λ (xs : List Entry). entry_of k xs) is
-clear-bare entries path (inr root) apart k begins =
+pub clear-bare : (entries : List Entry) (path : List Bool) → IsBare entries → 0 < depth path → IsClear path entries
+clear-bare entries path (inl is) some k begins = ap (λ (xs : List Entry). entry_of k xs) is
+clear-bare entries path (inr root) some k begins =
     ap (λ (xs : List Entry). entry_of k xs) root.2
-    ∙ ap (λ (b : Bool). if b then Some root.0 else None)
-    (ap (λ (r : List Bool). same_path k r) root.1 ∙ root_apart k (below_no_root path k apart begins))
+    ∙ ap (λ (b : Bool). if b then Some root.0 else None) (root_apart k root.0.path (deeper-prefix path k some begins) root.1)
 
 -- and at most that stands there
 pub length-bare : (entries : List Entry) → IsBare entries → length entries ≤ 1
@@ -81,14 +78,14 @@ comes_in rules state element apart clear roomy known answer is =
     (test-passed (nat_le rules.verifiers element.verifier) refusals.NoSuchVerifier _ _ (grind (arith, nat_tests)) is)))
 
 -- Commands that work behind an element's path run between its add and its evict.
-pub between_runs : (rules : Rules) (state : State) (element : Element) (depth : ℕ) (inner : List Command) (told : Told) (new : Value)
-    → is_root element.path ≡ false → IsClear element.path state.cache.entries → suc (length state.cache.entries + depth) ≤ state.cache.room
+pub between_runs : (rules : Rules) (state : State) (element : Element) (more : ℕ) (inner : List Command) (told : Told) (new : Value)
+    → is_root element.path ≡ false → IsClear element.path state.cache.entries → suc (length state.cache.entries + more) ≤ state.cache.room
     → element.verifier < rules.verifiers → is_open state.clock element.stamp.epoch ≡ true
     → (renewing state.clock element.stamp).at.counter ≤ state.clock.end
-    → Works rules depth element.path B element.value (taking state.clock element.stamp) inner told new (taking state.clock element.stamp)
+    → Works rules more element.path B element.value (taking state.clock element.stamp) inner told new (taking state.clock element.stamp)
     → run rules state (between element (renewing state.clock element.stamp).at inner)
     ≡ Ok (told_between rules element new state.clock told, record state { clock = renewing state.clock element.stamp })
-between_runs rules state element depth inner told new apart clear roomy known is_taken within works =
+between_runs rules state element more inner told new apart clear roomy known is_taken within works =
     run-step rules state (AddB element.path element.value element.stamp element.verifier) _ _ (standing entries room taken before) _ _ added
     (run-append rules _ inner (EvictB element.path later.at ∷ []) told _ (standing entries room taken after) _ (works entries room clear roomy)
     (run-one rules _ (EvictB element.path later.at) _ (record state { clock = later }) evicted))
@@ -132,13 +129,13 @@ between_runs rules state element depth inner told new apart clear roomy known is
         (without-last entries after nothing))))))
 
 -- Where the two counters pass the end, the add or the evict is refused for that.
-pub between_ends : (rules : Rules) (state : State) (element : Element) (depth : ℕ) (inner : List Command) (told : Told) (new : Value)
-    → is_root element.path ≡ false → IsClear element.path state.cache.entries → suc (length state.cache.entries + depth) ≤ state.cache.room
+pub between_ends : (rules : Rules) (state : State) (element : Element) (more : ℕ) (inner : List Command) (told : Told) (new : Value)
+    → is_root element.path ≡ false → IsClear element.path state.cache.entries → suc (length state.cache.entries + more) ≤ state.cache.room
     → element.verifier < rules.verifiers → is_open state.clock element.stamp.epoch ≡ true
     → state.clock.end < (renewing state.clock element.stamp).at.counter
-    → Works rules depth element.path B element.value (taking state.clock element.stamp) inner told new (taking state.clock element.stamp)
+    → Works rules more element.path B element.value (taking state.clock element.stamp) inner told new (taking state.clock element.stamp)
     → run rules state (between element (renewing state.clock element.stamp).at inner) ≡ Err refusals.ClockEnd
-between_ends rules state element depth inner told new apart clear roomy known is_taken past works = go (nat_le taken.at.counter state.clock.end) refl
+between_ends rules state element more inner told new apart clear roomy known is_taken past works = go (nat_le taken.at.counter state.clock.end) refl
   where
     entries : List Entry
     entries = state.cache.entries

@@ -1,19 +1,19 @@
 -- Each link of a chain to a key fits under the one before.
-use Rattle.std.proofs.Common.{ℕ, ◌≡◌, ◌⊎◌, ◌<◌, Bool, true, false, not, List, length, Option, Some, None, if◌then◌else◌, eq-eqb, nat_eq, refl, sym, ◌∙◌, ap, subst, inl, inr, arith}
+use Rattle.std.proofs.Common.{ℕ, ◌≡◌, ◌⊎◌, Bool, true, false, not, List, Option, Some, None, if◌then◌else◌, refl, sym, ◌∙◌, ap, subst, inl, inr}
 use Rattle.std.specs.Option.{unwrap_or}
 use Rattle.std.proofs.lemmas.Bool.{false≢true}
-use Rattle.std.proofs.lemmas.Bool.Decides.{nat_tests}
 use Rattle.std.proofs.lemmas.Option.{none-some, same_Some}
-use Rattle.tree_keys.specs.Path.{side, is_prefix, common, key_bits, IsData, IsNodePath}
+use Rattle.tree_keys.specs.Path.{side, is_prefix, common, IsData, is_data, IsNodePath}
 use Rattle.tree_keys.proofs.PathLaws.{same_path-apart}
 use Rattle.tree_keys.proofs.SideLaws.{is_prefix-self, prefix_of_side, side_of_prefix}
+use Rattle.tree_keys.proofs.TreeLaws.{data-path, data-is, node-is, data-no_node, node-above}
 use Rattle.record_text.specs.declared.value.Pointer.{Pointer}
 use Rattle.record_text.specs.declared.value.Node.{Node}
 use Rattle.record_text.specs.declared.value.Value.{Value}
 use Rattle.record_text.specs.declared.value.Value.TheVariants as values
 use Rattle.record_text.specs.Value.{IsPointer, IsSide, IsOf, node_side, empty_node, initial_value}
 use Rattle.merkle_records.specs.Merkle.{Digest, taken_over}
-use Rattle.merkle_records.proofs.KindLaws.{is_prefix-side, length-side, IsSide-node_side, IsOf-with_side}
+use Rattle.merkle_records.proofs.KindLaws.{is_prefix-side, IsSide-node_side, IsOf-with_side}
 use Rattle.verifier_commands.specs.Changes.{leads_to}
 use Rattle.verifier_commands.proofs.BelowLaws.{below_apart}
 use Rattle.host_shard.specs.declared.link.Link.{Link}
@@ -58,7 +58,7 @@ pub record IsNext (longest : ℕ) (digest : Digest) (tree : Tree) (key at : List
 
 -- a path that has no record yet has no pointer
 pub initial_none : (path : List Bool) (on : Bool) (pointer : Pointer) → pointer_of (initial_value path) on ≡ Some pointer → ⊥
-initial_none path on pointer is = go (nat_eq (length path) key_bits) is
+initial_none path on pointer is = go (is_data path) is
   where
     side_none : (which : Bool) → node_side empty_node which ≡ Some pointer → ⊥
     side_none true found = none-some pointer found
@@ -71,15 +71,12 @@ initial_none path on pointer is = go (nat_eq (length path) key_bits) is
 -- a data path starts with none
 initial_data : (longest : ℕ) (path : List Bool) → IsData path → IsOf longest path (initial_value path)
 initial_data longest path whole =
-    subst (λ (b : Bool). IsOf longest path (if b then values.Blob None else values.Node empty_node)) (sym (eq-eqb (length path) key_bits whole)) (whole, tt)
+    subst (λ (b : Bool). IsOf longest path (if b then values.Blob None else values.Node empty_node)) (sym (data-is path whole)) (whole, tt)
 
 -- and a shorter one with no pointers
 pub initial_node : (longest : ℕ) (path : List Bool) → IsNodePath path → IsOf longest path (initial_value path)
-initial_node longest path short = go (nat_eq (length path) key_bits) refl
-  where
-    go : (b : Bool) → nat_eq (length path) key_bits ≡ b → IsOf longest path (if b then values.Blob None else values.Node empty_node)
-    go true same = let whole : IsData path = grind (arith, nat_tests) in absurd (omega (arith, whole, short))
-    go false apart = (short, tt, tt)
+initial_node longest path short =
+    subst (λ (b : Bool). IsOf longest path (if b then values.Blob None else values.Node empty_node)) (sym (node-is path short)) (short, tt, tt)
 
 -- what takes a pointer over has that pointer alone
 taken_pointer : (which side' : Bool) (pointer found : Pointer) → node_side (taken_over (Some which) pointer) side' ≡ Some found → (side' ≡ which) × (pointer ≡ found)
@@ -159,9 +156,9 @@ module _ (longest : ℕ) (digest : Digest) (tree : Tree) (key : List Bool) (lead
     fits = fits_fork digest at fork node on where_to.which pointer where_to.below points where_to.path_side;
     on_side = below;
     begins = prefix_of_side fork key (not where_to.which) where_to.key_side;
-    added = initial_node longest fork (omega (arith, length-side fork pointer.path where_to.which where_to.path_side, of_side.fits));
+    added = initial_node longest fork node_fork;
     kind = subst (λ (s : Option Bool). IsOf longest fork (values.Node (taken_over s pointer))) (sym where_to.path_side)
-        (IsOf-with_side longest fork empty_node where_to.which (Some pointer) (omega (arith, length-side fork pointer.path where_to.which where_to.path_side, of_side.fits), tt, tt)
+        (IsOf-with_side longest fork empty_node where_to.which (Some pointer) (node_fork, tt, tt)
         (record { below = is_prefix-side fork pointer.path where_to.which where_to.path_side; fits = of_side.fits; digest = of_side.digest }));
     known = λ which other is. known_over which other (subst (λ (s : Option Bool). node_side (taken_over s pointer) which ≡ Some other) where_to.path_side is);
     brought = λ is. absurd (false≢true (sym (same_path-apart pointer.path fork (below_apart fork pointer.path where_to.which where_to.path_side)) ∙ (ap (λ (o : Option Pointer). leads_to o fork) (sym points) ∙ is)));
@@ -176,7 +173,10 @@ module _ (longest : ℕ) (digest : Digest) (tree : Tree) (key : List Bool) (lead
       of_side = subst (IsSide at on) points (IsSide-node_side longest at node on kind)
 
       where_to : Parts at pointer.path key on
-      where_to = parts at pointer.path key on (side_of_prefix at pointer.path on of_side.below) below apart (omega (arith, of_side.fits, lead.whole))
+      where_to = parts at pointer.path key on (side_of_prefix at pointer.path on of_side.below) below apart of_side.fits lead.whole
+
+      node_fork : IsNodePath fork
+      node_fork = node-above fork pointer.path where_to.which where_to.path_side of_side.fits
 
       over : (other : Pointer) → node_side node on ≡ Some other → node_side (taken_over (side fork pointer.path) pointer) where_to.which ≡ Some other
       over other is =
@@ -193,7 +193,7 @@ module _ (longest : ℕ) (digest : Digest) (tree : Tree) (key : List Bool) (lead
   pub next_fits : (at : List Bool) (value : Value) (link : Link) → IsOf longest at value → AreOf tree value
       → IsNextLink tree key at value link → IsNext longest digest tree key at value link
   next_fits at (values.Blob blob) link kind known next =
-      absurd (omega (arith, length-side at key next.on next.on_side, kind.0, lead.whole))
+      absurd (data-no_node at kind.0 (node-above at key next.on next.on_side (data-path key lead.whole)))
   next_fits at (values.Node node) link kind known next =
       subst (IsNext longest digest tree key at (values.Node node)) (sym next.next) (branch (node_side node next.on) refl)
     where

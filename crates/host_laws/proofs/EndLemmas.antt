@@ -1,8 +1,9 @@
 -- What a request does at the end of its chain: it reads or writes the value of its key.
-use Rattle.std.proofs.Common.{◌≡◌, ℕ, Bool, true, false, not, List, [], ◌∷◌, ◌++◌, length, eq-eqb, Option, Ok, if◌then◌else◌, refl, ap}
+use Rattle.std.proofs.Common.{◌≡◌, ℕ, Bool, true, false, not, List, [], ◌∷◌, ◌++◌, Option, Ok, if◌then◌else◌, refl, ap}
 use Rattle.tree_keys.proofs.PathLaws.{same_path-self}
 use Rattle.tree_keys.proofs.SideLaws.{is_prefix-self}
-use Rattle.tree_keys.specs.Path.{key_bits, IsData, is_data}
+use Rattle.tree_keys.proofs.TreeLaws.{data-is}
+use Rattle.tree_keys.specs.Path.{IsData, is_data, key_path}
 use Rattle.lamport_clocks.specs.Reading.{Reading}
 use Rattle.record_text.specs.declared.request.Request.{Request}
 use Rattle.record_text.specs.declared.value.Value.{Value}
@@ -18,7 +19,6 @@ use Rattle.verifier_cache.specs.Cache.{entry_of}
 use Rattle.verifier_commands.specs.State.{with_entries}
 use Rattle.verifier_commands.specs.Change.{Change, did_get, did_put}
 use Rattle.verifier_commands.specs.Transition.{Rules}
-use Rattle.host_shard.specs.Content.{key_path}
 use Rattle.host_plan.specs.Request.{command_of, value_after}
 use Rattle.host_laws.specs.Running.{Told, Access, added_told, evicted_told, accesses_told}
 use Rattle.host_laws.specs.Carried.{carried}
@@ -29,7 +29,7 @@ use Rattle.host_laws.proofs.WorksLaws.{standing, Works}
 
 -- a whole path is a data path
 is_whole : (path : List Bool) → IsData path → not (is_data path) ≡ false
-is_whole path whole = ap (λ (b : Bool). not b) (eq-eqb (length path) key_bits whole)
+is_whole path whole = ap (λ (b : Bool). not b) (data-is path whole)
 
 -- reading the value that is there
 works_get : (rules : Rules) (at : List Bool) (hold : Hold) (value : Value) (clock : Reading) → IsData at
@@ -62,7 +62,7 @@ told_request request at hold found clock = (clock.at, change_by request at hold 
 
 -- the access of a request that finds this value
 abbrev pub access_by : Request → Value → Access
-access_by request found = record { put = request.put; path = key_path request.key; value = value_after request found }
+access_by request found = record { put = request.put; path = key_path false request.key; value = value_after request found }
 
 -- what it is to stand at the end of a chain
 pub record IsEnd (rules : Rules) (at : List Bool) (found : Value) (clock : Reading) (request : Request) (hold : Hold) : Type 0 where
@@ -74,17 +74,17 @@ pub record IsEnd (rules : Rules) (at : List Bool) (found : Value) (clock : Readi
 
 -- A request works at its key.
 works_parts : (rules : Rules) (found : Value) (clock : Reading) (put : Bool) (key : ℕ) (value : Option (List ℕ)) (hold : Hold)
-    → IsData (key_path key)
-    → IsEnd rules (key_path key) found clock (record { put = put; key = key; value = value }) hold
+    → IsData (key_path false key)
+    → IsEnd rules (key_path false key) found clock (record { put = put; key = key; value = value }) hold
 works_parts rules found clock true key value hold whole = record {
-  works = works_put rules (key_path key) hold found (values.Blob value) clock whole;
+  works = works_put rules (key_path false key) hold found (values.Blob value) clock whole;
   added = refl;
   evicted = refl;
   accesses = refl;
   carried_none = λ path. refl;
 }
 works_parts rules found clock false key value hold whole = record {
-  works = works_get rules (key_path key) hold found clock whole;
+  works = works_get rules (key_path false key) hold found clock whole;
   added = refl;
   evicted = refl;
   accesses = refl;
@@ -92,6 +92,6 @@ works_parts rules found clock false key value hold whole = record {
 }
 
 pub works_request : (rules : Rules) (found : Value) (clock : Reading) (request : Request) (hold : Hold)
-    → IsData (key_path request.key)
-    → IsEnd rules (key_path request.key) found clock request hold
+    → IsData (key_path false request.key)
+    → IsEnd rules (key_path false request.key) found clock request hold
 works_request rules found clock request hold whole = works_parts rules found clock request.put request.key request.value hold whole

@@ -1,9 +1,10 @@
 -- Shards without records mirror.
-use Rattle.std.proofs.Common.{◌≡◌, ℕ, zero, suc, ◌+◌, ◌<◌, Bool, true, false, List, [], length, Some, None, is_some, if◌then◌else◌, refl, sym, ◌∙◌, ap, subst, arith}
+use Rattle.std.proofs.Common.{◌≡◌, ℕ, zero, suc, ◌+◌, ◌<◌, Bool, true, false, List, [], Some, None, is_some, if◌then◌else◌, refl, sym, ◌∙◌, ap, subst, arith}
 use Rattle.std.specs.List.{AllByRecursion, IsAmong}
 use Rattle.std.proofs.lemmas.Bool.{false≢true}
 use Rattle.std.proofs.lemmas.Option.{none-some, same_Some}
-use Rattle.tree_keys.specs.Path.{same_path, key_bits, IsNodePath}
+use Rattle.tree_keys.specs.Path.{key_bits, depth, root_of, same_path, IsIn, IsNodePath}
+use Rattle.tree_keys.proofs.TreeLaws.{in-child, depth-child}
 use Rattle.tree_keys.proofs.PathLaws.{same_path-true}
 use Rattle.lamport_clocks.specs.declared.stamp.Stamp.{Stamp}
 use Rattle.record_text.specs.declared.value.Pointer.{Pointer}
@@ -13,7 +14,8 @@ use Rattle.merkle_records.specs.Merkle.{Digest}
 use Rattle.host_shard.specs.Tree.{IsPointerIn, IsReached, at_start, pointer_of}
 use Rattle.host_shard.specs.Shard.{tree_of, new_shard}
 use Rattle.host_plan.specs.Setup.{child, paths_below, first_stamp, first_contents, setup_contents}
-use Rattle.host_laws.proofs.ContentsLaws.{length-child, first_contents-append}
+use Rattle.host_laws.proofs.DepthLaws.{node_in}
+use Rattle.host_laws.proofs.ContentsLaws.{first_contents-append}
 use Rattle.host_laws.specs.Mirroring.{IsMirrored, ContentMirrors}
 use Rattle.host_laws.proofs.ToldLaws.{all-append}
 use Rattle.host_laws.proofs.ChainLaws.{initial_node, initial_none}
@@ -23,7 +25,7 @@ pub among_none : {X : Type 0} (x : X) → IsAmong [] x → ⊥
 among_none x is = omega (arith, is.1)
 
 -- A shard without records mirrors.
-pub new_mirrors : (longest : ℕ) (digest : Digest) (frontier : List Bool) (stamp : Stamp) (evictor : ℕ) → 0 < length frontier → IsNodePath frontier
+pub new_mirrors : (longest : ℕ) (digest : Digest) (frontier : List Bool) (stamp : Stamp) (evictor : ℕ) → 0 < depth frontier → IsNodePath frontier
     → IsMirrored longest digest (new_shard frontier stamp evictor) []
 new_mirrors longest digest frontier stamp evictor below_root short = record {
   fits = record {
@@ -63,26 +65,26 @@ new_mirrors longest digest frontier stamp evictor below_root short = record {
         go false apart is = absurd (false≢true is)
 
 -- the shards of a setup mirror
-pub first_mirror : (longest : ℕ) (digest : Digest) (first levels : ℕ) (path : List Bool) → 0 < length path → length path + levels < key_bits
-    → AllByRecursion (ContentMirrors longest digest []) (first_contents first (paths_below levels path))
-first_mirror longest digest first zero path below short =
-    (new_mirrors longest digest path (first_stamp first path) 0 below (omega (arith, short)), tt)
-first_mirror longest digest first (suc levels) path below short =
-    let near = length-child path false in
-    let far = length-child path true in
+pub first_mirror : (wide : Bool) (longest : ℕ) (digest : Digest) (first levels : ℕ) (path : List Bool) → IsIn wide path → 0 < depth path
+    → depth path + levels < key_bits wide → AllByRecursion (ContentMirrors longest digest []) (first_contents first (paths_below levels path))
+first_mirror wide longest digest first zero path within below short =
+    (new_mirrors longest digest path (first_stamp first path) 0 below (node_in wide path within (omega (arith, short))), tt)
+first_mirror wide longest digest first (suc levels) path within below short =
+    let near = depth-child wide path false within in
+    let far = depth-child wide path true within in
     subst (AllByRecursion (ContentMirrors longest digest []))
     (sym (first_contents-append first (paths_below levels (child path false)) (paths_below levels (child path true))))
     (all-append (ContentMirrors longest digest []) (first_contents first (paths_below levels (child path false))) _
-    (first_mirror longest digest first levels (child path false) (omega (arith, near)) (omega (arith, near, short)))
-    (first_mirror longest digest first levels (child path true) (omega (arith, far)) (omega (arith, far, short))))
+    (first_mirror wide longest digest first levels (child path false) (in-child wide path false within) (omega (arith, near)) (omega (arith, near, short)))
+    (first_mirror wide longest digest first levels (child path true) (in-child wide path true within) (omega (arith, far)) (omega (arith, far, short))))
 
 -- all shards of a setup mirror
-pub contents_mirror : (longest : ℕ) (digest : Digest) (first bits : ℕ) → 0 < bits → bits < key_bits
+pub contents_mirror : (longest : ℕ) (digest : Digest) (first bits : ℕ) → 0 < bits → bits < key_bits false
     → AllByRecursion (ContentMirrors longest digest []) (setup_contents first bits)
 contents_mirror longest digest first zero some short = absurd (omega arith)
 contents_mirror longest digest first (suc levels) some short =
     subst (AllByRecursion (ContentMirrors longest digest []))
-    (sym (first_contents-append first (paths_below levels (child [] false)) (paths_below levels (child [] true))))
-    (all-append (ContentMirrors longest digest []) (first_contents first (paths_below levels (child [] false))) _
-    (first_mirror longest digest first levels (child [] false) (omega arith) (omega (arith, short)))
-    (first_mirror longest digest first levels (child [] true) (omega arith) (omega (arith, short))))
+    (sym (first_contents-append first (paths_below levels (child (root_of false) false)) (paths_below levels (child (root_of false) true))))
+    (all-append (ContentMirrors longest digest []) (first_contents first (paths_below levels (child (root_of false) false))) _
+    (first_mirror false longest digest first levels (child (root_of false) false) refl (omega arith) (omega (arith, short)))
+    (first_mirror false longest digest first levels (child (root_of false) true) refl (omega arith) (omega (arith, short))))

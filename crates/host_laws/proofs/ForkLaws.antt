@@ -1,10 +1,11 @@
 -- More on how paths lie to each other: the longest path that two begin with, and paths that begin a key.
-use Rattle.std.proofs.Common.{◌≡◌, ◌≢◌, ◌⊎◌, ◌≤◌, Bool, true, false, not, List, [], ◌∷◌, ◌++◌, length, Some, refl, sym, ◌∙◌, ap, subst, inl, inr, arith}
+use Rattle.std.proofs.Common.{◌≡◌, ◌≢◌, ◌⊎◌, Bool, true, false, not, List, [], ◌∷◌, ◌++◌, Some, refl, sym, ◌∙◌, ap, subst, inl, inr}
 use Rattle.std.proofs.lemmas.Bool.{false≢true}
 use Rattle.std.proofs.lemmas.Option.{same_Some}
-use Rattle.tree_keys.specs.Path.{side, is_prefix, common}
+use Rattle.tree_keys.specs.Path.{side, is_prefix, common, IsPath, IsData}
 use Rattle.tree_keys.proofs.SideLaws.{is_prefix-self, side_of_prefix, prefix_cases, side-prefix, above_no_prefix}
-use Rattle.merkle_records.proofs.KindLaws.{is_prefix-side, length-side}
+use Rattle.merkle_records.proofs.KindLaws.{is_prefix-side}
+use Rattle.host_laws.proofs.DepthLaws.{data_whole}
 
 -- the longest common prefix is a prefix of both
 pub common-first : (p k : List Bool) → is_prefix (common p k) p ≡ true
@@ -35,14 +36,6 @@ common-longest (false ∷ q) (true ∷ p) (b ∷ k) first second = absurd (false
 common-longest (false ∷ q) (false ∷ p) (true ∷ k) first second = absurd (false≢true second)
 common-longest (false ∷ q) (false ∷ p) (false ∷ k) first second = common-longest q p k first second
 
--- a prefix that isn't shorter is the path itself
-pub prefix_whole : (p k : List Bool) → is_prefix p k ≡ true → length k ≤ length p → p ≡ k
-prefix_whole p k begins short = go (prefix_cases p k begins)
-  where
-    go : (p ≡ k) ⊎ ((on : Bool) × (side p k ≡ Some on)) → p ≡ k
-    go (inl same) = same
-    go (inr below) = absurd (omega (arith, length-side p k below.0 below.1))
-
 -- what begins a path above the other doesn't: sides tell paths apart
 pub sides_apart : (at p k : List Bool) (on which : Bool) → side at p ≡ Some on → side at k ≡ Some which → on ≢ which → is_prefix p k ≡ false
 sides_apart at p k on which here there apart = go (is_prefix p k) refl
@@ -59,8 +52,8 @@ pub record Parts (at path key : List Bool) (on : Bool) : Type 0 where
   pub key_side : side (common path key) key ≡ Some (not which)
 
 pub parts : (at path key : List Bool) (on : Bool) → side at path ≡ Some on → side at key ≡ Some on
-    → is_prefix path key ≡ false → length path ≤ length key → Parts at path key on
-parts at path key on here there apart short = go (prefix_cases fork path (common-first path key)) (prefix_cases fork key (common-second path key))
+    → is_prefix path key ≡ false → IsPath path → IsData key → Parts at path key on
+parts at path key on here there apart fits whole = go (prefix_cases fork path (common-first path key)) (prefix_cases fork key (common-second path key))
   where
     fork : List Bool
     fork = common path key
@@ -83,8 +76,8 @@ parts at path key on here there apart short = go (prefix_cases fork path (common
     go : (fork ≡ path) ⊎ ((a : Bool) × (side fork path ≡ Some a)) → (fork ≡ key) ⊎ ((b : Bool) × (side fork key ≡ Some b)) → Parts at path key on
     go (inl same) second = absurd (false≢true (sym apart ∙ subst (λ (p : List Bool). is_prefix p key ≡ true) same (common-second path key)))
     go (inr first) (inl same) =
-        let whole : key ≡ path = prefix_whole key path (subst (λ (p : List Bool). is_prefix p path ≡ true) same (common-first path key)) short in
-        absurd (false≢true (sym apart ∙ subst (λ (p : List Bool). is_prefix p key ≡ true) whole (is_prefix-self key)))
+        let all : key ≡ path = data_whole key path (subst (λ (p : List Bool). is_prefix p path ≡ true) same (common-first path key)) whole fits in
+        absurd (false≢true (sym apart ∙ subst (λ (p : List Bool). is_prefix p key ≡ true) all (is_prefix-self key)))
     go (inr first) (inr second) = record {
       which = first.0;
       below = below;

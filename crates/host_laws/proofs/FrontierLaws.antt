@@ -1,8 +1,11 @@
 -- The head of a chain: the frontier of a shard that can serve a key.
-use Rattle.std.proofs.Common.{ℕ, ◌≡◌, ◌+◌, ◌≤◌, Bool, true, false, List, [], ◌∷◌, length, Some, if◌then◌else◌, refl, ap, subst, arith}
+use Rattle.std.proofs.Common.{ℕ, ◌≡◌, ◌+◌, ◌≤◌, Bool, true, false, List, [], ◌∷◌, length, Option, Some, None, IsSome, if◌then◌else◌, refl, ap, subst, arith}
 use Rattle.std.specs.List.{IsAmong}
-use Rattle.tree_keys.specs.Path.{side, is_prefix, IsData}
+use Rattle.std.proofs.lemmas.Bool.{false≢true}
+use Rattle.tree_keys.specs.Path.{side, is_prefix, IsIn, IsData}
 use Rattle.tree_keys.proofs.PathLaws.{same_path-self, same_path-apart}
+use Rattle.tree_keys.proofs.SideLaws.{prefix_of_side}
+use Rattle.tree_keys.proofs.TreeLaws.{in-below, data-path}
 use Rattle.verifier_commands.proofs.BelowLaws.{below_apart}
 use Rattle.record_text.specs.declared.value.Pointer.{Pointer}
 use Rattle.record_text.specs.declared.value.Value.{Value}
@@ -13,8 +16,9 @@ use Rattle.host_shard.specs.declared.link.Link.{Link}
 use Rattle.host_shard.specs.Tree.{Tree, IsPointerIn}
 use Rattle.host_shard.specs.Chain.{IsChain}
 use Rattle.host_shard.specs.Shard.{Shard, tree_of}
+use Rattle.host_shard.specs.Mirrors.{IsShard, IsKeyOf}
 use Rattle.host_plan.specs.Plan.{IsServable}
-use Rattle.host_laws.proofs.ForkLaws.{prefix_whole}
+use Rattle.host_laws.proofs.DepthLaws.{some_path, data_whole, in-above}
 use Rattle.host_laws.proofs.ChainLaws.{LeadTo, AreOf, next_fits}
 
 -- its records lead to the key
@@ -34,8 +38,23 @@ leads longest digest shard key can = record {
         go true deferred =
             let among = can.mirrors.waits path on pointer is deferred in
             let whole : IsData pointer.path = can.mirrors.hot_keys.whole pointer.path among in
-            let short : length key ≤ length pointer.path = omega (arith, whole, can.own.whole) in
-            absurd (can.cold (subst (IsAmong can.hot) (prefix_whole pointer.path key begins short) among))
+            absurd (can.cold (subst (IsAmong can.hot) (data_whole pointer.path key begins whole (data-path key can.own.whole)) among))
+
+-- the frontier is of the tree of its keys
+pub frontier_in : (wide : Bool) (longest : ℕ) (shard : Shard) (key : List Bool) → IsShard longest shard → IsKeyOf shard key → IsIn wide key → IsIn wide shard.frontier
+frontier_in wide longest shard key fits own within = go (side shard.frontier key) refl own.below
+  where
+    go : (s : Option Bool) → side shard.frontier key ≡ s → IsSome s → IsIn wide shard.frontier
+    go None none is = absurd (false≢true is)
+    go (Some on) below is = in-above wide shard.frontier key (some_path shard.frontier fits.below_root) (prefix_of_side shard.frontier key on below) within
+
+-- and they of its
+pub key_in : (wide : Bool) (shard : Shard) (key : List Bool) → IsKeyOf shard key → IsIn wide shard.frontier → IsIn wide key
+key_in wide shard key own within = go (side shard.frontier key) refl own.below
+  where
+    go : (s : Option Bool) → side shard.frontier key ≡ s → IsSome s → IsIn wide key
+    go None none is = absurd (false≢true is)
+    go (Some on) below is = in-below wide shard.frontier key on within below
 
 -- the frontier's own record
 pub frontier_there : (shard : Shard) → tree_of shard shard.frontier ≡ Some shard.value

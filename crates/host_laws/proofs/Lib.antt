@@ -4,6 +4,7 @@ mod StepLemmas
 pub mod RunLaws
 pub mod ToldLaws
 mod StandingLemmas
+pub mod DepthLaws
 mod FamilyLemmas
 pub mod MomentLaws
 pub mod WorksLaws

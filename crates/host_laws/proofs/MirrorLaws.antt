@@ -1,10 +1,10 @@
 -- A shard mirrors again once a request was served.
-use Rattle.std.proofs.Common.{◌≡◌, ℕ, ◌<◌, Bool, true, false, List, [], ◌∷◌, ◌++◌, length, Option, Some, None, IsSome, if◌then◌else◌, refl, sym, subst}
+use Rattle.std.proofs.Common.{◌≡◌, ℕ, ◌<◌, Bool, true, false, List, [], ◌∷◌, Option, Some, None, IsSome, if◌then◌else◌, refl, sym, subst}
 use Rattle.std.specs.List.{IsAmong, AllByRecursion}
 use Rattle.std.proofs.lemmas.Bool.{false≢true}
-use Rattle.tree_keys.specs.BitsLaws.{length-bits_of}
-use Rattle.tree_keys.specs.Path.{side, same_path, key_bits, IsData}
+use Rattle.tree_keys.specs.Path.{side, same_path, IsIn, IsData, key_path}
 use Rattle.tree_keys.proofs.PathLaws.{same_path-true}
+use Rattle.tree_keys.proofs.TreeLaws.{in-below, key_path-data}
 use Rattle.lamport_clocks.specs.Reading.{Reading}
 use Rattle.record_text.specs.declared.request.Request.{Request}
 use Rattle.record_text.specs.declared.value.Pointer.{Pointer}
@@ -14,12 +14,12 @@ use Rattle.record_text.specs.Value.{IsBlob, IsOf}
 use Rattle.merkle_records.specs.Merkle.{Digest, GivesDigests}
 use Rattle.log_codec.specs.declared.command.Command.{Command}
 use Rattle.log_codec.specs.declared.command.Command.TheVariants.{EvictM, Get, Put}
-use Rattle.soundness.specs.Typed.{IsPathTyped}
+use Rattle.soundness.specs.Typed.{IsPathTypedIn}
 use Rattle.host_shard.specs.declared.link.Link.{Link}
 use Rattle.host_shard.specs.Tree.{Tree, pointer_of}
 use Rattle.host_shard.specs.Chain.{IsChain, last_value, closed_records}
 use Rattle.host_shard.specs.Shard.{Shard, tree_of, one_more, touched}
-use Rattle.host_shard.specs.Content.{Content, cold, hot, vacant, key_path}
+use Rattle.host_shard.specs.Content.{Content, cold, hot, vacant}
 use Rattle.host_shard.specs.Mirrors.{IsKeyOf}
 use Rattle.host_plan.specs.Request.{command_of, value_after, served}
 use Rattle.host_plan.specs.Visit.{visit}
@@ -28,8 +28,9 @@ use Rattle.host_plan.specs.declared.plans.Plan.{Plan}
 use Rattle.host_laws.specs.Mirroring.{IsMirrored, ContentMirrors, IsCold}
 use Rattle.host_laws.proofs.ChainLaws.{LeadTo, AreOf, next_fits}
 use Rattle.host_laws.proofs.ToldLaws.{all-append}
-use Rattle.host_laws.proofs.FrontierLaws.{leads, frontier_there, frontier_of}
-use Rattle.host_laws.proofs.PartLemmas.{whole_none, kept_after, waits_after, hot_waits_after, reached_after, kinds_after, keeps_record, key_record}
+use Rattle.host_laws.proofs.FrontierLaws.{leads, frontier_in, frontier_there, frontier_of}
+use Rattle.host_laws.proofs.DepthLaws.{whole_none}
+use Rattle.host_laws.proofs.PartLemmas.{kept_after, waits_after, hot_waits_after, reached_after, kinds_after, keeps_record, key_record}
 
 -- the value at a chain's end is of its path's kind
 pub last_kind : (longest : ℕ) (digest : Digest) (tree : Tree) (key : List Bool) → LeadTo longest digest tree key
@@ -41,19 +42,19 @@ last_kind longest digest tree key lead path value (link ∷ links) kind known ch
     last_kind longest digest tree key lead link.path link.taken links next.kind next.known chain.1
 
 -- a request leaves its key a value of its kind
-pub after_kind : (longest : ℕ) (request : Request) (found : Value) → IsBlob longest request.value → IsData (key_path request.key)
-    → IsOf longest (key_path request.key) found → IsOf longest (key_path request.key) (value_after request found)
+pub after_kind : (longest : ℕ) (request : Request) (found : Value) → IsBlob longest request.value → IsData (key_path false request.key)
+    → IsOf longest (key_path false request.key) found → IsOf longest (key_path false request.key) (value_after request found)
 after_kind longest request found fits whole kind = go request.put
   where
-    go : (b : Bool) → IsOf longest (key_path request.key) (if b then values.Blob request.value else found)
+    go : (b : Bool) → IsOf longest (key_path false request.key) (if b then values.Blob request.value else found)
     go true = (whole, fits)
     go false = kind
 
 -- The shard mirrors again once it served a request, with the same keys hot.
 pub served_mirrors : (longest : ℕ) (digest : Digest) (worker : ℕ) (shard : Shard) (hot_keys : List (List Bool)) (links : List Link) (request : Request) (clock : Reading)
-    → GivesDigests digest → IsBlob longest request.value → IsMirrored longest digest shard hot_keys → IsKeyOf shard (key_path request.key)
-    → (IsAmong hot_keys (key_path request.key) → ⊥)
-    → IsChain (tree_of shard) (key_path request.key) shard.frontier shard.value links
+    → GivesDigests digest → IsBlob longest request.value → IsMirrored longest digest shard hot_keys → IsKeyOf shard (key_path false request.key)
+    → (IsAmong hot_keys (key_path false request.key) → ⊥)
+    → IsChain (tree_of shard) (key_path false request.key) shard.frontier shard.value links
     → IsMirrored longest digest (served digest worker shard links request clock) hot_keys
 served_mirrors longest digest worker shard hot_keys links request clock digests fits_blob mirrored own not_hot chain = record {
   fits = record {
@@ -74,7 +75,7 @@ served_mirrors longest digest worker shard hot_keys links request clock digests 
 }
   where
     key : List Bool
-    key = key_path request.key
+    key = key_path false request.key
 
     tree : Tree
     tree = tree_of shard
@@ -143,46 +144,43 @@ mirrors_serve longest digest hot_keys (cold shard) key mirrored owns not_hot =
 mirrors_serve longest digest hot_keys (hot found) key mirrored owns not_hot = owns
 mirrors_serve longest digest hot_keys vacant key mirrored owns not_hot = absurd owns
 
--- ---- the kinds of what is logged
+-- ---- the trees and the kinds of what is logged
 
-typed-append : (longest : ℕ) (first second : List Command) → AllByRecursion (IsPathTyped longest) first → AllByRecursion (IsPathTyped longest) second
-    → AllByRecursion (IsPathTyped longest) (first ++ second)
-typed-append longest first second one two = all-append (IsPathTyped longest) first second one two
-
-command_typed : (longest : ℕ) (request : Request) (found : Value) → IsBlob longest request.value → IsPathTyped longest (command_of request found)
+command_typed : (longest : ℕ) (request : Request) (found : Value) → IsBlob longest request.value → IsPathTypedIn false longest (command_of request found)
 command_typed longest request found fits = go request.put
   where
-    go : (b : Bool) → IsPathTyped longest (if b then Put (key_path request.key) (values.Blob request.value) else Get (key_path request.key) found)
-    go true = (length-bits_of key_bits request.key, fits)
-    go false = tt
+    go : (b : Bool) → IsPathTypedIn false longest (if b then Put (key_path false request.key) (values.Blob request.value) else Get (key_path false request.key) found)
+    go true = (refl, (key_path-data false request.key, fits))
+    go false = (refl, tt)
 
-visit_typed : (longest : ℕ) (digest : Digest) (tree : Tree) (key : List Bool) → LeadTo longest digest tree key
-    → (inner : List Command) → AllByRecursion (IsPathTyped longest) inner
-    → (path : List Bool) (value : Value) (links : List Link) → IsOf longest path value → AreOf tree value → IsChain tree key path value links
-    → AllByRecursion (IsPathTyped longest) (visit path links inner)
-visit_typed longest digest tree key lead inner typed path value [] kind known chain = typed
-visit_typed longest digest tree key lead inner typed path value (link ∷ links) kind known chain =
-    let next = next_fits longest digest tree key lead path value link kind known chain.0 in (
-      next.added,
-      typed-append longest (visit link.path links inner) (EvictM link.path path ∷ [])
-          (visit_typed longest digest tree key lead inner typed link.path link.taken links next.kind next.known chain.1) (tt, tt),
+visit_typed : (wide : Bool) (longest : ℕ) (digest : Digest) (tree : Tree) (key : List Bool) → LeadTo longest digest tree key
+    → (inner : List Command) → AllByRecursion (IsPathTypedIn wide longest) inner
+    → (path : List Bool) (value : Value) (links : List Link) → IsIn wide path → IsOf longest path value → AreOf tree value → IsChain tree key path value links
+    → AllByRecursion (IsPathTypedIn wide longest) (visit path links inner)
+visit_typed wide longest digest tree key lead inner typed path value [] within kind known chain = typed
+visit_typed wide longest digest tree key lead inner typed path value (link ∷ links) within kind known chain =
+    let next = next_fits longest digest tree key lead path value link kind known chain.0 in
+    let below = in-below wide path link.path next.on within next.fits.below in (
+      ((below, within), next.added),
+      all-append (IsPathTypedIn wide longest) (visit link.path links inner) (EvictM link.path path ∷ [])
+          (visit_typed wide longest digest tree key lead inner typed link.path link.taken links below next.kind next.known chain.1) (((below, within), tt), tt),
     )
 
--- The commands of a plan are of their paths' kinds.
+-- The paths that a plan's commands name are of one tree, and the values that they bring in are of their paths' kinds.
 pub plan_typed : (longest : ℕ) (digest : Digest) (worker : ℕ) (hot_keys : List (List Bool)) (content after : Content) (request : Request)
     (clock later : Reading) (plan : Plan)
     → IsBlob longest request.value → ContentMirrors longest digest hot_keys content → Owns longest content request.key → IsCold hot_keys content request.key
-    → IsPlan digest worker content request clock plan after later → AllByRecursion (IsPathTyped longest) plan.commands
+    → IsPlan digest worker content request clock plan after later → AllByRecursion (IsPathTypedIn false longest) plan.commands
 plan_typed longest digest worker hot_keys (cold shard) after request clock later plan fits_blob mirrored owns not_hot is =
-    subst (AllByRecursion (IsPathTyped longest)) (sym is.commands) (
-      kind,
-      typed-append longest (visit shard.frontier is.links inner) _
-          (visit_typed longest digest (tree_of shard) key lead inner (command_typed longest request _ fits_blob, tt) shard.frontier shard.value is.links kind (frontier_of shard) is.way)
-          (tt, tt),
+    subst (AllByRecursion (IsPathTypedIn false longest)) (sym is.commands) (
+      (within, kind),
+      all-append (IsPathTypedIn false longest) (visit shard.frontier is.links inner) _
+          (visit_typed false longest digest (tree_of shard) key lead inner (command_typed longest request _ fits_blob, tt) shard.frontier shard.value is.links within kind (frontier_of shard) is.way)
+          ((within, tt), tt),
     )
   where
     key : List Bool
-    key = key_path request.key
+    key = key_path false request.key
 
     lead : LeadTo longest digest (tree_of shard) key
     lead = leads longest digest shard key (record { hot = hot_keys; fits = mirrored.fits; mirrors = mirrored.mirrors; own = owns.1; cold = not_hot })
@@ -190,9 +188,12 @@ plan_typed longest digest worker hot_keys (cold shard) after request clock later
     kind : IsOf longest shard.frontier shard.value
     kind = mirrored.fits.kinds shard.frontier shard.value (frontier_there shard)
 
+    within : IsIn false shard.frontier
+    within = frontier_in false longest shard key owns.0 owns.1 refl
+
     inner : List Command
     inner = command_of request (last_value shard.value is.links) ∷ []
 plan_typed longest digest worker hot_keys (hot found) after request clock later plan fits_blob mirrored owns not_hot is =
-    subst (AllByRecursion (IsPathTyped longest)) (sym is.commands)
-    ((length-bits_of key_bits found.key, mirrored), (command_typed longest request _ fits_blob, (tt, tt)))
+    subst (AllByRecursion (IsPathTypedIn false longest)) (sym is.commands)
+    ((refl, (key_path-data false found.key, mirrored)), (command_typed longest request _ fits_blob, ((refl, tt), tt)))
 plan_typed longest digest worker hot_keys vacant after request clock later plan fits_blob mirrored owns not_hot is = absurd owns

@@ -1,8 +1,9 @@
--- The numbers of paths and of the counters below them.
+-- The numbers that the bits of paths spell, and those of the counters below them.
 use Rattle.std.proofs.Common.{◌≡◌, ℕ, suc, ◌+◌, ◌*◌, ◌^◌, Bool, true, false, List, [], ◌∷◌, ◌++◌, length, refl, sym, ◌∙◌, ap, arith}
 use Rattle.std.proofs.lemmas.List.{length-append}
 use Rattle.std.proofs.Math.Nat.{pow-suc}
 use Rattle.tree_keys.specs.Bits.{bit_value, number_of}
+use Rattle.tree_keys.specs.Path.{IsIn, key_of}
 use Rattle.host_plan.specs.Setup.{child}
 
 pub number_of-none : number_of [] ≡ 0
@@ -21,6 +22,11 @@ number_of-child (true ∷ path) on =
 number_of-child (false ∷ path) on =
     let rest = number_of-child path on in
     omega (arith, rest)
+
+-- and so behind a path of a tree
+pub key_of-child : (wide : Bool) (path : List Bool) (on : Bool) → IsIn wide path → key_of (child path on) ≡ 2 * key_of path + bit_value on
+key_of-child wide [] on within = absurd within
+key_of-child wide (first ∷ bits) on within = number_of-child bits on
 
 -- counters below a path: those of its two children
 pub count_first : (n m p levels : ℕ) → m ≡ 2 * n + 0 → p ≡ 2 ^ levels → m * p ≡ n * 2 ^ suc levels

@@ -1,11 +1,12 @@
 -- The paths of a chain once it is closed: which pointers stand there, and which have stayed as they were.
-use Rattle.std.proofs.Common.{ℕ, ◌≡◌, ◌≢◌, ◌⊎◌, ◌≤◌, Bool, true, false, not, List, [], ◌∷◌, length, Option, Some, None, is_some, IsSome, if◌then◌else◌, refl, sym, ◌∙◌, ap, subst, inl, inr, arith}
+use Rattle.std.proofs.Common.{ℕ, ◌≡◌, ◌≢◌, ◌⊎◌, Bool, true, false, not, List, [], ◌∷◌, Option, Some, None, is_some, IsSome, if◌then◌else◌, refl, sym, ◌∙◌, ap, subst, inl, inr}
 use Rattle.std.specs.List.{IsAmong}
 use Rattle.std.proofs.lemmas.Bool.{false≢true}
 use Rattle.std.proofs.lemmas.Option.{none-some, same_Some}
-use Rattle.tree_keys.specs.Path.{side, is_prefix, same_path, IsData, IsPath}
+use Rattle.tree_keys.specs.Path.{side, is_prefix, same_path, IsData}
 use Rattle.tree_keys.proofs.PathLaws.{same_path-self, same_path-true, same_path-apart}
 use Rattle.tree_keys.proofs.SideLaws.{side-self, is_prefix-self, is_prefix-trans, prefix_of_side, side_of_prefix, prefix_cases, side-prefix, side-trans}
+use Rattle.tree_keys.proofs.TreeLaws.{data-path}
 use Rattle.verifier_commands.proofs.BelowLaws.{below_apart}
 use Rattle.record_text.specs.declared.value.Pointer.{Pointer}
 use Rattle.record_text.specs.declared.value.Node.{Node}
@@ -18,7 +19,8 @@ use Rattle.host_shard.specs.declared.link.Link.{Link}
 use Rattle.host_shard.specs.Tree.{Tree, pointer_of, with_record, IsPointerIn, IsReached, at_start, by_pointer}
 use Rattle.host_shard.specs.Chain.{IsChain, aimed_on, closed_value, closed_records}
 use Rattle.host_shard.specs.Mirrors.{IsKept, IsWaiting}
-use Rattle.host_laws.proofs.ForkLaws.{sides_apart, prefix_whole}
+use Rattle.host_laws.proofs.DepthLaws.{data_whole, kind_path, whole_none}
+use Rattle.host_laws.proofs.ForkLaws.{sides_apart}
 use Rattle.host_laws.proofs.ChainLaws.{LeadTo, AreOf, Leads, IsNext, next_fits}
 
 -- a side is another one, or its other
@@ -34,17 +36,6 @@ pub pointer_side : (longest : ℕ) (path : List Bool) (value : Value) (on : Bool
 pointer_side longest path (values.Blob blob) on pointer kind is = absurd (none-some pointer is)
 pointer_side longest path (values.Node node) on pointer kind is =
     side_of_prefix path pointer.path on (subst (IsSide path on) is (IsSide-node_side longest path node on kind)).below
-
--- a value's path isn't longer than a whole one
-length-kind : (longest : ℕ) (path : List Bool) (value : Value) → IsOf longest path value → IsPath path
-length-kind longest path (values.Blob blob) kind = omega (arith, kind.0)
-length-kind longest path (values.Node node) kind = omega (arith, kind.0)
-
--- a whole path has no pointers
-pub whole_none : (longest : ℕ) (path : List Bool) (value : Value) (on : Bool) (pointer : Pointer) → IsOf longest path value
-    → IsData path → pointer_of value on ≡ Some pointer → ⊥
-whole_none longest path (values.Blob blob) on pointer kind whole is = none-some pointer is
-whole_none longest path (values.Node node) on pointer kind whole is = omega (arith, kind.0, whole)
 
 module _ (longest : ℕ) (digest : Digest) (tree base : Tree) (frontier : List Bool) (top : Value) (key : List Bool) (last : Value)
     (lead : LeadTo longest digest tree key) where
@@ -174,7 +165,7 @@ module _ (longest : ℕ) (digest : Digest) (tree base : Tree) (frontier : List B
       subst (IsOf longest path) (sym (closed_is path value link links next))
       (IsOf-with_side longest path next.node next.on (Some (pointer_to digest link.path became))
       (subst (IsOf longest path) next.is_node part.kind)
-      (record { below = is_prefix-side path link.path next.on next.fits.below; fits = length-kind longest link.path link.taken next.kind; digest = digests _ }))
+      (record { below = is_prefix-side path link.path next.on next.fits.below; fits = kind_path longest link.path link.taken next.kind; digest = digests _ }))
 
   -- ---- the chain in the records
 
@@ -327,7 +318,7 @@ module _ (longest : ℕ) (digest : Digest) (tree base : Tree) (frontier : List B
 
             behind : (ls : List Link) → IsPart full path at.value ls → Kept pointer
             behind [] part =
-                absurd (whole_none longest path at.value on pointer part.kind (ap (λ (k : List Bool). length k) part.chain ∙ lead.whole) leads)
+                absurd (whole_none longest path at.value on pointer part.kind (subst IsData (sym part.chain) lead.whole) leads)
             behind (link ∷ ls) part = turn (one_or_other on next.on)
               where
                 next : IsNext longest digest tree key path at.value link
@@ -444,7 +435,7 @@ module _ (longest : ℕ) (digest : Digest) (tree base : Tree) (frontier : List B
             record { at = at; on = side'; pointer = is.pointer; is = pointer_there; to = is.to; deferred = is.deferred }
         go (to_chain part) =
             let begins = subst (λ (p : List Bool). is_prefix p key ≡ true) is.to (part_begins full is.pointer.path part.value part.links part.is) in
-            absurd (cold (prefix_whole h key begins (omega (arith, whole, lead.whole))))
+            absurd (cold (data_whole h key begins whole (data-path key lead.whole)))
 
     pub reached_after : AreReached tree → AreReached full
     reached_after reached k there = go (classify k)

@@ -1,9 +1,8 @@
 -- The plan of a request runs, for a key of a shard and for a hot key.
-use Rattle.std.proofs.Common.{◌≡◌, ℕ, suc, ◌+◌, ◌*◌, ◌<◌, ◌≤◌, Bool, true, false, List, [], ◌∷◌, ◌++◌, length, Option, Some, None, IsSome, Ok, Err, append-nil, if◌then◌else◌, refl, sym, ◌∙◌, ap, subst, inl, inr, arith}
-use Rattle.std.specs.Int.{Width, w8, w16, w32, w64, w128, byte_len}
+use Rattle.std.proofs.Common.{◌≡◌, ℕ, suc, ◌+◌, ◌≤◌, Bool, true, false, List, [], ◌∷◌, ◌++◌, length, Option, Some, None, IsSome, Ok, Err, append-nil, if◌then◌else◌, refl, sym, ◌∙◌, ap, subst, inl, inr, arith}
 use Rattle.std.specs.List.{AllByRecursion}
-use Rattle.tree_keys.specs.Path.{side, IsBelow, key_bits}
-use Rattle.tree_keys.specs.BitsLaws.{length-bits_of}
+use Rattle.tree_keys.specs.Path.{side, IsBelow, key_path}
+use Rattle.tree_keys.proofs.TreeLaws.{key_path-data}
 use Rattle.lamport_clocks.specs.declared.stamp.Stamp.{Stamp}
 use Rattle.lamport_clocks.specs.Stamp.{IsLater}
 use Rattle.lamport_clocks.specs.Reading.{Reading}
@@ -24,7 +23,7 @@ use Rattle.host_shard.specs.declared.link.Link.{Link}
 use Rattle.host_shard.specs.declared.content.HotRecord.{HotRecord}
 use Rattle.host_shard.specs.Chain.{IsChain, last_value, closed_value}
 use Rattle.host_shard.specs.Shard.{Shard, tree_of, pending_shard}
-use Rattle.host_shard.specs.Content.{Content, cold, hot, vacant, key_path, pending, pending_hot}
+use Rattle.host_shard.specs.Content.{Content, cold, hot, vacant, pending, pending_hot}
 use Rattle.host_plan.specs.Moments.{taking, renewing}
 use Rattle.host_plan.specs.Request.{value_after, served, served_hot}
 use Rattle.host_plan.specs.Plan.{IsServable, CanServe, IsPastEnd, AreLinks, commands_of, IsPlan}
@@ -32,16 +31,13 @@ use Rattle.host_plan.specs.declared.plans.Plan.{Plan}
 use Rattle.host_laws.specs.Running.{Told, Access, run}
 use Rattle.host_laws.specs.Carried.{IsCarried, carried}
 use Rattle.host_laws.specs.Served.{IsResting, CanTake, IsWithin, waiting, kept_in, PlanRuns}
+use Rattle.host_laws.proofs.DepthLaws.{not_root, some_path, depth_in, key_deep}
 use Rattle.host_laws.proofs.ToldLaws.{added_told-append, evicted_told-append, accesses_told-append, carried-append, all-append}
 use Rattle.host_laws.proofs.EndLemmas.{IsEnd, change_by, told_request, works_request}
 use Rattle.host_laws.proofs.VisitLemmas.{Visited, visited}
 use Rattle.host_laws.proofs.MomentLaws.{received-taken, sent-given}
 use Rattle.host_laws.proofs.FrontierLaws.{leads, frontier_there, frontier_of, frontier_based, chain_length}
 use Rattle.host_laws.proofs.BetweenLaws.{clear-bare, length-bare, told_between, between_runs, between_ends}
-
-pub not_root : (path : List Bool) → 0 < length path → is_root path ≡ false
-not_root [] some = absurd (omega (arith, some))
-not_root (bit ∷ path) some = refl
 
 -- ---- stamps
 
@@ -81,7 +77,7 @@ within_between rules element left new clock told is_taken within is_left at_cloc
 
 -- the access of a request with this answer
 abbrev answered : Request → Value → List Access
-answered request value = record { put = request.put; path = key_path request.key; value = value } ∷ []
+answered request value = record { put = request.put; path = key_path false request.key; value = value } ∷ []
 
 -- an element alone
 abbrev handed_out : List Bool → Stamp → ℕ → Value → List Element
@@ -91,34 +87,34 @@ handed_out path stamp number value = record { path = path; value = value; stamp 
 
 -- along the chain, behind the frontier
 cold_way : (rules : Rules) (clock : Reading) (shard : Shard) (request : Request) (links : List Link)
-    → IsServable rules.scheme.format.longest rules.scheme.digest shard (key_path request.key)
-    → IsChain (tree_of shard) (key_path request.key) shard.frontier shard.value links
+    → IsServable rules.scheme.format.longest rules.scheme.digest shard (key_path false request.key)
+    → IsChain (tree_of shard) (key_path false request.key) shard.frontier shard.value links
     → Visited rules shard.records shard.frontier B shard.value links clock request (last_value shard.value links)
 cold_way rules clock shard request links servable chain =
     visited rules (tree_of shard) shard.records clock request
-    (leads rules.scheme.format.longest rules.scheme.digest shard (key_path request.key) servable) shard.frontier B shard.value links
-    (servable.fits.kinds shard.frontier shard.value (frontier_there shard)) (frontier_of shard) (frontier_based shard) chain
+    (leads rules.scheme.format.longest rules.scheme.digest shard (key_path false request.key) servable) shard.frontier B shard.value links
+    (some_path shard.frontier servable.fits.below_root) (servable.fits.kinds shard.frontier shard.value (frontier_there shard)) (frontier_of shard) (frontier_based shard) chain
 
 -- there is room for it
 cold_roomy : (rules : Rules) (state : State) (shard : Shard) (request : Request) (links : List Link) → IsResting rules state (cold shard)
-    → IsServable rules.scheme.format.longest rules.scheme.digest shard (key_path request.key)
-    → IsChain (tree_of shard) (key_path request.key) shard.frontier shard.value links
+    → IsServable rules.scheme.format.longest rules.scheme.digest shard (key_path false request.key)
+    → IsChain (tree_of shard) (key_path false request.key) shard.frontier shard.value links
     → suc (length state.cache.entries + length links) ≤ state.cache.room
 cold_roomy rules state shard request links rest servable chain =
     let few = length-bare state.cache.entries rest.bare in
-    let short = chain_length rules.scheme.format.longest rules.scheme.digest (tree_of shard) (key_path request.key)
-    (leads rules.scheme.format.longest rules.scheme.digest shard (key_path request.key) servable) shard.frontier shard.value links
+    let short = chain_length rules.scheme.format.longest rules.scheme.digest (tree_of shard) (key_path false request.key)
+    (leads rules.scheme.format.longest rules.scheme.digest shard (key_path false request.key) servable) shard.frontier shard.value links
     (servable.fits.kinds shard.frontier shard.value (frontier_there shard)) (frontier_of shard) chain in
-    omega (arith, servable.fits.below_root, servable.own.whole, rest.room)
+    omega (arith, depth_in shard.frontier servable.fits.below_root, servable.fits.below_root, key_path-data false request.key, rest.room)
 
 cold_runs : (rules : Rules) (state : State) (shard : Shard) (after : Content) (request : Request) (plan : Plan) (later : Reading)
-    → CanTake rules state (cold shard) → IsServable rules.scheme.format.longest rules.scheme.digest shard (key_path request.key)
+    → CanTake rules state (cold shard) → IsServable rules.scheme.format.longest rules.scheme.digest shard (key_path false request.key)
     → IsPlan rules.scheme.digest rules.number (cold shard) request state.clock plan after later
     → PlanRuns rules state (cold shard) after request plan later
 cold_runs rules state shard after request plan later can servable is = record {
   told = told;
   runs = ap (λ (c : List Command). run rules state c) is.commands
-      ∙ (between_runs rules state (pending_shard shard) (length is.links) _ way.told new apart (clear-bare state.cache.entries shard.frontier can.rest.bare apart) roomy
+      ∙ (between_runs rules state (pending_shard shard) (length is.links) _ way.told new apart (clear-bare state.cache.entries shard.frontier can.rest.bare servable.fits.below_root) roomy
       (can.rest.known (pending_shard shard) refl) can.rest.open_epoch can.counters way.works
       ∙ ap (λ (r : Reading). Ok (told, record state { clock = r })) (sym is.clock));
   added = ap (λ (xs : List Element). pending_shard shard ∷ xs) (added_told-append way.told _ ∙ ap (λ (xs : List Element). xs ++ []) way.added);
@@ -168,31 +164,24 @@ cold_runs rules state shard after request plan later can servable is = record {
 
 -- ---- a hot key
 
-some_bits : (word : Width) → 0 < 8 * byte_len word
-some_bits w8 = omega arith
-some_bits w16 = omega arith
-some_bits w32 = omega arith
-some_bits w64 = omega arith
-some_bits w128 = omega arith
-
 put_or_stay : (b : Bool) (new old : Option (List ℕ)) → ◌≡◌ {A = Value} (if b then values.Blob new else values.Blob old) (values.Blob (if b then new else old))
 put_or_stay true new old = refl
 put_or_stay false new old = refl
 
 -- at the hot key itself
 hot_end : (rules : Rules) (clock : Reading) (found : HotRecord) (request : Request) → found.key ≡ request.key
-    → IsEnd rules (key_path found.key) (values.Blob found.value) clock request B
+    → IsEnd rules (key_path false found.key) (values.Blob found.value) clock request B
 hot_end rules clock found request same =
-    subst (λ (key : ℕ). IsEnd rules (key_path key) (values.Blob found.value) clock request B) (sym same)
-    (works_request rules (values.Blob found.value) clock request B (length-bits_of key_bits request.key))
+    subst (λ (key : ℕ). IsEnd rules (key_path false key) (values.Blob found.value) clock request B) (sym same)
+    (works_request rules (values.Blob found.value) clock request B (key_path-data false request.key))
 
-hot_apart : (key : ℕ) → is_root (key_path key) ≡ false
-hot_apart key = not_root (key_path key) (omega (arith, length-bits_of key_bits key, some_bits w64))
+hot_apart : (key : ℕ) → is_root (key_path false key) ≡ false
+hot_apart key = not_root (key_path false key) (key_deep false key)
 
 hot_roomy : (rules : Rules) (state : State) (found : HotRecord) → IsResting rules state (hot found) → suc (length state.cache.entries + 0) ≤ state.cache.room
 hot_roomy rules state found rest =
     let few = length-bare state.cache.entries rest.bare in
-    omega (arith, some_bits w64, rest.room)
+    omega (arith, rest.room)
 
 hot_runs : (rules : Rules) (state : State) (found : HotRecord) (after : Content) (request : Request) (plan : Plan) (later : Reading)
     → CanTake rules state (hot found) → found.key ≡ request.key
@@ -201,7 +190,7 @@ hot_runs : (rules : Rules) (state : State) (found : HotRecord) (after : Content)
 hot_runs rules state found after request plan later can same is = record {
   told = told;
   runs = ap (λ (c : List Command). run rules state c) is.commands
-      ∙ (between_runs rules state element 0 _ inner new apart (clear-bare state.cache.entries path can.rest.bare apart) roomy
+      ∙ (between_runs rules state element 0 _ inner new apart (clear-bare state.cache.entries path can.rest.bare (key_deep false found.key)) roomy
       (can.rest.known element refl) can.rest.open_epoch can.counters at_end.works
       ∙ ap (λ (r : Reading). Ok (told, record state { clock = r })) (sym is.clock));
   added = ap (λ (xs : List Element). element ∷ xs) at_end.added;
@@ -222,7 +211,7 @@ hot_runs rules state found after request plan later can same is = record {
     element = pending_hot found
 
     path : List Bool
-    path = key_path found.key
+    path = key_path false found.key
 
     apart : is_root path ≡ false
     apart = hot_apart found.key
@@ -264,11 +253,11 @@ pub request_ends : (rules : Rules) (state : State) (content : Content) (request 
 request_ends rules state (cold shard) request links rest servable way past =
     let apart = not_root shard.frontier servable.fits.below_root in
     let did = cold_way rules (taking state.clock shard.stamp) shard request links servable way in
-    between_ends rules state (pending_shard shard) (length links) _ did.told _ apart (clear-bare state.cache.entries shard.frontier rest.bare apart)
+    between_ends rules state (pending_shard shard) (length links) _ did.told _ apart (clear-bare state.cache.entries shard.frontier rest.bare servable.fits.below_root)
     (cold_roomy rules state shard request links rest servable way) (rest.known (pending_shard shard) refl) rest.open_epoch past did.works
 request_ends rules state (hot found) request links rest same way past =
     let apart = hot_apart found.key in
     let did = hot_end rules (taking state.clock found.stamp) found request same in
-    between_ends rules state (pending_hot found) 0 _ _ _ apart (clear-bare state.cache.entries (key_path found.key) rest.bare apart)
+    between_ends rules state (pending_hot found) 0 _ _ _ apart (clear-bare state.cache.entries (key_path false found.key) rest.bare (key_deep false found.key))
     (hot_roomy rules state found rest) (rest.known (pending_hot found) refl) rest.open_epoch past did.works
 request_ends rules state vacant request links rest serves way past = absurd serves

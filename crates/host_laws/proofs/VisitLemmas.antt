@@ -1,10 +1,10 @@
 -- A request along its chain: its commands work behind the entry at the chain's head, and each path of the chain comes
 -- into the cache once and leaves it once.
-use Rattle.std.proofs.Common.{ℕ, ◌≡◌, suc, Bool, true, false, List, [], ◌∷◌, ◌++◌, length, Option, Some, None, append-nil, if◌then◌else◌, refl, sym, ◌∙◌, ap, subst, inl, inr}
+use Rattle.std.proofs.Common.{ℕ, ◌≡◌, suc, ◌<◌, Bool, true, false, List, [], ◌∷◌, ◌++◌, length, Option, Some, None, append-nil, if◌then◌else◌, refl, sym, ◌∙◌, ap, subst, inl, inr}
 use Rattle.std.specs.List.{AllByRecursion}
 use Rattle.std.proofs.lemmas.Bool.{false≢true}
 use Rattle.std.proofs.lemmas.Option.{none-some}
-use Rattle.tree_keys.specs.Path.{side, same_path}
+use Rattle.tree_keys.specs.Path.{side, same_path, key_path}
 use Rattle.tree_keys.proofs.PathLaws.{same_path-self, same_path-true, same_path-apart}
 use Rattle.tree_keys.proofs.SideLaws.{side-self, side-trans}
 use Rattle.lamport_clocks.specs.Reading.{Reading}
@@ -25,12 +25,12 @@ use Rattle.soundness.specs.Clash.{is_known}
 use Rattle.host_shard.specs.declared.link.Link.{Link}
 use Rattle.host_shard.specs.Tree.{Tree}
 use Rattle.host_shard.specs.Chain.{IsChain, last_value, aimed_on, closed_value, closed_records}
-use Rattle.host_shard.specs.Content.{key_path}
 use Rattle.host_plan.specs.Visit.{visit}
 use Rattle.host_plan.specs.Request.{command_of, value_after}
 use Rattle.host_laws.specs.Running.{Told, added_told, evicted_told, accesses_told}
 use Rattle.host_laws.specs.Carried.{carried, IsVisited, IsCarried}
 use Rattle.host_laws.proofs.ToldLaws.{added_told-append, evicted_told-append, accesses_told-append, carried-append, all-append}
+use Rattle.host_laws.proofs.DepthLaws.{some_path, deeper}
 use Rattle.host_laws.proofs.FamilyLemmas.{parent_of}
 use Rattle.host_laws.proofs.WorksLaws.{Works, told_visit, descend}
 use Rattle.host_laws.proofs.EndLemmas.{access_by, told_request, works_request}
@@ -86,7 +86,7 @@ carried_link-own at hold node middle left on path taken last clock told none =
     evict = did_evict_m (parent_of at middle hold on) (new_entry at (values.Node left) hold) (new_entry path last M)
 
 module _ (rules : Rules) (tree base : Tree) (clock : Reading) (request : Request)
-    (lead : LeadTo rules.scheme.format.longest rules.scheme.digest tree (key_path request.key)) where
+    (lead : LeadTo rules.scheme.format.longest rules.scheme.digest tree (key_path false request.key)) where
   -- the longest value, and the path of the key
   abbrev longest : ℕ
   longest = rules.scheme.format.longest
@@ -95,7 +95,7 @@ module _ (rules : Rules) (tree base : Tree) (clock : Reading) (request : Request
   digest = rules.scheme.digest
 
   abbrev key : List Bool
-  key = key_path request.key
+  key = key_path false request.key
 
   -- below this path the records are those of the tree
   abbrev pub IsBased : List Bool → Type 0
@@ -115,15 +115,15 @@ module _ (rules : Rules) (tree base : Tree) (clock : Reading) (request : Request
         once = λ path. inl (at_end.carried_none path, refl);
       }
 
-  visited_link : (at : List Bool) (hold : Hold) (link : Link) (links : List Link) (value found : Value) → IsBased at
+  visited_link : (at : List Bool) (hold : Hold) (link : Link) (links : List Link) (value found : Value) → 0 < length at → IsBased at
       → (next : IsNext longest digest tree key at value link)
       → Visited rules base link.path M link.taken links clock request found
       → Visited rules base at hold (values.Node next.node) (link ∷ links) clock request found
-  visited_link at hold link links value found based next rest = record {
+  visited_link at hold link links value found some based next rest = record {
     told = told;
     works = subst (λ (v : Value). Works rules (suc (length links)) at hold (values.Node next.node) clock (visit at (link ∷ links) (command_of request found ∷ [])) told v clock)
         (sym (ap (λ (s : Option Bool). aimed_on next.node (pointer_to digest link.path became) s) next.fits.below))
-        (descend rules (length links) at link.path hold next.node next.on link.value link.taken became clock clock _ rest.told next.fits rest.works);
+        (descend rules (length links) at link.path hold next.node next.on link.value link.taken became clock clock _ rest.told next.fits some rest.works);
     added = added_told-append rest.told _ ∙ ap (λ (xs : List _). xs ++ []) rest.added;
     evicted = evicted_told-append rest.told _ ∙ ap (λ (xs : List _). xs ++ []) rest.evicted;
     accesses = accesses_told-append rest.told _ ∙ ap (λ (xs : List _). xs ++ []) rest.accesses;
@@ -190,14 +190,14 @@ module _ (rules : Rules) (tree base : Tree) (clock : Reading) (request : Request
               other = same_path-apart path link.path (λ same. false≢true (sym apart ∙ (ap (same_path link.path) same ∙ same_path-self link.path)))
 
   -- A request works along its chain.
-  pub visited : (at : List Bool) (hold : Hold) (value : Value) (links : List Link) → IsOf longest at value → AreOf tree value → IsBased at
+  pub visited : (at : List Bool) (hold : Hold) (value : Value) (links : List Link) → 0 < length at → IsOf longest at value → AreOf tree value → IsBased at
       → IsChain tree key at value links
       → Visited rules base at hold value links clock request (last_value value links)
-  visited at hold value [] kind known based chain =
+  visited at hold value [] some kind known based chain =
       subst (λ (k : List Bool). Visited rules base k hold value [] clock request value) (sym chain) (visited_end hold value)
-  visited at hold value (link ∷ links) kind known based chain =
+  visited at hold value (link ∷ links) some kind known based chain =
       let next = next_fits longest digest tree key lead at value link kind known chain.0 in
-      let rest = visited link.path M link.taken links next.kind next.known
+      let rest = visited link.path M link.taken links (some_path link.path (deeper at link.path next.on some next.fits.below)) next.kind next.known
       (λ k on below. based k next.on (side-trans at link.path k next.on on next.fits.below below)) chain.1 in
       subst (λ (v : Value). Visited rules base at hold v (link ∷ links) clock request (last_value link.taken links)) (sym next.is_node)
-      (visited_link at hold link links value (last_value link.taken links) based next rest)
+      (visited_link at hold link links value (last_value link.taken links) some based next rest)

@@ -1,7 +1,6 @@
 -- Commands that work behind the entry of a path: they do the same whatever clear entries stand before it.
-use Rattle.std.proofs.Common.{◌≡◌, ℕ, suc, ◌+◌, ◌≤◌, Bool, true, false, List, [], ◌∷◌, ◌++◌, length, nat_le, Option, Some, None, is_some, Ok, refl, ◌∙◌, ap, subst, arith}
+use Rattle.std.proofs.Common.{◌≡◌, ℕ, suc, ◌+◌, ◌<◌, ◌≤◌, Bool, true, false, List, [], ◌∷◌, ◌++◌, length, nat_le, Option, Some, None, is_some, Ok, refl, ◌∙◌, ap, subst, arith}
 use Rattle.std.proofs.lemmas.List.{length-append}
-use Rattle.std.proofs.lemmas.Option.{none-some}
 use Rattle.std.proofs.lemmas.Bool.Decides.{nat_tests}
 use Rattle.tree_keys.specs.Path.{side, is_prefix}
 use Rattle.tree_keys.proofs.PathLaws.{same_path-self, same_path-apart}
@@ -27,6 +26,7 @@ use Rattle.verifier_commands.specs.Changes.{add_under, evict_under, defer_under}
 use Rattle.verifier_commands.specs.Transition.{Rules, transition, is_root, is_full, evicted_as}
 use Rattle.host_plan.specs.Moments.{giving}
 use Rattle.host_laws.specs.Running.{Told, run}
+use Rattle.host_laws.proofs.DepthLaws.{not_root, deeper}
 use Rattle.host_laws.proofs.StepLemmas.{test-passed, need-there, and_then-there, timed-there}
 use Rattle.host_laws.proofs.RunLaws.{run-none, run-one, run-step, run-append}
 use Rattle.host_laws.proofs.StandingLemmas.{entry_of-last, entry_of-front, entry_of-neither, replaced-last, replaced-front, without-last}
@@ -71,11 +71,9 @@ works-deeper rules depth more at hold old new clock after commands told deeper w
 
 -- ---- a child that comes and goes
 
--- a path below another isn't the root
-not_root : (at path : List Bool) (on : Bool) → side at path ≡ Some on → is_root path ≡ false
-not_root [] [] on below = absurd (none-some on below)
-not_root (a ∷ at) [] on below = absurd (none-some on below)
-not_root at (bit ∷ path) on below = refl
+-- a path below one of a tree is no root
+below_no_root : (at path : List Bool) (on : Bool) → 0 < length at → side at path ≡ Some on → is_root path ≡ false
+below_no_root at path on some below = not_root path (deeper at path on some below)
 
 -- what stands before a path, and the path, are clear of a path below
 pub clear-below : (at path : List Bool) (on : Bool) (front : List Entry) (entry : Entry) → side at path ≡ Some on → entry.path ≡ at
@@ -87,15 +85,15 @@ clear-below at path on front entry below is clear k begins =
 
 -- the child comes in
 comes : (rules : Rules) (at path : List Bool) (hold : Hold) (node : Node) (on : Bool) (value taken : Value) (clock : Reading)
-    (front : List Entry) (room : ℕ) → (fits : Fits rules.scheme.digest at node on path value taken)
+    (front : List Entry) (room : ℕ) → (fits : Fits rules.scheme.digest at node on path value taken) → 0 < length at
     → IsClear at front → suc (suc (length front)) ≤ room
     → transition rules (standing front room clock (new_entry at (values.Node node) hold)) (AddM path value at)
     ≡ Ok (
       did_add_m (new_entry at (values.Node node) hold) (parent_of at fits.middle hold on) (new_entry path taken M),
       standing (front ++ parent_of at fits.middle hold on ∷ []) room clock (new_entry path taken M),
     )
-comes rules at path hold node on value taken clock front room fits clear roomy =
-    test-passed (is_root path) refusals.IsRoot _ _ (not_root at path on fits.below)
+comes rules at path hold node on value taken clock front room fits some clear roomy =
+    test-passed (is_root path) refusals.IsRoot _ _ (below_no_root at path on some fits.below)
     (test-passed (is_some (entry_of path (front ++ before ∷ []))) refusals.AlreadyCached _ _
     (ap (λ (o : Option Entry). is_some o) (clear-below at path on front before fits.below refl clear path (is_prefix-self path)))
     (test-passed (is_full (standing front room clock before)) refusals.CacheFull _ _ full
@@ -164,14 +162,14 @@ told_visit at hold node middle on path taken last left clock told after =
 -- Commands that work behind a child work behind its parent, between the add and the evict of the child.
 pub descend : (rules : Rules) (depth : ℕ) (at path : List Bool) (hold : Hold) (node : Node) (on : Bool) (value taken last : Value)
     (clock after : Reading) (inner : List Command) (told : Told)
-    → (fits : Fits rules.scheme.digest at node on path value taken)
+    → (fits : Fits rules.scheme.digest at node on path value taken) → 0 < length at
     → Works rules depth path M taken clock inner told last after
     → let left = pointing rules.scheme.digest node on path last in
     Works rules (suc depth) at hold (values.Node node) clock (AddM path value at ∷ (inner ++ EvictM path at ∷ []))
     (told_visit at hold node fits.middle on path taken last left clock told after) (values.Node left) after
-descend rules depth at path hold node on value taken last clock after inner told fits works front room clear roomy =
+descend rules depth at path hold node on value taken last clock after inner told fits some works front room clear roomy =
     run-step rules _ (AddM path value at) (inner ++ EvictM path at ∷ []) _ (standing (front ++ parent ∷ []) room clock (new_entry path taken M)) _ _
-    (comes rules at path hold node on value taken clock front room fits clear (omega arith))
+    (comes rules at path hold node on value taken clock front room fits some clear (omega arith))
     (run-append rules _ inner (EvictM path at ∷ []) told _ (standing (front ++ parent ∷ []) room after gone) _
     (works (front ++ parent ∷ []) room (clear-below at path on front parent fits.below refl clear) inside)
     (run-one rules _ (EvictM path at) _ (standing front room after later) evicted))
@@ -200,7 +198,7 @@ descend rules depth at path hold node on value taken last clock after inner told
     evicted : transition rules (standing (front ++ parent ∷ []) room after gone) (EvictM path at)
         ≡ Ok (did_evict_m parent later gone, standing front room after later)
     evicted =
-        test-passed (is_root path) refusals.IsRoot _ _ (not_root at path on fits.below)
+        test-passed (is_root path) refusals.IsRoot _ _ (below_no_root at path on some fits.below)
         (need-there (entry_of path ((front ++ parent ∷ []) ++ gone ∷ [])) refusals.NotCached _ _ gone both.child_there
         (need-there (entry_of at ((front ++ parent ∷ []) ++ gone ∷ [])) refusals.ParentNotCached _ _ parent both.parent_there
         (and_then-there (evict_under digest parent gone) _ _ later (leaves digest at node on path value taken last hold fits)
@@ -217,14 +215,14 @@ told_lent number at hold node middle left on path taken clock later =
 
 -- A child comes in by its digest and is handed out with the next counter.
 pub lends : (rules : Rules) (at path : List Bool) (hold : Hold) (node : Node) (on : Bool) (value taken : Value) (clock : Reading)
-    → (fits : Fits rules.scheme.digest at node on path value taken)
+    → (fits : Fits rules.scheme.digest at node on path value taken) → 0 < length at
     → (giving clock).at.counter ≤ clock.end
     → let left = lending node on fits.pointer in
     Works rules 1 at hold (values.Node node) clock (AddM path value at ∷ EvictBM path at (giving clock).at ∷ [])
     (told_lent rules.number at hold node fits.middle left on path taken clock (giving clock)) (values.Node left) (giving clock)
-lends rules at path hold node on value taken clock fits counters front room clear roomy =
+lends rules at path hold node on value taken clock fits some counters front room clear roomy =
     run-step rules _ (AddM path value at) (EvictBM path at (giving clock).at ∷ []) _ (standing (front ++ parent ∷ []) room clock child) _ _
-    (comes rules at path hold node on value taken clock front room fits clear (omega arith))
+    (comes rules at path hold node on value taken clock front room fits some clear (omega arith))
     (run-one rules _ (EvictBM path at (giving clock).at) _ (standing front room (giving clock) later) evicted)
   where
     left : Node
@@ -245,7 +243,7 @@ lends rules at path hold node on value taken clock fits counters front room clea
     evicted : transition rules (standing (front ++ parent ∷ []) room clock child) (EvictBM path at (giving clock).at)
         ≡ Ok (did_evict_bm parent later child (evicted_as rules.number child (giving clock).at), standing front room (giving clock) later)
     evicted =
-        test-passed (is_root path) refusals.IsRoot _ _ (not_root at path on fits.below)
+        test-passed (is_root path) refusals.IsRoot _ _ (below_no_root at path on some fits.below)
         (need-there (entry_of path ((front ++ parent ∷ []) ++ child ∷ [])) refusals.NotCached _ _ child both.child_there
         (need-there (entry_of at ((front ++ parent ∷ []) ++ child ∷ [])) refusals.ParentNotCached _ _ parent both.parent_there
         (and_then-there (defer_under parent child) _ _ later (is_lent rules.scheme.digest at node on path value taken hold fits)

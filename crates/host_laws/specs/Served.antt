@@ -1,7 +1,7 @@
 -- What a request's commands do to the verifier of its worker.
-use Rattle.std.specs.Prelude.{◌≡◌, ◌⊎◌, ℕ, ◌<◌, ◌≤◌, Bool, List, [], ◌∷◌, Option, Some, None, Ok}
+use Rattle.std.specs.Prelude.{◌≡◌, ◌⊎◌, ℕ, ◌<◌, ◌≤◌, Bool, false, List, [], ◌∷◌, Option, Some, None, IsTrue, Ok}
 use Rattle.std.specs.List.{AllByRecursion}
-use Rattle.tree_keys.specs.Path.{IsBelow, key_bits}
+use Rattle.tree_keys.specs.Path.{IsBelow, key_bits, key_path}
 use Rattle.lamport_clocks.specs.declared.stamp.Stamp.{Stamp}
 use Rattle.lamport_clocks.specs.Stamp.{IsLater}
 use Rattle.lamport_clocks.specs.Reading.{Reading}
@@ -11,22 +11,22 @@ use Rattle.record_text.specs.declared.value.Value.{Value}
 use Rattle.record_text.specs.declared.value.Value.TheVariants as values
 use Rattle.verifier_cache.specs.declared.entry.Entry.{Entry}
 use Rattle.verifier_commands.specs.declared.state.State.{State}
-use Rattle.verifier_commands.specs.Transition.{Rules}
-use Rattle.host_shard.specs.Content.{Content, cold, hot, vacant, key_path, pending}
+use Rattle.verifier_commands.specs.Transition.{Rules, is_root}
+use Rattle.host_shard.specs.Content.{Content, cold, hot, vacant, pending}
 use Rattle.host_plan.specs.Plan.{IsOpenAt, clock_after}
 use Rattle.host_plan.specs.declared.plans.Plan.{Plan}
 use Rattle.host_laws.specs.Running.{Told, Access, run, added_told, evicted_told, accesses_told}
 use Rattle.host_laws.specs.Carried.{IsCarried, carried}
 
--- nothing is cached but the root, if even that
+-- nothing is cached but a root, if even that
 abbrev pub IsBare : List Entry → Type 0
-IsBare entries = (entries ≡ []) ⊎ ((root : Entry) × (root.path ≡ []) × (entries ≡ root ∷ []))
+IsBare entries = (entries ≡ []) ⊎ ((root : Entry) × IsTrue (is_root root.path) × (entries ≡ root ∷ []))
 
 -- A verifier at rest that may take a content in: there is room for each path above a key, and the content's element is of
 -- one of the verifiers and of an open epoch.
 pub record IsResting (rules : Rules) (state : State) (content : Content) : Type 0 where
   pub bare : IsBare state.cache.entries
-  pub room : key_bits < state.cache.room
+  pub room : key_bits false < state.cache.room
   pub known : (element : Element) → pending content ≡ Some element → element.verifier < rules.verifiers
   pub open_epoch : IsOpenAt state.clock content
 
@@ -64,7 +64,7 @@ IsWithin (Some before) (Some after) at = IsLater at before.stamp × IsFrom after
 
 -- the get or put of a request that was answered so
 abbrev pub access_for : Request → Option (List ℕ) → Access
-access_for request answer = record { put = request.put; path = key_path request.key; value = values.Blob answer }
+access_for request answer = record { put = request.put; path = key_path false request.key; value = values.Blob answer }
 
 -- The plan of a request runs: the verifier accepts its commands, the same entries are cached afterwards, and the clock is
 -- the plan's. They add the element with which the content waited and no other, and evict that with which the content

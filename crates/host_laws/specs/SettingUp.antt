@@ -1,7 +1,7 @@
 -- What the setup's commands do to verifier 0, and what they leave.
-use Rattle.std.specs.Prelude.{◌≡◌, ℕ, zero, suc, ◌^◌, ◌<◌, ◌≤◌, Bool, true, false, List, [], ◌∷◌, length, Some, Ok}
+use Rattle.std.specs.Prelude.{◌≡◌, ℕ, zero, suc, ◌^◌, ◌<◌, ◌≤◌, Bool, true, false, List, [], ◌∷◌, Some, Ok}
 use Rattle.std.specs.List.{AllByRecursion, flat_map}
-use Rattle.tree_keys.specs.Path.{key_bits}
+use Rattle.tree_keys.specs.Path.{key_bits, depth, root_of}
 use Rattle.lamport_clocks.specs.declared.header.Header.{Header}
 use Rattle.lamport_clocks.specs.Reading.{Reading}
 use Rattle.record_text.specs.declared.value.Pointer.{Pointer}
@@ -18,7 +18,7 @@ use Rattle.verifier_commands.specs.Change.{Change, did_add_m, did_evict_m, did_a
 use Rattle.verifier_commands.specs.Changes.{above}
 use Rattle.soundness.specs.StateHistory.{rules_under}
 use Rattle.soundness.specs.Clash.{is_known}
-use Rattle.soundness.specs.Typed.{IsPathTyped}
+use Rattle.soundness.specs.Typed.{IsPathTypedIn}
 use Rattle.host_shard.specs.Content.{pending}
 use Rattle.host_plan.specs.Setup.{child, setup_commands, setup_contents}
 use Rattle.host_laws.specs.Running.{Told, run, added_told, evicted_told, accesses_told}
@@ -35,12 +35,12 @@ set_up_pointer digest (suc levels) path =
       side1 = Some (set_up_pointer digest levels (child path true));
     }))
 
--- the root once 2^bits shards are set up
+-- The root once 2^bits shards are set up: that of the tree whose keys have 64 bits.
 abbrev pub set_up_root : Digest → ℕ → Node
 set_up_root digest zero = empty_node
 set_up_root digest (suc levels) = record {
-  side0 = Some (set_up_pointer digest levels (child [] false));
-  side1 = Some (set_up_pointer digest levels (child [] true));
+  side0 = Some (set_up_pointer digest levels (child (root_of false) false));
+  side1 = Some (set_up_pointer digest levels (child (root_of false) true));
 }
 
 -- the clock of the first epoch at this counter
@@ -50,7 +50,7 @@ first_clock first end counter = record { first = first; end = end; at = record {
 -- the state of verifier 0 once 2^bits shards are set up
 abbrev pub set_up_state : Scheme → Header → ℕ → State
 set_up_state scheme header bits = record {
-  cache = record { entries = new_entry [] (values.Node (set_up_root scheme.digest bits)) Root ∷ []; room = header.cache };
+  cache = record { entries = new_entry (root_of false) (values.Node (set_up_root scheme.digest bits)) Root ∷ []; room = header.cache };
   clock = first_clock header.first header.end (2 ^ bits);
 }
 
@@ -69,7 +69,7 @@ IsNew (did_next_epoch sealed) = Unit {0}
 -- a counter for each.
 pub record CanSetUp (header : Header) (bits : ℕ) : Type 0 where
   pub some : 0 < bits
-  pub short : bits < key_bits
+  pub short : bits < key_bits false
   pub room : bits < header.cache
   pub counters : 2 ^ bits ≤ header.end
 
@@ -82,5 +82,5 @@ pub record SetupRuns (scheme : Scheme) (header : Header) (bits : ℕ) : Type 0 w
   pub evicted : evicted_told told ≡ flat_map (λ content. waiting (pending content)) (setup_contents header.first bits)
   pub accesses : accesses_told told ≡ []
   pub new : AllByRecursion (λ one. IsNew one.1) told
-  pub apart : (path : List Bool) → bits < length path → carried path told ≡ []
-  pub typed : AllByRecursion (IsPathTyped scheme.format.longest) (setup_commands header.first bits)
+  pub apart : (path : List Bool) → bits < depth path → carried path told ≡ []
+  pub typed : AllByRecursion (IsPathTypedIn false scheme.format.longest) (setup_commands header.first bits)

@@ -1,14 +1,15 @@
 -- The setup of the shards.
-use Rattle.std.proofs.Common.{◌≡◌, ◌≢◌, ◌⊎◌, ℕ, zero, suc, ◌+◌, ◌-◌, ◌*◌, ◌/◌, ◌^◌, ◌<◌, ◌≤◌, Bool, true, false, List, [], ◌∷◌, ◌++◌, length, sym, ◌∙◌, ap, inl, inr, append_assoc, length-append, arith}
+use Rattle.std.proofs.Common.{◌≡◌, ◌≢◌, ◌⊎◌, ℕ, zero, suc, ◌+◌, ◌-◌, ◌*◌, ◌/◌, ◌^◌, ◌<◌, ◌≤◌, Bool, true, false, List, [], ◌∷◌, ◌++◌, length, refl, sym, ◌∙◌, ap, inl, inr, append_assoc, length-append, arith}
 use Rattle.std.proofs.Math.Nat.{pow-le-pow_right, eq-or-lt_of_le, mul-div_cancel}
 use Rattle.std.proofs.lemmas.Nat.{pow_below, pow_pos}
-use Rattle.std.proofs.lemmas.Bool.{cases_lt}
+use Rattle.std.proofs.lemmas.Bool.{cases_lt, true≢false}
 use Rattle.std.proofs.lemmas.List.{map-append}
 use Rattle.std.specs.List.{AllByRecursion}
 use Rattle.std.specs.Prelude.{map}
 use Rattle.tree_keys.specs.Bits.{number_of}
-use Rattle.tree_keys.specs.Path.{word_of}
+use Rattle.tree_keys.specs.Path.{depth, tree_of, IsPath, IsNodePath, root_of, key_of, word_of}
 use Rattle.tree_keys.proofs.BitsLaws.{number_of-lt}
+use Rattle.tree_keys.proofs.TreeLaws.{node-path, depth-child}
 use Rattle.record_text.specs.declared.value.Value.{Value}
 use Rattle.record_text.specs.Value.{initial_value}
 use Rattle.record_text.specs.Element.{IsStamp}
@@ -39,18 +40,36 @@ exponent n r bits is low high = go (cases_lt r bits)
     go (inl below) = absurd (too_low below)
     go (inr above) = or_equal (eq-or-lt_of_le {n = bits} {m = r} above)
 
--- the number of a path of at most ten bits
-pub few_numbers : (path : List Bool) → length path ≤ 10 → number_of path < 1024
-few_numbers path few =
-    let small = number_of-lt path in
-    let more : 2 ^ length path ≤ 2 ^ 10 = pow-le-pow_right {n = 2} (omega arith) {i = length path} {j = 10} few in
+-- a path to which at most ten bits lead is a node's
+pub few_node : (path : List Bool) → depth path ≤ 10 → IsNodePath path
+few_node [] few = tt
+few_node (true ∷ bits) few = omega arith
+few_node (false ∷ bits) few = omega arith
+
+few_path : (path : List Bool) → depth path ≤ 10 → IsPath path
+few_path path few = node-path path (few_node path few)
+
+-- below a root a bit more is a bit deeper
+pub deeper : (path : List Bool) (on : Bool) → 0 < depth path → depth (child path on) ≡ suc (depth path)
+deeper [] on below = absurd (omega arith)
+deeper (wide ∷ bits) on below = depth-child wide (wide ∷ bits) on refl
+
+-- the number of a path to which at most ten bits lead
+pub few_numbers : (path : List Bool) → depth path ≤ 10 → key_of path < 1024
+few_numbers [] few = omega arith
+few_numbers (wide ∷ bits) few =
+    let small = number_of-lt bits in
+    let more : 2 ^ length bits ≤ 2 ^ 10 = pow-le-pow_right {n = 2} (omega arith) {i = length bits} {j = 10} few in
     omega arith
 
 -- the number of a path, from its word
-pub number_in_word : (path : List Bool) (word len : ℕ) → word ≡ word_of 64 path → len ≡ length path → word / 2 ^ (64 - len) ≡ number_of path
-number_in_word path word len is long =
-    ap (λ (w : ℕ). w / 2 ^ (64 - len)) is ∙ ap (λ (n : ℕ). word_of 64 path / 2 ^ (64 - n)) long
-    ∙ mul-div_cancel (number_of path) {n = 2 ^ (64 - length path)} (pow_pos (64 - length path))
+pub number_in_word : (path : List Bool) (word len : ℕ) → tree_of path ≡ false → word ≡ word_of path → len ≡ depth path → word / 2 ^ (64 - len) ≡ key_of path
+number_in_word [] word len narrow is long =
+    ap (λ (w : ℕ). w / 2 ^ (64 - len)) is ∙ ap (λ (n : ℕ). 0 / 2 ^ (64 - n)) long
+number_in_word (true ∷ bits) word len narrow is long = absurd (true≢false narrow)
+number_in_word (false ∷ bits) word len narrow is long =
+    ap (λ (w : ℕ). w / 2 ^ (64 - len)) is ∙ ap (λ (n : ℕ). word_of (false ∷ bits) / 2 ^ (64 - n)) long
+    ∙ mul-div_cancel (number_of bits) {n = 2 ^ (64 - length bits)} (pow_pos (64 - length bits))
 
 -- a number that isn't 0 is one more than the one before
 pub one_before : (n : ℕ) → n ≢ 0 → suc (n - 1) ≡ n
@@ -108,33 +127,34 @@ come first levels path low high start two three some is_low is_high is_two is_th
 
 -- ---- each is a command
 
-first_typed : (first : ℕ) (path : List Bool) → first < 2 ^ 32 → length path ≤ 10 → IsStamp (first_stamp first path)
+first_typed : (first : ℕ) (path : List Bool) → first < 2 ^ 32 → depth path ≤ 10 → IsStamp (first_stamp first path)
 first_typed first path small few = record {
   epoch = small;
   counter = let number = few_numbers path few in omega arith;
 }
 
-set_up_typed : (first levels : ℕ) (path parent : List Bool) → first < 2 ^ 32 → length path + levels ≤ 10 → length parent ≤ 10
+set_up_typed : (first levels : ℕ) (path parent : List Bool) → first < 2 ^ 32 → 0 < depth path → depth path + levels ≤ 10 → depth parent ≤ 10
     → AllByRecursion (IsPathCommand longest_blob) (set_up first levels path parent)
-set_up_typed first zero path parent small few above =
-    let own : length path ≤ 64 = omega arith in
-    let over : length parent ≤ 64 = omega arith in
+set_up_typed first zero path parent small some few above =
+    let own : IsPath path = few_path path (omega arith) in
+    let over : IsPath parent = few_path parent above in
     ((initial_value-kind longest_blob path own, over), ((own, over, first_typed first path small (omega arith)), tt))
-set_up_typed first (suc levels) path parent small few above =
-    let own : length path ≤ 64 = omega arith in
-    let over : length parent ≤ 64 = omega arith in
-    let longer : (on : Bool) → length (child path on) + levels ≤ 10 = λ on. omega (arith, length-append path (on ∷ [])) in (
+set_up_typed first (suc levels) path parent small some few above =
+    let own : IsPath path = few_path path (omega arith) in
+    let over : IsPath parent = few_path parent above in
+    let below : (on : Bool) → 0 < depth (child path on) = λ on. omega (arith, deeper path on some) in
+    let longer : (on : Bool) → depth (child path on) + levels ≤ 10 = λ on. omega (arith, deeper path on some) in (
       (initial_value-kind longest_blob path own, over),
       AllByRecursion-append (IsPathCommand longest_blob) (set_up first levels (child path false) path) _
-          (set_up_typed first levels (child path false) path small (longer false) (omega arith))
+          (set_up_typed first levels (child path false) path small (below false) (longer false) (omega arith))
           (AllByRecursion-append (IsPathCommand longest_blob) (set_up first levels (child path true) path) _
-          (set_up_typed first levels (child path true) path small (longer true) (omega arith))
+          (set_up_typed first levels (child path true) path small (below true) (longer true) (omega arith))
           ((own, over), tt)),
     )
 
 pub setup_typed : (first bits : ℕ) → first < 2 ^ 32 → bits ≤ 10 → AllByRecursion (IsPathCommand longest_blob) (setup_commands first bits)
 setup_typed first zero small few = tt
 setup_typed first (suc levels) small few =
-    AllByRecursion-append (IsPathCommand longest_blob) (set_up first levels (child [] false) []) _
-    (set_up_typed first levels (child [] false) [] small (omega arith) (omega arith))
-    (set_up_typed first levels (child [] true) [] small (omega arith) (omega arith))
+    AllByRecursion-append (IsPathCommand longest_blob) (set_up first levels (child (root_of false) false) (root_of false)) _
+    (set_up_typed first levels (child (root_of false) false) (root_of false) small (omega arith) (omega arith) (omega arith))
+    (set_up_typed first levels (child (root_of false) true) (root_of false) small (omega arith) (omega arith) (omega arith))

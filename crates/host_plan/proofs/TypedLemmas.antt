@@ -12,6 +12,7 @@ use Rattle.record_text.specs.Element.{IsStamp}
 use Rattle.log_codec.specs.declared.command.Command.{Command}
 use Rattle.log_codec.specs.Command.{IsPathCommand}
 use Rattle.tree_keys.proofs.SideLaws.{above_apart}
+use Rattle.tree_keys.proofs.TreeLaws.{data-path, node-path}
 use Rattle.host_shard.specs.declared.link.Link.{Link}
 use Rattle.host_shard.specs.Tree.{Tree}
 use Rattle.host_shard.specs.Chain.{IsChain}
@@ -20,10 +21,10 @@ use Rattle.merkle_records.specs.Merkle.{Digest}
 use Rattle.host_shard.proofs.ChainLaws.{AreOf, next_of, closed_end}
 use Rattle.host_plan.specs.Visit.{visit, between}
 
--- the path of a value isn't longer than a key's
+-- the path of a value isn't longer than the keys of its tree
 length-IsOf : (longest : ℕ) (path : List Bool) (value : Value) → IsOf longest path value → IsPath path
-length-IsOf longest path (values.Blob blob) kind = omega (arith, kind.0)
-length-IsOf longest path (values.Node node) kind = omega (arith, kind.0)
+length-IsOf longest path (values.Blob blob) kind = data-path path kind.0
+length-IsOf longest path (values.Node node) kind = node-path path kind.0
 
 -- all of two lists joined
 pub AllByRecursion-append : {X : Type 0} (P : X → Type 0) (xs ys : List X) → AllByRecursion P xs → AllByRecursion P ys → AllByRecursion P (xs ++ ys)

@@ -1,5 +1,6 @@
 -- What one request does to a record, to a shard and to a hot record, and its commands.
 use Rattle.std.specs.Prelude.{ℕ, false, List, [], ◌∷◌, if◌then◌else◌}
+use Rattle.tree_keys.specs.Path.{key_path}
 use Rattle.lamport_clocks.specs.Reading.{Reading}
 use Rattle.record_text.specs.declared.request.Request.{Request}
 use Rattle.record_text.specs.declared.value.Value.{Value}
@@ -11,15 +12,15 @@ use Rattle.host_shard.specs.declared.link.Link.{Link}
 use Rattle.host_shard.specs.declared.content.HotRecord.{HotRecord}
 use Rattle.host_shard.specs.Chain.{last_value, closed_value, closed_records}
 use Rattle.host_shard.specs.Shard.{Shard, pending_shard, one_more, touched}
-use Rattle.host_shard.specs.Content.{key_path, pending_hot}
+use Rattle.host_shard.specs.Content.{pending_hot}
 use Rattle.host_plan.specs.Moments.{renewing}
 use Rattle.host_plan.specs.Visit.{visit, between}
 
 -- its command, where the key has this value
 abbrev pub command_of : Request → Value → Command
 command_of request found =
-    if request.put then Put (key_path request.key) (values.Blob request.value)
-    else Get (key_path request.key) found
+    if request.put then Put (key_path false request.key) (values.Blob request.value)
+    else Get (key_path false request.key) found
 
 -- the key's value after it
 abbrev pub value_after : Request → Value → Value
@@ -42,7 +43,7 @@ served digest worker shard links request clock =
       records = closed_records digest false shard.records links last;
       stamp = (renewing clock shard.stamp).at;
       evictor = worker;
-      touches = touched shard.touches (key_path request.key);
+      touches = touched shard.touches (key_path false request.key);
     }
 
 -- The commands of a request for a hot key.

@@ -1,6 +1,6 @@
 -- The setup of the shards: the commands of worker 0, and the contents behind them.
 use Rattle.std.specs.Prelude.{◌≡◌, ℕ, zero, suc, ◌+◌, ◌^◌, ◌≤◌, ◌<◌, Bool, true, false, List, [], ◌∷◌, ◌++◌, map}
-use Rattle.tree_keys.specs.Bits.{number_of}
+use Rattle.tree_keys.specs.Path.{key_of, root_of}
 use Rattle.lamport_clocks.specs.declared.stamp.Stamp.{Stamp}
 use Rattle.record_text.specs.Value.{initial_value}
 use Rattle.log_codec.specs.declared.command.Command.{Command}
@@ -19,9 +19,9 @@ pub record IsShardCount (shards : ℕ) : Type 0 where
 abbrev pub child : List Bool → Bool → List Bool
 child path on = path ++ on ∷ []
 
--- the first stamp of a shard: its number and 1, in the first epoch
+-- the first stamp of a shard: the number that the bits of its frontier behind the first spell and 1, in the first epoch
 abbrev pub first_stamp : ℕ → List Bool → Stamp
-first_stamp first frontier = record { epoch = first; counter = 1 + number_of frontier }
+first_stamp first frontier = record { epoch = first; counter = 1 + key_of frontier }
 
 -- The visit of a path under its parent. With no level below it, it is a shard's frontier, and is deferred. Else its two
 -- children are visited, side 0 before side 1, and it is evicted.
@@ -32,11 +32,13 @@ set_up first (suc levels) path parent =
     AddM path (initial_value path) parent
     ∷ (set_up first levels (child path false) path ++ (set_up first levels (child path true) path ++ EvictM path parent ∷ []))
 
--- The commands of the setup of 2^bits shards: each path of 1 to so many bits is visited.
+-- The commands of the setup of 2^bits shards of the tree whose keys have 64 bits: each path to which 1 to so many bits lead
+-- from the root is visited.
 abbrev pub setup_commands : ℕ → ℕ → List Command
 setup_commands first zero = []
 setup_commands first (suc levels) =
-    set_up first levels (child [] false) [] ++ set_up first levels (child [] true) []
+    set_up first levels (child (root_of false) false) (root_of false)
+    ++ set_up first levels (child (root_of false) true) (root_of false)
 
 -- the paths so many levels below a path, in their order
 abbrev pub paths_below : ℕ → List Bool → List (List Bool)
@@ -53,4 +55,4 @@ first_contents first frontiers = map (first_content first) frontiers
 
 -- The contents of the 2^bits shards behind the setup, in the order of the shards.
 abbrev pub setup_contents : ℕ → ℕ → List Content
-setup_contents first bits = first_contents first (paths_below bits [])
+setup_contents first bits = first_contents first (paths_below bits (root_of false))

@@ -1,6 +1,7 @@
 //! How one request is served: `plan`.
-ghost use Rattle.std.specs.Prelude.{◌≡◌, ◌↔◌, ℕ, ◌<◌, IfOk, OnErr, IsTrue, Err};
+ghost use Rattle.std.specs.Prelude.{◌≡◌, ◌↔◌, ℕ, ◌<◌, IfOk, OnErr, IsTrue, Err, false};
 ghost use Rattle.std.specs.List.{AllByRecursion};
+ghost use Rattle.tree_keys.specs.Path.{key_path};
 ghost use Rattle.lamport_clocks.specs.Clock.{is_open};
 ghost use Rattle.record_text.specs.declared.value.Value.{Value};
 ghost use Rattle.record_text.specs.declared.value.Value.TheVariants as values;
@@ -8,7 +9,7 @@ ghost use Rattle.record_text.specs.Value.{IsOf};
 ghost use Rattle.record_text.specs.Longest.{longest_blob};
 ghost use Rattle.log_codec.specs.Command.{IsPathCommand};
 ghost use Rattle.merkle_records.specs.Merkle.{Digest};
-ghost use Rattle.host_shard.specs.Content.{cold, hot, key_path};
+ghost use Rattle.host_shard.specs.Content.{cold, hot};
 ghost use Rattle.host_shard.specs.Shown.{shown, shown_content};
 ghost use Rattle.host_plan.specs.declared.fault.PlanFault.TheVariants.{ClockEnd};
 ghost use Rattle.host_plan.specs.Plan.{Owns, IsOpenAt, IsPastEnd, IsPlan};
@@ -134,7 +135,7 @@ fn serve_hot(
 
 // What a request answers where the key has this value.
 fn answer_of(request: &Request, found: &Value) -> Blob
-    requires kind { IsOf longest_blob (key_path request.now.key) found.now }
+    requires kind { IsOf longest_blob (key_path false request.now.key) found.now }
     ensures value { values.Blob result ≡ value_after request.now found.now }
 {
     if request.put {
@@ -150,7 +151,7 @@ fn answer_of(request: &Request, found: &Value) -> Blob
 fn command_of(request: &Request, answer: &Blob) -> Command
     ensures command { (found : Value) → values.Blob answer.now ≡ value_after request.now found
         → result ≡ command_of request.now found }
-    ensures kind { IsOf longest_blob (key_path request.now.key) (values.Blob answer.now) }
+    ensures kind { IsOf longest_blob (key_path false request.now.key) (values.Blob answer.now) }
     ensures typed { IsPathCommand longest_blob result }
 {
     let path = Path::of_key(request.key);

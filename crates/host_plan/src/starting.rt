@@ -1,6 +1,7 @@
 //! How the shards are set up: `setup`.
-ghost use Rattle.std.specs.Prelude.{◌≡◌, ◌↔◌, ◌<◌, ◌≤◌, ◌+◌, ◌^◌, ◌++◌, ℕ, length, map, IfOk, OnOk, Err};
+ghost use Rattle.std.specs.Prelude.{◌≡◌, ◌↔◌, ◌<◌, ◌≤◌, ◌+◌, ◌^◌, ◌++◌, ℕ, map, IfOk, OnOk, Err};
 ghost use Rattle.std.specs.List.{AllByRecursion};
+ghost use Rattle.tree_keys.specs.Path.{depth};
 ghost use Rattle.lamport_clocks.specs.Header.{IsHeader};
 ghost use Rattle.record_text.specs.Longest.{longest_blob};
 ghost use Rattle.log_codec.specs.Command.{IsPathCommand};
@@ -82,8 +83,8 @@ fn set_up(
     commands: &mut Vec<Command>,
     contents: &mut Vec<Content>,
 ) -> Result<(), Memory>
-    requires below_root { 0 < length path.now }
-    requires few { length path.now + levels ≤ 10 }
+    requires below_root { 0 < depth path.now }
+    requires few { depth path.now + levels ≤ 10 }
     ensures commands { OnOk result (commands.new.items
         ≡ commands.old.items ++ set_up first levels path.now parent.now) }
     ensures contents { OnOk result (map shown_content contents.new.items
@@ -132,8 +133,8 @@ fn set_up(
 
 // The first stamp of a shard, by the number of its frontier.
 fn first_stamp(first: u32, frontier: &Path) -> Stamp
-    requires below_root { 0 < length frontier.now }
-    requires few { length frontier.now ≤ 10 }
+    requires below_root { 0 < depth frontier.now }
+    requires few { depth frontier.now ≤ 10 }
     ensures value { result ≡ first_stamp first frontier.now }
 {
     let number = frontier.word() >> (KEY_BITS - frontier.len());

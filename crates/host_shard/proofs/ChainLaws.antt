@@ -1,5 +1,5 @@
 -- The links of a chain: each lies below the one before, above the key or at it, and its values are of its kind.
-use Rattle.std.proofs.Common.{ℕ, ◌≡◌, ◌≢◌, ◌⊎◌, ◌≤◌, Bool, true, false, List, [], ◌∷◌, ◌++◌, length, Option, Some, None, IsSome, if◌then◌else◌, refl, sym, ◌∙◌, ap, subst, inl, inr, arith}
+use Rattle.std.proofs.Common.{ℕ, ◌≡◌, ◌≢◌, ◌⊎◌, Bool, true, false, List, [], ◌∷◌, ◌++◌, length, Option, Some, None, IsSome, if◌then◌else◌, refl, sym, ◌∙◌, ap, subst, inl, inr}
 use Rattle.std.proofs.lemmas.Bool.{false≢true}
 use Rattle.std.specs.Option.{unwrap_or}
 use Rattle.tree_keys.specs.Path.{side, same_path, is_prefix, common, IsData, IsPath}
@@ -14,8 +14,9 @@ use Rattle.host_shard.specs.Shard.{Shard, tree_of}
 use Rattle.host_shard.specs.Chain.{last_value, closed_value, closed_records, next_link, known_link, fork_link, IsNextLink, IsChain}
 use Rattle.tree_keys.proofs.PathLaws.{same_path-self}
 use Rattle.tree_keys.proofs.SideLaws.{is_prefix-self, side_of_prefix, prefix_cases}
+use Rattle.tree_keys.proofs.TreeLaws.{data-path, node-path, node-above}
 use Rattle.record_text.proofs.ValueTextLaws.{initial_value-kind}
-use Rattle.merkle_records.proofs.KindLaws.{is_prefix-side, length-side, IsSide-node_side, IsOf-with_side}
+use Rattle.merkle_records.proofs.KindLaws.{is_prefix-side, IsSide-node_side, IsOf-with_side}
 
 -- ---- the longest common path
 
@@ -82,7 +83,7 @@ fork_kind : (longest : ℕ) (fork : List Bool) (which : Bool) (pointer : Pointer
     → IsOf longest fork (values.Node (taken_over (side fork pointer.path) pointer))
 fork_kind longest fork which pointer fits digest below =
     subst (λ (s : Option Bool). IsOf longest fork (values.Node (taken_over s pointer))) (sym below)
-    (IsOf-with_side longest fork empty_node which (Some pointer) (omega (arith, length-side fork pointer.path which below), tt, tt)
+    (IsOf-with_side longest fork empty_node which (Some pointer) (node-above fork pointer.path which below fits, tt, tt)
     (record { below = is_prefix-side fork pointer.path which below; fits = fits; digest = digest }))
 
 -- The link behind a pointer of a side, where that is of its kind and so is each record.
@@ -92,8 +93,8 @@ pub next_link_of : (longest : ℕ) (tree : Tree) (key at : List Bool) (on : Bool
 next_link_of longest tree key at on None whole below kinds fits = record {
   below = below;
   toward = is_prefix-self key;
-  value = initial_value-kind longest key (omega arith);
-  taken = initial_value-kind longest key (omega arith);
+  value = initial_value-kind longest key (data-path key whole);
+  taken = initial_value-kind longest key (data-path key whole);
 }
 next_link_of longest tree key at on (Some pointer) whole below kinds fits = go (is_prefix pointer.path key) refl
   where
@@ -109,7 +110,7 @@ next_link_of longest tree key at on (Some pointer) whole below kinds fits = go (
     forks above = record {
       below = side_of_prefix at (common pointer.path key) on (common-longest (at ++ on ∷ []) pointer.path key fits.below (is_prefix-side at key on below));
       toward = common-right pointer.path key;
-      value = initial_value-kind longest (common pointer.path key) (omega (arith, length-side (common pointer.path key) pointer.path above.0 above.1, fits.fits));
+      value = initial_value-kind longest (common pointer.path key) (node-path (common pointer.path key) (node-above (common pointer.path key) pointer.path above.0 above.1 fits.fits));
       taken = fork_kind longest (common pointer.path key) above.0 pointer fits.fits fits.digest above.1;
     }
 

@@ -1,7 +1,8 @@
 -- How `chain` goes from the frontier to a key: what the loop keeps.
-use Rattle.std.proofs.Common.{◌≡◌, ◌≢◌, ◌⊎◌, ℕ, suc, ◌+◌, ◌-◌, ◌<◌, ◌≤◌, Bool, true, List, [], ◌∷◌, ◌++◌, length, Option, Some, None, IsSome, refl, sym, ◌∙◌, ap, subst, inl, inr, append_assoc, append-nil, length-append, arith}
+use Rattle.std.proofs.Common.{◌≡◌, ◌≢◌, ◌⊎◌, ℕ, suc, ◌+◌, ◌-◌, ◌<◌, ◌≤◌, Bool, true, false, List, [], ◌∷◌, ◌++◌, length, Option, Some, None, IsSome, refl, sym, ◌∙◌, ap, subst, inl, inr, append_assoc, append-nil, length-append, arith}
 use Rattle.std.proofs.lemmas.Bool.{false≢true}
-use Rattle.tree_keys.specs.Path.{side, is_prefix, IsBelow, IsData}
+use Rattle.tree_keys.specs.BitsLaws.{length-bits_of}
+use Rattle.tree_keys.specs.Path.{depth, key_path, side, is_prefix, IsBelow, IsData}
 use Rattle.record_text.specs.declared.value.Pointer.{Pointer}
 use Rattle.record_text.specs.declared.value.Value.{Value}
 use Rattle.record_text.specs.Value.{IsSide, IsOf}
@@ -13,6 +14,10 @@ use Rattle.std.proofs.lemmas.Option.{none-some, same_Some}
 use Rattle.tree_keys.proofs.SideLaws.{prefix_of_side, prefix_cases}
 use Rattle.merkle_records.proofs.KindLaws.{length-side}
 use Rattle.host_shard.proofs.ChainLaws.{AreOf, IsLinkOf, next_link_of, pointer_of-kind}
+
+-- the path of a key of 64 bits
+pub length_of_key : (path : List Bool) (key : ℕ) → path ≡ key_path false key → length path ≡ 65
+length_of_key path key is = ap length is ∙ ap (λ (n : ℕ). suc n) (length-bits_of 64 key)
 
 -- The links from a path whose pointer toward the key is this one.
 abbrev pub IsAhead : Tree → List Bool → List Bool → Option Pointer → List Link → Type 0
@@ -91,6 +96,16 @@ pub begun_end : (tree : Tree) (key start : List Bool) (value : Value) (links : L
     → IsBegun tree key start value links at ahead → at ≡ key → IsChain tree key start value links
 begun_end tree key start value links at ahead so same =
     subst (IsChain tree key start value) (append-nil links) (so.goes_on [] same)
+
+-- the chain from a path below the root to a key of 64 bits has no more than 64 links
+pub begun_few : (tree : Tree) (key start : List Bool) (value : Value) (links : List Link) (at : List Bool) (ahead : Option Pointer) (number : ℕ)
+    → IsBegun tree key start value links at ahead → at ≡ key → key ≡ key_path false number → 0 < depth start → length links ≤ 64
+begun_few tree key start value links at ahead number so ends is deep =
+    omega (arith, so.few, subst (λ (p : List Bool). length p ≡ 65) (sym ends) (length_of_key key number is), some start deep)
+  where
+    some : (path : List Bool) → 0 < depth path → 0 < length path
+    some [] below = absurd (omega arith)
+    some (wide ∷ bits) below = omega arith
 
 -- ---- the same, of what the code computes
 

@@ -14,7 +14,10 @@ less_pairs : (a b c d : ℕ) → ordering_then (nat_cmp a b) (nat_cmp c d) ≡ L
 less_pairs a b c d less = grind (arith, nat_tests)
 
 before : (p k : List Bool) → block.ghosts.cmp p k ≡ Less → IsBefore p k
-before p k less = less_pairs (length p) (length k) (number_of p) (number_of k) less
+before [] [] less = less_pairs 0 0 2 2 less
+before [] (b ∷ k) less = less_pairs 0 (length k) 2 (number_of (b ∷ k)) less
+before (a ∷ p) [] less = less_pairs (length p) 0 (number_of (a ∷ p)) 2 less
+before (a ∷ p) (b ∷ k) less = less_pairs (length p) (length k) (number_of (a ∷ p)) (number_of (b ∷ k)) less
 
 all_before : (p : List Bool) (listed : Listed) → AllByRecursion (λ k. block.ghosts.cmp p k ≡ Less) (map (λ (e : List Bool × Record). e.0) listed)
     → AllByRecursion (λ (e : List Bool × Record). IsBefore p e.0) listed

@@ -1,5 +1,5 @@
 -- Records by their paths, as std's ordered map has them.
-use Rattle.std.proofs.Common.{◌≡◌, ◌≢◌, ◌⊎◌, ℕ, Bool, true, false, List, [], ◌∷◌, length, Option, Some, None, IsSome, is_some, unwrap_or, cond, if◌then◌else◌, refl, sym, ◌∙◌, ap, subst, inl, inr, arith}
+use Rattle.std.proofs.Common.{◌≡◌, ◌≢◌, ◌⊎◌, ℕ, suc, ◌<◌, ◌^◌, Bool, true, false, List, [], ◌∷◌, length, Option, Some, None, IsSome, is_some, unwrap_or, cond, if◌then◌else◌, refl, sym, ◌∙◌, ap, subst, inl, inr, arith}
 use Rattle.std.specs.Option.{option_map}
 use Rattle.std.proofs.Math.Path.{fun_ext}
 use Rattle.std.proofs.lemmas.Bool.{false≢true, true≢false}
@@ -9,8 +9,8 @@ use Rattle.std.specs.Map.{lookup}
 use Rattle.std.specs.BTreeMap.{is_at}
 use Rattle.std.proofs.Math.Dec.{eqb}
 use Rattle.tree_keys.specs.Bits.{bits_of, number_of}
-use Rattle.tree_keys.specs.Path.{same_path}
-use Rattle.tree_keys.proofs.BitsLaws.{bits_of-number_of}
+use Rattle.tree_keys.specs.Path.{depth, same_path}
+use Rattle.tree_keys.proofs.BitsLaws.{number_of-lt, bits_of-number_of}
 use Rattle.tree_keys.proofs.PathLaws.{same_path-self, same_path-true}
 use Rattle.host_shard.specs.declared.record.Record.{Record}
 use Rattle.host_shard.specs.Records.{Listed, Kept, record_at, with_kept}
@@ -26,31 +26,49 @@ other_first a b c d h = grind (arith, nat_tests)
 other_second : (a b c d : ℕ) → c ≢ d → is_eq (ordering_then (nat_cmp a b) (nat_cmp c d)) ≡ false
 other_second a b c d h = grind (arith, nat_tests)
 
--- paths of one length with one number are the same
-one_path : (p k : List Bool) → length p ≡ length k → number_of p ≡ number_of k → p ≡ k
-one_path p k h g = sym (bits_of-number_of p) ∙ ap (λ (n : ℕ). bits_of n (number_of p)) h ∙ ap (λ (n : ℕ). bits_of (length k) n) g ∙ bits_of-number_of k
+-- one bit alone spells no 2
+below_two : (b : Bool) (k : List Bool) → length k ≡ 0 → 2 ≢ number_of (b ∷ k)
+below_two b k short is = absurd (omega (arith, subst (λ (n : ℕ). number_of (b ∷ k) < 2 ^ suc n) short (number_of-lt (b ∷ k)), is))
+
+-- lists of one length with one number are the same
+one_list : (p k : List Bool) → length p ≡ length k → number_of p ≡ number_of k → p ≡ k
+one_list p k h g = sym (bits_of-number_of p) ∙ ap (λ (n : ℕ). bits_of n (number_of p)) h ∙ ap (λ (n : ℕ). bits_of (length k) n) g ∙ bits_of-number_of k
 
 -- the order of paths has them equal where they are the same
 pub cmp-same : (p k : List Bool) → is_eq (block.ghosts.cmp p k) ≡ same_path p k
-cmp-same p k = go (same_path p k) refl
+cmp-same [] [] = equal_pairs 0 0 2 2 refl refl
+cmp-same [] (b ∷ k) = by_length (eqb_tells 0 (length k))
   where
-    apart : same_path p k ≡ false → p ≢ k
-    apart is same = true≢false (sym (same_path-self k) ∙ subst (λ (q : List Bool). same_path q k ≡ false) same is)
+    by_length : ((eqb 0 (length k) ≡ true) × (0 ≡ length k)) ⊎ ((eqb 0 (length k) ≡ false) × (0 ≢ length k)) → is_eq (block.ghosts.cmp [] (b ∷ k)) ≡ false
+    by_length (inl one) = other_second 0 (length k) 2 (number_of (b ∷ k)) (below_two b k (sym one.1))
+    by_length (inr two) = other_first 0 (length k) 2 (number_of (b ∷ k)) two.1
+cmp-same (a ∷ p) [] = by_length (eqb_tells (length p) 0)
+  where
+    by_length : ((eqb (length p) 0 ≡ true) × (length p ≡ 0)) ⊎ ((eqb (length p) 0 ≡ false) × (length p ≢ 0)) → is_eq (block.ghosts.cmp (a ∷ p) []) ≡ false
+    by_length (inl one) = other_second (length p) 0 (number_of (a ∷ p)) 2 (λ is. below_two a p one.1 (sym is))
+    by_length (inr two) = other_first (length p) 0 (number_of (a ∷ p)) 2 two.1
+cmp-same (a ∷ p) (b ∷ k) = go (same_path (a ∷ p) (b ∷ k)) refl
+  where
+    apart : same_path (a ∷ p) (b ∷ k) ≡ false → (a ∷ p) ≢ (b ∷ k)
+    apart is same = true≢false (sym (same_path-self (b ∷ k)) ∙ subst (λ (q : List Bool). same_path q (b ∷ k) ≡ false) same is)
 
-    by_number : same_path p k ≡ false → length p ≡ length k
-        → ((eqb (number_of p) (number_of k) ≡ true) × (number_of p ≡ number_of k)) ⊎ ((eqb (number_of p) (number_of k) ≡ false) × (number_of p ≢ number_of k))
-        → is_eq (block.ghosts.cmp p k) ≡ false
-    by_number is long (inl one) = absurd (apart is (one_path p k long one.1))
-    by_number is long (inr two) = other_second (length p) (length k) (number_of p) (number_of k) two.1
+    by_number : same_path (a ∷ p) (b ∷ k) ≡ false → length p ≡ length k
+        → ((eqb (number_of (a ∷ p)) (number_of (b ∷ k)) ≡ true) × (number_of (a ∷ p) ≡ number_of (b ∷ k)))
+        ⊎ ((eqb (number_of (a ∷ p)) (number_of (b ∷ k)) ≡ false) × (number_of (a ∷ p) ≢ number_of (b ∷ k)))
+        → is_eq (block.ghosts.cmp (a ∷ p) (b ∷ k)) ≡ false
+    by_number is long (inl one) = absurd (apart is (one_list (a ∷ p) (b ∷ k) (ap (λ (n : ℕ). suc n) long) one.1))
+    by_number is long (inr two) = other_second (length p) (length k) (number_of (a ∷ p)) (number_of (b ∷ k)) two.1
 
-    by_length : same_path p k ≡ false
+    by_length : same_path (a ∷ p) (b ∷ k) ≡ false
         → ((eqb (length p) (length k) ≡ true) × (length p ≡ length k)) ⊎ ((eqb (length p) (length k) ≡ false) × (length p ≢ length k))
-        → is_eq (block.ghosts.cmp p k) ≡ false
-    by_length is (inl one) = by_number is one.1 (eqb_tells (number_of p) (number_of k))
-    by_length is (inr two) = other_first (length p) (length k) (number_of p) (number_of k) two.1
+        → is_eq (block.ghosts.cmp (a ∷ p) (b ∷ k)) ≡ false
+    by_length is (inl one) = by_number is one.1 (eqb_tells (number_of (a ∷ p)) (number_of (b ∷ k)))
+    by_length is (inr two) = other_first (length p) (length k) (number_of (a ∷ p)) (number_of (b ∷ k)) two.1
 
-    go : (b : Bool) → same_path p k ≡ b → is_eq (block.ghosts.cmp p k) ≡ b
-    go true is = equal_pairs (length p) (length k) (number_of p) (number_of k) (ap length (same_path-true p k is)) (ap number_of (same_path-true p k is))
+    go : (s : Bool) → same_path (a ∷ p) (b ∷ k) ≡ s → is_eq (block.ghosts.cmp (a ∷ p) (b ∷ k)) ≡ s
+    go true is =
+        let same = same_path-true (a ∷ p) (b ∷ k) is in
+        equal_pairs (length p) (length k) (number_of (a ∷ p)) (number_of (b ∷ k)) (ap depth same) (ap number_of same)
     go false is = by_length is (eqb_tells (length p) (length k))
 
 -- ---- what is kept of a path

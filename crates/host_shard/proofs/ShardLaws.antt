@@ -1,8 +1,9 @@
 -- A shard stays a shard: its values are of their paths' kinds, also behind a chain that was rehashed.
-use Rattle.std.proofs.Common.{◌≡◌, ℕ, ◌<◌, ◌≤◌, Bool, true, false, List, [], ◌∷◌, length, Option, Some, None, if◌then◌else◌, refl, sym, ◌∙◌, ap, subst, arith}
+use Rattle.std.proofs.Common.{◌≡◌, ℕ, ◌<◌, Bool, true, false, List, [], ◌∷◌, Option, Some, None, if◌then◌else◌, refl, sym, ◌∙◌, ap, subst}
 use Rattle.std.proofs.lemmas.Option.{none-some, same_Some}
-use Rattle.tree_keys.specs.Path.{side, same_path, IsData, IsPath, IsNodePath}
+use Rattle.tree_keys.specs.Path.{depth, side, same_path, IsData, IsPath, IsNodePath}
 use Rattle.tree_keys.proofs.PathLaws.{same_path-true}
+use Rattle.tree_keys.proofs.TreeLaws.{data-path, node-path}
 use Rattle.lamport_clocks.specs.declared.stamp.Stamp.{Stamp}
 use Rattle.record_text.specs.declared.value.Value.{Value}
 use Rattle.record_text.specs.declared.value.Value.TheVariants as values
@@ -17,10 +18,10 @@ use Rattle.host_shard.specs.Shard.{Shard, tree_of, rehashed, new_shard}
 use Rattle.host_shard.specs.Mirrors.{IsShard, IsKeyOf}
 use Rattle.host_shard.proofs.ChainLaws.{AreOf, frontier_kind, next_of}
 
--- the path of a value isn't longer than a key's
+-- the path of a value isn't longer than the keys of its tree
 length-IsOf : (longest : ℕ) (path : List Bool) (value : Value) → IsOf longest path value → IsPath path
-length-IsOf longest path (values.Blob blob) kind = omega (arith, kind.0)
-length-IsOf longest path (values.Node node) kind = omega (arith, kind.0)
+length-IsOf longest path (values.Blob blob) kind = data-path path kind.0
+length-IsOf longest path (values.Node node) kind = node-path path kind.0
 
 -- a value whose pointer leads to a path below it
 aimed_kind : (longest : ℕ) (digest : Digest) (at path : List Bool) (on : Bool) (value became : Value) → GivesDigests digest → side at path ≡ Some on
@@ -88,9 +89,9 @@ rehashed_is longest digest shard key links last digests fits own end chain = rec
         (λ value is. fits.kinds path value (ap (λ (b : Bool). if b then Some shard.value else shard.records path) apart ∙ is)) found other
 
 -- A new shard is a shard.
-pub new_is : (longest : ℕ) (frontier : List Bool) (stamp : Stamp) (evictor : ℕ) → 0 < length frontier → IsNodePath frontier → IsShard longest (new_shard frontier stamp evictor)
+pub new_is : (longest : ℕ) (frontier : List Bool) (stamp : Stamp) (evictor : ℕ) → 0 < depth frontier → IsNodePath frontier → IsShard longest (new_shard frontier stamp evictor)
 new_is longest frontier stamp evictor some short = record {
   below_root = some;
   no_data = short;
-  kinds = λ path found is. kind_with longest (λ k. None) frontier path _ (initial_value-kind longest frontier (omega arith)) (λ value no. absurd (none-some value no)) found is;
+  kinds = λ path found is. kind_with longest (λ k. None) frontier path _ (initial_value-kind longest frontier (node-path frontier short)) (λ value no. absurd (none-some value no)) found is;
 }

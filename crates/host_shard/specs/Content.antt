@@ -1,8 +1,7 @@
 -- What a place of the host's table holds.
-use Rattle.std.specs.Prelude.{ℕ, Bool, List, Option, Some, None}
-use Rattle.tree_keys.specs.Bits.{bits_of}
+use Rattle.std.specs.Prelude.{false, Option, Some, None}
 use Rattle.record_text.specs.declared.value.Value.TheVariants as values
-use Rattle.tree_keys.specs.Path.{key_bits}
+use Rattle.tree_keys.specs.Path.{key_path}
 use Rattle.record_text.specs.declared.element.Element.{Element}
 use Rattle.host_shard.specs.declared.content.HotRecord.{HotRecord}
 use Rattle.host_shard.specs.Shard.{Shard, pending_shard}
@@ -13,14 +12,10 @@ pub data Content : Type 0 where
   hot : HotRecord → Content
   vacant : Content
 
--- the path of a key
-abbrev pub key_path : ℕ → List Bool
-key_path key = bits_of key_bits key
-
--- the element with which a hot record waits
+-- the element with which a hot record waits: its key is one of 64 bits
 abbrev pub pending_hot : HotRecord → Element
 pending_hot record' = record {
-  path = key_path record'.key;
+  path = key_path false record'.key;
   value = values.Blob record'.value;
   stamp = record'.stamp;
   verifier = record'.evictor;

@@ -1,7 +1,7 @@
 -- When a shard mirrors what the verifiers hold of it.
-use Rattle.std.specs.Prelude.{ℕ, ◌≡◌, ◌≢◌, ◌<◌, Bool, true, false, List, length, Some, IsSome, AllPairs}
+use Rattle.std.specs.Prelude.{ℕ, ◌≡◌, ◌≢◌, ◌<◌, Bool, true, false, List, Some, IsSome, AllPairs}
 use Rattle.std.specs.List.{IsAmong}
-use Rattle.tree_keys.specs.Path.{is_prefix, IsBelow, IsData, IsNodePath}
+use Rattle.tree_keys.specs.Path.{depth, is_prefix, IsBelow, IsData, IsNodePath}
 use Rattle.record_text.specs.declared.value.Pointer.{Pointer}
 use Rattle.record_text.specs.declared.value.Value.{Value}
 use Rattle.record_text.specs.Value.{IsOf}
@@ -12,7 +12,7 @@ use Rattle.host_shard.specs.Shard.{Shard, tree_of}
 
 -- What every shard is: its frontier is neither the root nor a data path, and each value is of its path's kind.
 pub record IsShard (longest : ℕ) (shard : Shard) : Type 0 where
-  pub below_root : 0 < length shard.frontier
+  pub below_root : 0 < depth shard.frontier
   pub no_data : IsNodePath shard.frontier
   pub kinds : (path : List Bool) (value : Value) → tree_of shard path ≡ Some value → IsOf longest path value
 

@@ -2,9 +2,8 @@
 use Rattle.std.specs.List.{AllByRecursion}
 use Rattle.std.specs.Map.{lookup}
 use Rattle.std.specs.Option.{option_map, option_map_or}
-use Rattle.std.specs.Prelude.{◌≡◌, ℕ, ◌<◌, ◌⊎◌, Bool, List, [], ◌∷◌, length, Option, if◌then◌else◌}
-use Rattle.tree_keys.specs.Bits.{number_of}
-use Rattle.tree_keys.specs.Path.{same_path}
+use Rattle.std.specs.Prelude.{◌≡◌, ℕ, ◌<◌, ◌⊎◌, Bool, List, [], ◌∷◌, Option, if◌then◌else◌}
+use Rattle.tree_keys.specs.Path.{with_numbers, same_path}
 use Rattle.record_text.specs.Value.{initial_value}
 use Rattle.host_shard.specs.declared.record.Record.{Record}
 use Rattle.host_shard.specs.Tree.{Tree}
@@ -46,9 +45,15 @@ touches_in kept = λ path. option_map_or (λ r. r.touches) (kept path) 0
 abbrev pub touches_of : Listed → List Bool → ℕ
 touches_of listed = touches_in (record_at listed)
 
+-- how many bits lead to a path, and the number that its bits spell
+abbrev pub numbers_of : List Bool → ℕ × ℕ
+numbers_of path = with_numbers (λ len bits. (len, bits)) path
+
 -- the first path stands before the second: it is shorter, or as long and of lower bits
 abbrev pub IsBefore : List Bool → List Bool → Type 0
-IsBefore path other = (length path < length other) ⊎ ((length path ≡ length other) × (number_of path < number_of other))
+IsBefore path other =
+    ((numbers_of path).0 < (numbers_of other).0)
+    ⊎ (((numbers_of path).0 ≡ (numbers_of other).0) × ((numbers_of path).1 < (numbers_of other).1))
 
 -- each record stands before those behind it
 abbrev pub AreInOrder : Listed → Type 0

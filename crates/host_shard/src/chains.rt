@@ -1,9 +1,8 @@
 //! The chain from a shard's frontier to a key.
-ghost use Rattle.std.specs.Prelude.{◌≡◌, ◌≤◌, vec_len, IfOk};
-ghost use Rattle.tree_keys.specs.Path.{side};
+ghost use Rattle.std.specs.Prelude.{◌≡◌, ◌≤◌, false, vec_len, IfOk};
+ghost use Rattle.tree_keys.specs.Path.{key_path, side};
 ghost use Rattle.record_text.specs.Longest.{longest_blob};
 ghost use Rattle.host_shard.specs.Chain.{next_link, pointer_toward, last_value, IsChain};
-ghost use Rattle.host_shard.specs.Content.{key_path};
 ghost use Rattle.host_shard.specs.Mirrors.{IsShard, IsKeyOf};
 ghost use Rattle.host_shard.specs.Shard.{tree_of};
 ghost use Rattle.host_shard.specs.Shown.{shown};
@@ -21,9 +20,9 @@ const ROOM: usize = 24;
 /// The chain from the shard's frontier to a key below it.
 pub fn chain(alloc: Global, shard: &Shard, key: u64) -> Result<Vec<Link>, Memory>
     requires fits { IsShard longest_blob (shown shard.now) }
-    requires own { IsKeyOf (shown shard.now) (key_path key) }
+    requires own { IsKeyOf (shown shard.now) (key_path false key) }
     ensures chain { IfOk result (λ links. IsChain (tree_of (shown shard.now))
-        (key_path key) shard.now.frontier shard.now.value links.items) }
+        (key_path false key) shard.now.frontier shard.now.value links.items) }
     ensures few { IfOk result (λ links. vec_len links ≤ 64) }
 {
     let end = Path::of_key(key);

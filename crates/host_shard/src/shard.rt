@@ -1,9 +1,9 @@
 //! Shards.
-ghost use Rattle.std.specs.Prelude.{◌≡◌, ◌<◌, ◌^◌, length, IsSome};
+ghost use Rattle.std.specs.Prelude.{◌≡◌, ◌<◌, ◌^◌, false, IsSome};
 ghost use Rattle.std.specs.Option.{option_copied};
+ghost use Rattle.tree_keys.specs.Path.{depth, IsNodePath, key_path};
 ghost use Rattle.record_text.specs.Element.{IsStamp};
 ghost use Rattle.record_text.specs.Longest.{longest_blob};
-ghost use Rattle.host_shard.specs.Content.{key_path};
 ghost use Rattle.host_shard.specs.Shard.{tree_of, new_shard, pending_shard, touched};
 ghost use Rattle.host_shard.specs.Mirrors.{IsShard};
 ghost use Rattle.host_shard.specs.Shown.{shown};
@@ -34,8 +34,7 @@ impl Shard {
     /// A shard without records, whose frontier has its initial value.
     pub fn new(alloc: Global, frontier: Path, stamp: Stamp, evictor: u16) -> Self
         ensures shard { shown result ≡ new_shard frontier stamp evictor }
-        ensures fits { 0 < length frontier → length frontier < 64
-            → IsShard longest_blob (shown result) }
+        ensures fits { 0 < depth frontier → IsNodePath frontier → IsShard longest_blob (shown result) }
     {
         Shard {
             frontier,
@@ -70,9 +69,9 @@ impl Shard {
 
     /// Counts one touch more of a key that has a record.
     pub fn touch(&mut self, key: u64)
-        requires there { IsSome ((shown self.old).records (key_path key)) }
+        requires there { IsSome ((shown self.old).records (key_path false key)) }
         ensures touched { shown self.new ≡ record (shown self.old) {
-          touches = touched (shown self.old).touches (key_path key);
+          touches = touched (shown self.old).touches (key_path false key);
         } }
     {
         self.records.touch(&Path::of_key(key));

@@ -1,7 +1,8 @@
 -- The pointers of a stage that mirrors, on the way to a whole key.
-use Rattle.std.proofs.Common.{ℕ, ◌≡◌, ◌≢◌, ◌⊎◌, ◌<◌, Bool, true, false, List, [], ◌∷◌, map, length, Option, Some, IsSome, if◌then◌else◌, refl, sym, ◌∙◌, ap, inl, inr, arith}
-use Rattle.tree_keys.specs.Path.{side, is_prefix, same_path, IsData, IsNodePath}
+use Rattle.std.proofs.Common.{ℕ, ◌≡◌, ◌≢◌, ◌⊎◌, Bool, true, false, List, [], ◌∷◌, map, Some, IsSome, if◌then◌else◌, refl, sym, ◌∙◌, ap, subst, inl, inr}
+use Rattle.tree_keys.specs.Path.{side, is_prefix, same_path, IsData}
 use Rattle.tree_keys.proofs.SideLaws.{prefix_cases, side-trans}
+use Rattle.tree_keys.proofs.TreeLaws.{data-path, data-no_node}
 use Rattle.record_text.specs.declared.value.Pointer.{Pointer}
 use Rattle.record_text.specs.declared.value.Value.{Value}
 use Rattle.merkle_records.specs.Merkle.{Digest}
@@ -11,7 +12,7 @@ use Rattle.host_shard.specs.Tree.{Tree, IsPointerIn}
 use Rattle.host_shard.specs.Chain.{closed_value, closed_records}
 use Rattle.host_shard.specs.Shard.{Shard, tree_of}
 use Rattle.host_shard.specs.Mirrors.{IsKept}
-use Rattle.host_laws.proofs.ForkLaws.{prefix_whole}
+use Rattle.host_laws.proofs.DepthLaws.{data_whole}
 use Rattle.protection_moves.specs.Stage.{Stage}
 use Rattle.move_laws.specs.Stages.{StageMirrors, IsOne}
 use Rattle.move_laws.proofs.PlaceLaws.{one_of-all}
@@ -65,9 +66,7 @@ module _ (longest : ℕ) (digest : Digest) (stage : Stage) (mirrors : StageMirro
       go true deferred =
           let hot_whole : IsData pointer.path =
           mirrors.shard.mirrors.hot_keys.whole pointer.path (mirrors.shard.mirrors.waits at on pointer is deferred) in
-          absurd (apart (prefix_whole pointer.path key begins (omega (arith, whole, hot_whole))))
+          absurd (apart (data_whole pointer.path key begins hot_whole (data-path key whole)))
 
   pub apart_from : (key : List Bool) → IsData key → shard.frontier ≢ key
-  apart_from key whole same =
-      let short : IsNodePath shard.frontier = mirrors.shard.fits.no_data in
-      omega (arith, ap (λ (k : List Bool). length k) same, whole, short)
+  apart_from key whole same = data-no_node shard.frontier (subst IsData (sym same) whole) mirrors.shard.fits.no_data

@@ -33,6 +33,7 @@ use Rattle.host_shard.specs.Chain.{aimed, aimed_on, closed_pointer, closed_value
 use Rattle.host_plan.specs.Moments.{taking, giving}
 use Rattle.host_laws.specs.Running.{Told, added_told, evicted_told, accesses_told}
 use Rattle.host_laws.specs.Carried.{carried}
+use Rattle.host_laws.proofs.DepthLaws.{some_path, deeper}
 use Rattle.host_laws.proofs.ToldLaws.{added_told-append, evicted_told-append, accesses_told-append, carried-append, all-append}
 use Rattle.host_laws.proofs.WorksLaws.{Works, descend, told_lent, lends}
 use Rattle.protection_moves.specs.Descent.{without_record, visit_but_last, come_back, become_hot}
@@ -110,7 +111,7 @@ module _ (rules : Rules) (tree before base : Tree) (key : List Bool) (lent : Boo
 
   module _ (at : List Bool) (hold : Hold) (value : Value) (link next : Link) (links : List Link) (clock after : Reading) (inner : List Command)
       (adds evicts : List Element) (step : IsStep longest tree key (not lent) at value link) (sound : IsSound at value link step) (on_side : same_path link.path key ≡ false)
-      (onward : IsOnward clock after) (based : IsBased at)
+      (onward : IsOnward clock after) (some : 0 < length at) (based : IsBased at)
       (rest : Along link.path M link.taken (next ∷ links) clock after inner adds evicts) where
     abbrev became : Value
     became = closed_value digest lent link.path link.taken (next ∷ links) last
@@ -169,7 +170,7 @@ module _ (rules : Rules) (tree before base : Tree) (key : List Bool) (lent : Boo
           fresh = sound.0;
           over = λ p. refl;
         })
-        rest.works))
+        some rest.works))
       where
         added : (held : Hold) → add_under digest (new_entry at (values.Node step.node) held) link.path link.value
             ≡ Ok (record { parent = set_kid (new_entry at (values.Node step.node) held) step.on true; child = new_entry link.path link.taken M })
@@ -240,34 +241,34 @@ module _ (rules : Rules) (tree before base : Tree) (key : List Bool) (lent : Boo
   module _ (clock after : Reading) (at_end : List Bool → Link → List Command) (adds evicts : List Element)
       (onward : IsOnward clock after)
       (sound : (at : List Bool) (value : Value) (link : Link) → same_path link.path key ≡ false → (step : IsStep longest tree key (not lent) at value link) → IsSound at value link step)
-      (ends : (at : List Bool) (hold : Hold) (value : Value) (link : Link) → IsBased at → IsStep longest tree key (not lent) at value link → link.path ≡ key
+      (ends : (at : List Bool) (hold : Hold) (value : Value) (link : Link) → 0 < length at → IsBased at → IsStep longest tree key (not lent) at value link → link.path ≡ key
       → Along at hold value (link ∷ []) clock after (at_end at link) adds evicts) where
     -- A transfer along the way to its key, where it is known at its end.
-    pub along : (at : List Bool) (hold : Hold) (value : Value) (link : Link) (links : List Link) → IsBased at → IsWay longest tree key (not lent) at value (link ∷ links)
+    pub along : (at : List Bool) (hold : Hold) (value : Value) (link : Link) (links : List Link) → 0 < length at → IsBased at → IsWay longest tree key (not lent) at value (link ∷ links)
         → Along at hold value (link ∷ links) clock after (visit_but_last at (link ∷ links) at_end) adds evicts
-    along at hold value link [] based way = ends at hold value link based way.0 way.1
-    along at hold value link (next ∷ links) based way =
+    along at hold value link [] some based way = ends at hold value link some based way.0 way.1
+    along at hold value link (next ∷ links) some based way =
         let apart = above_key link next links way.1 in
         along_link at hold value link next links clock after (visit_but_last link.path (next ∷ links) at_end) adds evicts way.0
-        (sound at value link apart way.0) apart onward based
-        (along link.path M link.taken next links (λ k on below other. based k way.0.on (side-trans at link.path k way.0.on on way.0.below below) other) way.1)
+        (sound at value link apart way.0) apart onward some based
+        (along link.path M link.taken next links (some_path link.path (deeper at link.path way.0.on some way.0.below)) (λ k on below other. based k way.0.on (side-trans at link.path k way.0.on on way.0.below below) other) way.1)
 
 -- ---- at its end
 
 -- a record that comes back
 pub back_ends : (rules : Rules) (tree before base : Tree) (key : List Bool) (element : Element) (clock : Reading) (at : List Bool) (hold : Hold) (value : Value) (link : Link)
-    → ((k : List Bool) → same_path k key ≡ false → base k ≡ before k)
+    → 0 < length at → ((k : List Bool) → same_path k key ≡ false → base k ≡ before k)
     → (step : IsStep rules.scheme.format.longest tree key true at value link) → link.path ≡ key → element.path ≡ key → tree key ≡ Some element.value
     → element.verifier < rules.verifiers → is_open clock element.stamp.epoch ≡ true → (taking clock element.stamp).at.counter ≤ clock.end
     → IsOnward clock (taking clock element.stamp)
     → Along rules tree before base key false element.value at hold value (link ∷ []) clock (taking clock element.stamp) (come_back element at link) (element ∷ []) []
-back_ends rules tree before base key element clock at hold value link kept step is_key is_path there known is_taken within onward =
+back_ends rules tree before base key element clock at hold value link some kept step is_key is_path there known is_taken within onward =
     subst (λ (l : Link). Along rules tree before base key false element.value at hold value (l ∷ []) clock later (come_back element at l) (element ∷ []) []) (sym link_is)
     (record {
       told = told;
       works = subst (λ (v : Value). Works rules 1 at hold value clock commands told v later) (sym closed_is)
           (subst (λ (v : Value). Works rules 1 at hold v clock commands told (values.Node left) later) (sym step.is_node)
-          (comes_back rules at hold step.node step.on step.pointer element clock below step.points (step.to ∙ to_element) (step.late_if_last is_key) known is_taken within));
+          (comes_back rules at hold step.node step.on step.pointer element clock some below step.points (step.to ∙ to_element) (step.late_if_last is_key) known is_taken within));
       added = refl;
       evicted = refl;
       no_access = refl;
@@ -338,13 +339,13 @@ back_ends rules tree before base key element clock at hold value link kept step 
 
 -- a record that becomes hot
 pub hot_ends : (rules : Rules) (tree before base : Tree) (key : List Bool) (last : Value) (clock : Reading) (at : List Bool) (hold : Hold) (value : Value) (link : Link)
-    → ((k : List Bool) → same_path k key ≡ false → base k ≡ before k) → before key ≡ tree key
+    → 0 < length at → ((k : List Bool) → same_path k key ≡ false → base k ≡ before k) → before key ≡ tree key
     → (step : IsStep rules.scheme.format.longest tree key false at value link) → link.path ≡ key → link.taken ≡ last
     → step.pointer.digest ≡ rules.scheme.digest (value_text link.taken)
     → (giving clock).at.counter ≤ clock.end
     → Along rules tree before base key true last at hold value (link ∷ []) clock (giving clock) (become_hot (giving clock).at at link) []
     (record { path = key; value = last; stamp = (giving clock).at; verifier = rules.number } ∷ [])
-hot_ends rules tree before base key last clock at hold value link kept known step is_key is_last keeps within =
+hot_ends rules tree before base key last clock at hold value link some kept known step is_key is_last keeps within =
     subst (λ (l : Link). Along rules tree before base key true last at hold value (l ∷ []) clock later (become_hot later.at at l) []
     (record { path = key; value = last; stamp = later.at; verifier = rules.number } ∷ [])) (sym link_is)
     (record {
@@ -361,7 +362,7 @@ hot_ends rules tree before base key last clock at hold value link kept known ste
             to = to_key;
             fresh = fresh;
             over = λ p. refl;
-          }) within));
+          }) some within));
       added = refl;
       evicted = refl;
       no_access = refl;

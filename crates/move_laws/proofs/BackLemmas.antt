@@ -1,12 +1,12 @@
 -- The shard of a stage that mirrors, with a hot record that comes back: the way to it, and that the stage mirrors again.
-use Rattle.std.proofs.Common.{◌≡◌, ◌^◌, ◌<◌, ◌≢◌, ◌⊎◌, ℕ, Bool, true, false, List, length, Option, Some, is_some, IsSome, if◌then◌else◌, refl, sym, ◌∙◌, ap, subst, inl, inr}
+use Rattle.std.proofs.Common.{◌≡◌, ◌^◌, ◌<◌, ◌≢◌, ◌⊎◌, ℕ, Bool, true, false, List, Option, Some, is_some, IsSome, if◌then◌else◌, refl, sym, ◌∙◌, ap, subst, inl, inr}
 use Rattle.std.specs.List.{IsAmong, AllPairs}
 use Rattle.std.proofs.lemmas.Bool.{false≢true}
 use Rattle.std.proofs.lemmas.Option.{same_Some}
-use Rattle.tree_keys.specs.Path.{side, is_prefix, same_path, key_bits, IsData}
-use Rattle.tree_keys.specs.BitsLaws.{length-bits_of}
+use Rattle.tree_keys.specs.Path.{side, is_prefix, same_path, key_bits, IsData, key_path}
 use Rattle.tree_keys.proofs.PathLaws.{same_path-self, same_path-true, same_path-apart}
 use Rattle.tree_keys.proofs.SideLaws.{is_prefix-self}
+use Rattle.tree_keys.proofs.TreeLaws.{key_path-data}
 use Rattle.record_text.specs.declared.value.Pointer.{Pointer}
 use Rattle.record_text.specs.declared.value.Value.{Value}
 use Rattle.record_text.specs.declared.value.Value.TheVariants as values
@@ -18,8 +18,9 @@ use Rattle.host_shard.specs.declared.content.HotRecord.{HotRecord}
 use Rattle.host_shard.specs.Tree.{Tree, with_record, IsPointerIn, IsReached, at_start, by_pointer}
 use Rattle.host_shard.specs.Chain.{closed_records}
 use Rattle.host_shard.specs.Shard.{Shard, tree_of}
-use Rattle.host_shard.specs.Content.{key_path, vacant}
+use Rattle.host_shard.specs.Content.{vacant}
 use Rattle.host_shard.specs.Mirrors.{IsShard, IsKeyOf, IsKept, IsWaiting}
+use Rattle.host_laws.proofs.DepthLaws.{whole_none}
 use Rattle.host_laws.proofs.FrontierLaws.{frontier_there}
 use Rattle.protection_moves.specs.Stage.{Stage, hot_records, hot_paths, replaced}
 use Rattle.protection_moves.specs.Transfer.{demotes}
@@ -27,7 +28,7 @@ use Rattle.protection_moves.specs.Descent.{with_back, AreLinks, done_by}
 use Rattle.move_laws.specs.Stages.{StageMirrors, IsOne}
 use Rattle.move_laws.proofs.PlaceLaws.{all-replaced, one_of-all, one-replaced}
 use Rattle.move_laws.proofs.VacantLaws.{among-member, member-among, one-member, member-one, pairs-different, different-pairs, one-vacant, different-vacant}
-use Rattle.move_laws.proofs.WayLemmas.{AreOf, IsStep, IsWay, IsLast, whole_none, side_in, reached_below, way_of}
+use Rattle.move_laws.proofs.WayLemmas.{AreOf, IsStep, IsWay, IsLast, side_in, reached_below, way_of}
 use Rattle.move_laws.proofs.ClosedLemmas.{Ground, kinds_behind, reached_behind, kept_behind, waits_behind, hot_waits_behind}
 use Rattle.move_laws.proofs.AboveLaws.{side-prefix-of, closed_some, different_one, above_is_kept, apart_from}
 
@@ -48,18 +49,18 @@ module _ (longest : ℕ) (digest : Digest) (stage : Stage) (mirrors : StageMirro
     tree = tree_of (with_back stage.shard found)
 
     abbrev key : List Bool
-    key = key_path found.key
+    key = key_path false found.key
 
     abbrev value : Value
     value = values.Blob found.value
 
-    whole : IsData (key_path found.key)
-    whole = length-bits_of key_bits found.key
+    whole : IsData (key_path false found.key)
+    whole = key_path-data false found.key
 
-    among : IsAmong (hot_paths stage.places) (key_path found.key)
-    among = member-among _ _ (one-member (λ r. key_path r.key) (hot_records stage.places) found is_hot)
+    among : IsAmong (hot_paths stage.places) (key_path false found.key)
+    among = member-among _ _ (one-member (λ r. key_path false r.key) (hot_records stage.places) found is_hot)
 
-    pub end : tree (key_path found.key) ≡ Some (values.Blob found.value)
+    pub end : tree (key_path false found.key) ≡ Some (values.Blob found.value)
     end =
         ap (λ (b : Bool). if b then Some shard.value else with_record shard.records key value key)
         (same_path-apart key shard.frontier (λ same. apart_from longest digest stage mirrors key whole (sym same)))
@@ -87,7 +88,7 @@ module _ (longest : ℕ) (digest : Digest) (stage : Stage) (mirrors : StageMirro
     pointer_back at on pointer is = record {
       value = is.value;
       there = sym (others at (same_path-apart at key (λ same. whole_none longest at is.value on pointer (kinds at is.value is.there)
-          (ap (λ (k : List Bool). length k) same ∙ whole) is.leads))) ∙ is.there;
+          (subst IsData (sym same) whole) is.leads))) ∙ is.there;
       leads = is.leads;
     }
 
@@ -95,7 +96,7 @@ module _ (longest : ℕ) (digest : Digest) (stage : Stage) (mirrors : StageMirro
     pointer_on at on pointer is = record {
       value = is.value;
       there = others at (same_path-apart at key (λ same. whole_none longest at is.value on pointer (mirrors.shard.fits.kinds at is.value is.there)
-          (ap (λ (k : List Bool). length k) same ∙ whole) is.leads)) ∙ is.there;
+          (subst IsData (sym same) whole) is.leads)) ∙ is.there;
       leads = is.leads;
     }
 
@@ -104,10 +105,10 @@ module _ (longest : ℕ) (digest : Digest) (stage : Stage) (mirrors : StageMirro
     reached_on k (by_pointer path on pointer reached is) = by_pointer path on pointer (reached_on path reached) (pointer_on path on pointer is)
 
     -- the pointer that waits for it
-    waiting : IsWaiting old (key_path found.key)
+    waiting : IsWaiting old (key_path false found.key)
     waiting = mirrors.shard.mirrors.hot_waits key among
 
-    last : IsLast tree (key_path found.key) true waiting.at waiting.on waiting.pointer
+    last : IsLast tree (key_path false found.key) true waiting.at waiting.on waiting.pointer
     last = record { is = pointer_on waiting.at waiting.on waiting.pointer waiting.is; to = waiting.to; deferred = waiting.deferred }
 
     reached_last : IsReached tree shard.frontier waiting.at
@@ -117,7 +118,7 @@ module _ (longest : ℕ) (digest : Digest) (stage : Stage) (mirrors : StageMirro
     pub back_shard : IsShard longest (with_back stage.shard found)
     back_shard = record { below_root = mirrors.shard.fits.below_root; no_data = mirrors.shard.fits.no_data; kinds = kinds }
 
-    pub back_own : IsKeyOf (with_back stage.shard found) (key_path found.key)
+    pub back_own : IsKeyOf (with_back stage.shard found) (key_path false found.key)
     back_own = record {
       whole = whole;
       below = ap (λ (o : Option Bool). is_some o)
@@ -127,7 +128,7 @@ module _ (longest : ℕ) (digest : Digest) (stage : Stage) (mirrors : StageMirro
     }
 
     module _ (links : List Link) (chain : AreLinks stage.shard (demotes found) links) where
-      pub back_way : IsWay longest tree (key_path found.key) true shard.frontier shard.value links
+      pub back_way : IsWay longest tree (key_path false found.key) true shard.frontier shard.value links
       back_way =
           way_of longest tree key true kinds value end waiting.at waiting.on waiting.pointer last shard.frontier shard.value links
           (frontier_there (with_back stage.shard found)) reached_last chain
@@ -140,7 +141,7 @@ module _ (longest : ℕ) (digest : Digest) (stage : Stage) (mirrors : StageMirro
               subst (IsReached tree shard.frontier) (waiting.to ∙ sym (same_path-true k key same)) (by_pointer waiting.at waiting.on waiting.pointer reached_last last.is)
           go false apart = reached_on k (mirrors.shard.mirrors.reached k (subst (λ (o : Option Value). IsSome o) (others k apart) there))
 
-      back_ground : Ground longest digest tree back.records shard.frontier shard.value (key_path found.key) false (values.Blob found.value) links
+      back_ground : Ground longest digest tree back.records shard.frontier shard.value (key_path false found.key) false (values.Blob found.value) links
       back_ground = record {
         kinds = kinds;
         whole = whole;
@@ -152,8 +153,8 @@ module _ (longest : ℕ) (digest : Digest) (stage : Stage) (mirrors : StageMirro
       }
 
       -- each pointer above is kept
-      pub back_sound : (at : List Bool) (v : Value) (link : Link) → same_path link.path (key_path found.key) ≡ false
-          → (step : IsStep longest tree (key_path found.key) true at v link)
+      pub back_sound : (at : List Bool) (v : Value) (link : Link) → same_path link.path (key_path false found.key) ≡ false
+          → (step : IsStep longest tree (key_path false found.key) true at v link)
           → (step.pointer.deferred ≡ false) × (step.pointer.digest ≡ digest (value_text link.taken))
       back_sound at v link apart step =
           let kept = above_is_kept longest digest stage mirrors key at step.on step.pointer whole (pointer_back at step.on step.pointer step.is_in)
@@ -185,34 +186,34 @@ module _ (longest : ℕ) (digest : Digest) (stage : Stage) (mirrors : StageMirro
           };
         };
         blobs = all-replaced (λ r. IsBlob longest r.value) (λ r. IsBlob longest r.value) found.key vacant stage.places (λ r is other. is) tt mirrors.blobs;
-        in_range = all-replaced (λ r. r.key < 2 ^ key_bits) (λ r. r.key < 2 ^ key_bits) found.key vacant stage.places (λ r is other. is) tt mirrors.in_range;
+        in_range = all-replaced (λ r. r.key < 2 ^ key_bits false) (λ r. r.key < 2 ^ key_bits false) found.key vacant stage.places (λ r is other. is) tt mirrors.in_range;
       }
         where
           new_hot : List (List Bool)
           new_hot = hot_paths (replaced found.key vacant stage.places)
 
-          different : (r : HotRecord) → IsOne (hot_records stage.places) r → (r.key ≡ found.key → ⊥) → key_path r.key ≢ key
-          different r is other same = go (different_one (λ one. key_path one.key) (hot_records stage.places) r found (pairs-different _ mirrors.shard.mirrors.hot_keys.once) is is_hot)
+          different : (r : HotRecord) → IsOne (hot_records stage.places) r → (r.key ≡ found.key → ⊥) → key_path false r.key ≢ key
+          different r is other same = go (different_one (λ one. key_path false one.key) (hot_records stage.places) r found (pairs-different _ mirrors.shard.mirrors.hot_keys.once) is is_hot)
             where
-              go : (r ≡ found) ⊎ (key_path r.key ≢ key) → ⊥
+              go : (r ≡ found) ⊎ (key_path false r.key ≢ key) → ⊥
               go (inl one) = other (ap (λ (h : HotRecord). h.key) one)
               go (inr apart) = apart same
 
           was_hot : (path : List Bool) → IsAmong new_hot path → IsAmong (hot_paths stage.places) path × (path ≢ key)
           was_hot path is =
-              let new = member-one (λ r. key_path r.key) (hot_records (replaced found.key vacant stage.places)) path (among-member _ path is) in
+              let new = member-one (λ r. key_path false r.key) (hot_records (replaced found.key vacant stage.places)) path (among-member _ path is) in
               let was = one-vacant found.key stage.places new.0 new.1 in (
                 subst (IsAmong (hot_paths stage.places)) (sym new.2)
-                    (member-among _ _ (one-member (λ r. key_path r.key) (hot_records stage.places) new.0 was.0)),
+                    (member-among _ _ (one-member (λ r. key_path false r.key) (hot_records stage.places) new.0 was.0)),
                 (λ same. different new.0 was.0 was.1 (sym new.2 ∙ same)),
               )
 
           is_still : (path : List Bool) → IsAmong (hot_paths stage.places) path → path ≢ key → IsAmong new_hot path
           is_still path is other =
-              let was = member-one (λ r. key_path r.key) (hot_records stage.places) path (among-member _ path is) in
+              let was = member-one (λ r. key_path false r.key) (hot_records stage.places) path (among-member _ path is) in
               subst (IsAmong new_hot) (sym was.2)
-              (member-among _ _ (one-member (λ r. key_path r.key) (hot_records (replaced found.key vacant stage.places)) was.0
-              (one-replaced found.key vacant stage.places was.0 was.1 (λ same. other (was.2 ∙ ap key_path same)))))
+              (member-among _ _ (one-member (λ r. key_path false r.key) (hot_records (replaced found.key vacant stage.places)) was.0
+              (one-replaced found.key vacant stage.places was.0 was.1 (λ same. other (was.2 ∙ ap (key_path false) same)))))
 
           kept_before : (at : List Bool) (on : Bool) (pointer : Pointer) → IsPointerIn tree at on pointer → pointer.deferred ≡ false → is_prefix pointer.path key ≡ false
               → IsKept digest tree pointer
@@ -239,7 +240,7 @@ module _ (longest : ℕ) (digest : Digest) (stage : Stage) (mirrors : StageMirro
               (record { at = before.at; on = before.on; pointer = before.pointer; is = pointer_on before.at before.on before.pointer before.is; to = before.to; deferred = before.deferred })
 
           once : AllPairs (λ a b. a ≢ b) new_hot
-          once = different-pairs _ (different-vacant key_path found.key stage.places (pairs-different _ mirrors.shard.mirrors.hot_keys.once))
+          once = different-pairs _ (different-vacant (key_path false) found.key stage.places (pairs-different _ mirrors.shard.mirrors.hot_keys.once))
 
           touched : (path : List Bool) → IsSome (shard.records path) → IsSome (closed_records digest false back.records links value path)
           touched path there = closed_some digest false back.records links value path (go (same_path path key))

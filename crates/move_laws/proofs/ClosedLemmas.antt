@@ -1,11 +1,12 @@
 -- The records behind a transfer: where the pointers on the way lead, and which have stayed as they were.
-use Rattle.std.proofs.Common.{ℕ, ◌≡◌, ◌≢◌, ◌⊎◌, ◌≤◌, Bool, true, false, not, List, [], ◌∷◌, ◌++◌, length, Option, Some, None, is_some, IsSome, IsTrue, if◌then◌else◌, refl, sym, ◌∙◌, ap, subst, inl, inr, arith}
+use Rattle.std.proofs.Common.{ℕ, ◌≡◌, ◌≢◌, ◌⊎◌, Bool, true, false, not, List, [], ◌∷◌, ◌++◌, Option, Some, None, is_some, IsSome, IsTrue, if◌then◌else◌, refl, sym, ◌∙◌, ap, subst, inl, inr}
 use Rattle.std.specs.List.{IsAmong}
 use Rattle.std.proofs.lemmas.Bool.{false≢true}
 use Rattle.std.proofs.lemmas.Option.{none-some, same_Some}
 use Rattle.tree_keys.specs.Path.{side, is_prefix, same_path, IsData, IsPath}
 use Rattle.tree_keys.proofs.PathLaws.{same_path-self, same_path-true, same_path-apart}
 use Rattle.tree_keys.proofs.SideLaws.{side-self, is_prefix-self, is_prefix-trans, prefix_of_side, side-prefix, side-trans}
+use Rattle.tree_keys.proofs.TreeLaws.{data-path}
 use Rattle.verifier_commands.proofs.BelowLaws.{below_apart}
 use Rattle.record_text.specs.declared.value.Pointer.{Pointer}
 use Rattle.record_text.specs.declared.value.Node.{Node}
@@ -18,8 +19,9 @@ use Rattle.host_shard.specs.declared.link.Link.{Link}
 use Rattle.host_shard.specs.Tree.{Tree, pointer_of, with_record, IsPointerIn, IsReached, at_start, by_pointer}
 use Rattle.host_shard.specs.Chain.{aimed, aimed_on, closed_pointer, closed_value, closed_records}
 use Rattle.host_shard.specs.Mirrors.{IsKept, IsWaiting}
-use Rattle.host_laws.proofs.ForkLaws.{sides_apart, prefix_whole}
-use Rattle.move_laws.proofs.WayLemmas.{AreOf, IsStep, IsWay, whole_none, side_in, pointer_side, last_pointer}
+use Rattle.host_laws.proofs.DepthLaws.{data_whole, kind_path, whole_none}
+use Rattle.host_laws.proofs.ForkLaws.{sides_apart}
+use Rattle.move_laws.proofs.WayLemmas.{AreOf, IsStep, IsWay, side_in, pointer_side, last_pointer}
 use Rattle.move_laws.proofs.AlongLemmas.{left_by}
 
 -- ---- small cases
@@ -84,11 +86,6 @@ closing_kind : (digest : Digest) (lent : Bool) (at : List Bool) (on : Bool) (lin
 closing_kind digest false at on link links became digests below fits = record { below = below; fits = fits; digest = digests _ }
 closing_kind digest true at on link [] became digests below fits = record { below = below; fits = fits; digest = digests _ }
 closing_kind digest true at on link (next ∷ links) became digests below fits = record { below = below; fits = fits; digest = digests _ }
-
--- a value's path isn't longer than a whole one
-length-kind : (longest : ℕ) (path : List Bool) (value : Value) → IsOf longest path value → IsPath path
-length-kind longest path (values.Blob blob) kind = omega (arith, kind.0)
-length-kind longest path (values.Node node) kind = omega (arith, kind.0)
 
 -- what has a way to the key begins it
 way_begins : (longest : ℕ) (tree : Tree) (key : List Bool) (late : Bool) (at : List Bool) (value : Value) (links : List Link) → IsWay longest tree key late at value links → is_prefix at key ≡ true
@@ -276,7 +273,7 @@ module _ (longest : ℕ) (digest : Digest) (tree base : Tree) (frontier : List B
     no_key : (k : List Bool) (on : Bool) (pointer : Pointer) → IsPointerIn tree k on pointer → same_path k key ≡ false
     no_key k on pointer is =
         same_path-apart k key
-        (λ same. whole_none longest k is.value on pointer (ground.kinds k is.value is.there) (ap (λ (j : List Bool). length j) same ∙ ground.whole) is.leads)
+        (λ same. whole_none longest k is.value on pointer (ground.kinds k is.value is.there) (subst IsData (sym same) ground.whole) is.leads)
 
     -- ---- where a pointer that was there leads now
 
@@ -368,7 +365,7 @@ module _ (longest : ℕ) (digest : Digest) (tree base : Tree) (frontier : List B
         along at [] way stands' =
             absurd (whole_none longest k last on pointer
             (subst (λ (j : List Bool). IsOf longest j last) (sym way) (ground.kinds key last ground.end))
-            (ap (λ (j : List Bool). length j) way ∙ ground.whole)
+            (subst IsData (sym way) ground.whole)
             (ap (λ (v : Value). pointer_of v on) (same_Some last is.value (sym stands' ∙ there)) ∙ is.leads))
         along at (link ∷ more) way stands' = turn (one_or_other on way.0.on)
           where
@@ -424,7 +421,7 @@ module _ (longest : ℕ) (digest : Digest) (tree base : Tree) (frontier : List B
             subst (IsOf longest at) (sym (closed_is at before link more way.0))
             (IsOf-with_side longest at way.0.node way.0.on _ (subst (IsOf longest at) way.0.is_node kind)
             (closing_kind digest lent at way.0.on link more _ digests (is_prefix-side at link.path way.0.on way.0.below)
-            (length-kind longest link.path link.taken way.0.kind)))
+            (kind_path longest link.path link.taken way.0.kind)))
 
         go : On k ⊎ (full k ≡ tree k) → IsOf longest k value
         go (inl at) =
@@ -527,7 +524,7 @@ module _ (longest : ℕ) (digest : Digest) (tree base : Tree) (frontier : List B
         aside : (b : Bool) → is_prefix is.pointer.path key ≡ b → is_prefix is.pointer.path key ≡ false
         aside false not_so = not_so
         aside true begins =
-            absurd (other (prefix_whole h key (subst (λ (j : List Bool). is_prefix j key ≡ true) is.to begins) (omega (arith, whole, ground.whole))))
+            absurd (other (data_whole h key (subst (λ (j : List Bool). is_prefix j key ≡ true) is.to begins) whole (data-path key ground.whole)))
 
     -- where the key's record is lent, its pointer says so
     pub key_waits : lent ≡ true → IsWaiting behind key

@@ -1,10 +1,10 @@
 -- Transfers that are done one after another: what holds of each holds of all of them.
-use Rattle.std.proofs.Common.{◌≡◌, ◌≢◌, ℕ, ◌+◌, ◌<◌, ◌≤◌, Bool, List, [], ◌∷◌, ◌++◌, map, Option, Some, Ok, refl, sym, ◌∙◌, ap, subst, arith, if◌then◌else◌}
+use Rattle.std.proofs.Common.{◌≡◌, ◌≢◌, ℕ, ◌+◌, ◌<◌, ◌≤◌, Bool, false, List, [], ◌∷◌, ◌++◌, map, Option, Some, Ok, refl, sym, ◌∙◌, ap, subst, arith, if◌then◌else◌}
 use Rattle.std.specs.Prelude.{◌==◌}
 use Rattle.std.specs.List.{AllByRecursion, flat_map}
 use Rattle.std.proofs.Math.Nat.{le-max_left}
 use Rattle.std.proofs.lemmas.List.Concat.{flat_map-append}
-use Rattle.tree_keys.specs.Path.{IsBelow, key_bits}
+use Rattle.tree_keys.specs.Path.{key_bits, key_path, IsIn, IsBelow}
 use Rattle.lamport_clocks.specs.declared.stamp.Stamp.{Stamp}
 use Rattle.lamport_clocks.specs.Reading.{Reading}
 use Rattle.record_text.specs.declared.element.Element.{Element}
@@ -15,10 +15,10 @@ use Rattle.verifier_commands.specs.Change.{Change, did_add_m, did_evict_m, did_a
 use Rattle.verifier_commands.specs.Transition.{Rules}
 use Rattle.soundness.specs.Certified.{sealed_by}
 use Rattle.soundness.specs.Permutation.{count_of}
-use Rattle.soundness.specs.Typed.{IsPathTyped}
+use Rattle.soundness.specs.Typed.{IsPathTypedIn}
 use Rattle.host_shard.specs.declared.link.Link.{Link}
 use Rattle.host_shard.specs.declared.content.HotRecord.{HotRecord}
-use Rattle.host_shard.specs.Content.{key_path, vacant}
+use Rattle.host_shard.specs.Content.{vacant}
 use Rattle.host_laws.specs.Served.{IsBare}
 use Rattle.host_laws.specs.Running.{Told, Access, run, added_told, evicted_told, accesses_told}
 use Rattle.host_laws.specs.Carried.{carried}
@@ -157,24 +157,24 @@ module _ (longest : ℕ) (digest : Digest) (worker : ℕ) where
   descents_mirror stage (descent ∷ descents) digests mirrors fit ways =
       descents_mirror (next stage descent) descents digests (transfer_mirrors longest digest worker stage descent.transfer descent.links digests mirrors fit.0 ways.0) fit.1 ways.1
 
-  -- what they log is typed
-  pub descents_typed : (stage : Stage) (descents : List Descent) → GivesDigests digest → StageMirrors longest digest stage → AreFit stage descents
-      → AreDescents digest worker stage descents → AllByRecursion (IsPathTyped longest) (commands_by_each digest worker stage descents)
-  descents_typed stage [] digests mirrors fit ways = tt
-  descents_typed stage (descent ∷ descents) digests mirrors fit ways =
-      all-append (IsPathTyped longest) (commands_by stage descent.transfer descent.links) _
-      (transfer_typed longest digest stage descent.transfer descent.links mirrors fit.0 ways.0)
-      (descents_typed (next stage descent) descents digests (transfer_mirrors longest digest worker stage descent.transfer descent.links digests mirrors fit.0 ways.0) fit.1 ways.1)
+  -- what they log is of the frontier's tree and typed
+  pub descents_typed : (wide : Bool) (stage : Stage) (descents : List Descent) → IsIn wide stage.shard.frontier → GivesDigests digest → StageMirrors longest digest stage → AreFit stage descents
+      → AreDescents digest worker stage descents → AllByRecursion (IsPathTypedIn wide longest) (commands_by_each digest worker stage descents)
+  descents_typed wide stage [] within digests mirrors fit ways = tt
+  descents_typed wide stage (descent ∷ descents) within digests mirrors fit ways =
+      all-append (IsPathTypedIn wide longest) (commands_by stage descent.transfer descent.links) _
+      (transfer_typed wide longest digest stage descent.transfer descent.links within mirrors fit.0 ways.0)
+      (descents_typed wide (next stage descent) descents (subst (IsIn wide) (sym (frontier-done longest digest worker stage descent.transfer descent.links)) within) digests (transfer_mirrors longest digest worker stage descent.transfer descent.links digests mirrors fit.0 ways.0) fit.1 ways.1)
 
   -- no key is hot twice
   pub apart_by_number : (stage : Stage) → StageMirrors longest digest stage → AreApart (hot_records stage.places)
   apart_by_number stage mirrors = go (hot_records stage.places) (pairs-different (hot_paths stage.places) mirrors.shard.mirrors.hot_keys.once)
     where
-      go : (records : List HotRecord) → AreDifferent (map (λ (r : HotRecord). key_path r.key) records) → AreApart records
+      go : (records : List HotRecord) → AreDifferent (map (λ (r : HotRecord). key_path false r.key) records) → AreApart records
       go [] different = tt
       go (found ∷ records) different = (
-        all-map (λ r. key_path found.key ≢ key_path r.key) (λ r. r.key ≡ found.key → ⊥) (λ r apart same. apart (ap key_path (sym same))) records
-            (all-images (λ (r : HotRecord). key_path r.key) (λ y. key_path found.key ≢ y) records different.0),
+        all-map (λ r. key_path false found.key ≢ key_path false r.key) (λ r. r.key ≡ found.key → ⊥) (λ r apart same. apart (ap (key_path false) (sym same))) records
+            (all-images (λ (r : HotRecord). key_path false r.key) (λ y. key_path false found.key ≢ y) records different.0),
         go records different.1,
       )
 
@@ -222,7 +222,7 @@ all-widen P Q step [] all = tt
 all-widen P Q step (one ∷ told) all = (step one.0 all.0, all-widen P Q step told all.1)
 
 module _ (rules : Rules) (entries : List Entry) (room : ℕ) (digests : GivesDigests rules.scheme.digest) (bare : IsBare entries)
-    (roomy : key_bits < room) where
+    (roomy : key_bits false < room) where
   abbrev longest : ℕ
   longest = rules.scheme.format.longest
 

@@ -36,6 +36,7 @@ use Rattle.verifier_commands.specs.Changes.{add_under, add_by, above_on, evict_u
 use Rattle.verifier_commands.specs.Transition.{Rules, is_root, transition, timed}
 use Rattle.host_plan.specs.Moments.{taking}
 use Rattle.host_laws.specs.Running.{Told}
+use Rattle.host_laws.proofs.DepthLaws.{not_root, deeper}
 use Rattle.host_laws.proofs.MomentLaws.{received-taken}
 use Rattle.host_laws.proofs.RunLaws.{run-one, run-step}
 use Rattle.host_laws.proofs.WorksLaws.{IsClear, standing, Works, clear-below}
@@ -126,12 +127,12 @@ told_back at hold node left element later =
 
 -- A record comes in by its element, and goes out by its digest.
 pub comes_back : (rules : Rules) (at : List Bool) (hold : Hold) (node : Node) (on : Bool) (pointer : Pointer) (element : Element) (clock : Reading)
-    → side at element.path ≡ Some on → node_side node on ≡ Some pointer → pointer.path ≡ element.path → pointer.deferred ≡ true
+    → 0 < length at → side at element.path ≡ Some on → node_side node on ≡ Some pointer → pointer.path ≡ element.path → pointer.deferred ≡ true
     → element.verifier < rules.verifiers → is_open clock element.stamp.epoch ≡ true → (taking clock element.stamp).at.counter ≤ clock.end
     → let left = pointing rules.scheme.digest node on element.path element.value in
     Works rules 1 at hold (values.Node node) clock (AddB element.path element.value element.stamp element.verifier ∷ EvictM element.path at ∷ [])
     (told_back at hold node left element (taking clock element.stamp)) (values.Node left) (taking clock element.stamp)
-comes_back rules at hold node on pointer element clock below points to deferred known is_taken within front room clear roomy =
+comes_back rules at hold node on pointer element clock some below points to deferred known is_taken within front room clear roomy =
     run-step rules _ (AddB element.path element.value element.stamp element.verifier) (EvictM element.path at ∷ []) _
     (standing (front ++ before ∷ []) room later child) _ _ added
     (run-one rules _ (EvictM element.path at) _ (standing front room later after) evicted)
@@ -163,15 +164,13 @@ comes_back rules at hold node on pointer element clock below points to deferred 
     longer : length (front ++ before ∷ []) ≡ length front + 1
     longer = length-append front (before ∷ [])
 
-    no_root : (k j : List Bool) → side k j ≡ Some on → is_root j ≡ false
-    no_root [] [] is = absurd (none-some on is)
-    no_root (a ∷ k) [] is = absurd (none-some on is)
-    no_root k (bit ∷ j) is = refl
+    no_root : is_root element.path ≡ false
+    no_root = not_root element.path (deeper at element.path on some below)
 
     added : transition rules (standing front room clock before) (AddB element.path element.value element.stamp element.verifier)
         ≡ Ok (did_add_b child element, standing (front ++ before ∷ []) room later child)
     added =
-        passed _ _ _ (no_root at element.path below)
+        passed _ _ _ no_root
         ∙ (passed (is_some (entry_of element.path (front ++ before ∷ []))) _ _ (ap (λ (o : Option Entry). is_some o) nothing)
         ∙ (passed (nat_le room (length (front ++ before ∷ []))) _ _ (grind (arith, nat_tests, longer))
         ∙ (passed (nat_le rules.verifiers element.verifier) _ _ (grind (arith, nat_tests))
@@ -181,7 +180,7 @@ comes_back rules at hold node on pointer element clock below points to deferred 
     evicted : transition rules (standing (front ++ before ∷ []) room later child) (EvictM element.path at)
         ≡ Ok (did_evict_m before after child, standing front room later after)
     evicted =
-        passed _ _ _ (no_root at element.path below)
+        passed _ _ _ no_root
         ∙ (found (entry_of element.path ((front ++ before ∷ []) ++ child ∷ [])) _ _ child (child_found element.path (front ++ before ∷ []) child refl nothing)
         ∙ (found (entry_of at ((front ++ before ∷ []) ++ child ∷ [])) _ _ before (node_found at front before child refl (clear at (is_prefix-self at)))
         ∙ (ap (λ (r : Result Entry Refusal). and_then r (λ e. Ok (did_evict_m before e child, with_entries (standing (front ++ before ∷ []) room later child) (without element.path (replaced e ((front ++ before ∷ []) ++ child ∷ []))))))

@@ -4,8 +4,8 @@ use Rattle.std.specs.Prelude.{IfSome}
 use Rattle.std.specs.List.{AllByRecursion, flat_map}
 use Rattle.std.proofs.lemmas.Bool.{false≢true, cases_lt}
 use Rattle.std.proofs.lemmas.List.Concat.{flat_map-append}
-use Rattle.tree_keys.specs.BitsLaws.{length-bits_of}
-use Rattle.tree_keys.specs.Path.{key_bits}
+use Rattle.tree_keys.proofs.TreeLaws.{key_path-data}
+use Rattle.tree_keys.specs.Path.{key_path, IsIn}
 use Rattle.lamport_clocks.specs.declared.stamp.Stamp.{Stamp}
 use Rattle.lamport_clocks.specs.Reading.{Reading}
 use Rattle.lamport_clocks.specs.Stamp.{IsLater}
@@ -23,17 +23,19 @@ use Rattle.verifier_commands.specs.Change.{Change}
 use Rattle.verifier_commands.specs.Transition.{Rules, is_root}
 use Rattle.soundness.specs.Certified.{sealed_by}
 use Rattle.soundness.specs.Permutation.{count_of}
-use Rattle.soundness.specs.Typed.{IsPathTyped}
+use Rattle.soundness.specs.Typed.{IsPathTypedIn}
 use Rattle.host_shard.specs.declared.content.HotRecord.{HotRecord}
 use Rattle.host_shard.specs.Shard.{pending_shard}
 use Rattle.host_shard.specs.Content.{pending_hot}
+use Rattle.host_shard.specs.Mirrors.{IsKeyOf}
 use Rattle.host_plan.specs.Moments.{taking, giving, renewing}
 use Rattle.host_laws.specs.Running.{Told, Access, run, added_told, evicted_told, accesses_told}
 use Rattle.host_laws.specs.Carried.{carried, carries}
 use Rattle.host_laws.specs.Served.{IsWithin}
+use Rattle.host_laws.proofs.DepthLaws.{not_root}
 use Rattle.host_laws.proofs.MomentLaws.{received-taken, sent-given}
 use Rattle.host_laws.proofs.BetweenLaws.{clear-bare, length-bare}
-use Rattle.host_laws.proofs.FrontierLaws.{frontier_there}
+use Rattle.host_laws.proofs.FrontierLaws.{key_in, frontier_there}
 use Rattle.host_laws.proofs.RunLaws.{run-append}
 use Rattle.host_laws.proofs.ToldLaws.{added_told-append, evicted_told-append, accesses_told-append, carried-append, all-append}
 use Rattle.host_laws.proofs.WorksLaws.{IsClear, standing}
@@ -52,7 +54,8 @@ use Rattle.move_laws.proofs.PlaceLaws.{AreApart, all-are, all-map}
 use Rattle.move_laws.proofs.VacantLaws.{all-images, images-all}
 use Rattle.move_laws.proofs.AroundLaws.{told_in, told_out, takes_in, hands_out}
 use Rattle.move_laws.specs.Moved.{waiting_in, CanMove, IsOfClock, MoveRuns, at_stage}
-use Rattle.move_laws.proofs.RenewLaws.{not_root, told_renewing, renewing-runs, renewed_each, added-renewing, evicted-renewing, no_access-renewing, unsealed-renewing, carried-renewing, carries-renewing, renewed-weight}
+use Rattle.move_laws.proofs.RenewLaws.{told_renewing, renewing-runs, renewed_each, added-renewing, evicted-renewing, no_access-renewing, unsealed-renewing, carried-renewing, carries-renewing, renewed-weight}
+use Rattle.move_laws.proofs.TransferLaws.{hot_own}
 use Rattle.move_laws.proofs.StageLemmas.{weight_split, all_untouched, apart_touched}
 use Rattle.move_laws.proofs.DescentLaws.{adds_by_each, evicts_by_each, apart_by_number, descents_mirror, descents_typed, descents-weight, DescentsRun, descents_run, each-up, each-epoch, each-end, each-frontier}
 use Rattle.move_laws.proofs.FitLaws.{GoWell, all_go, begun-ready, begun_mirrors}
@@ -138,20 +141,23 @@ module _ (longest : ℕ) (digest : Digest) (worker : ℕ) (threshold : Option �
     pub mirrors_again : StageMirrors longest digest (moved digest worker old descents)
     mirrors_again = handed_mirrors longest digest worker _ (descents_mirror longest digest worker (begun worker old) descents given.digests begins go_well.fit given.ways)
 
-    -- what it logs is typed
-    pub all_typed : AllByRecursion (IsPathTyped longest) (move_commands digest worker old descents)
-    all_typed =
-        all-append (IsPathTyped longest) (renewing_commands old.clock (touched_in old.places)) _
-        (renewing-typed old.clock (touched_in old.places) (touched_all (λ found. IsBlob longest found.value) old.places given.mirrors.blobs)) (
-          given.mirrors.shard.fits.kinds old.shard.frontier old.shard.value (frontier_there old.shard),
-          all-append (IsPathTyped longest) _ _ (descents_typed longest digest worker (begun worker old) descents given.digests begins go_well.fit given.ways) (tt, tt),
+    -- what it logs is of the frontier's tree and typed
+    pub all_typed : (wide : Bool) → IsIn wide old.shard.frontier → AllByRecursion (IsPathTypedIn wide longest) (move_commands digest worker old descents)
+    all_typed wide within =
+        all-append (IsPathTypedIn wide longest) (renewing_commands old.clock (touched_in old.places)) _
+        (renewing-typed old.clock (touched_in old.places) (touched_all (λ found. IsBlob longest found.value) old.places given.mirrors.blobs)
+        (touched_all (λ found. IsKeyOf old.shard (key_path false found.key)) old.places (hot_own longest digest old given.mirrors))) (
+          (within, given.mirrors.shard.fits.kinds old.shard.frontier old.shard.value (frontier_there old.shard)),
+          all-append (IsPathTypedIn wide longest) _ _ (descents_typed longest digest worker wide (begun worker old) descents within given.digests begins go_well.fit given.ways) ((within, tt), tt),
         )
       where
         renewing-typed : (clock : Reading) (records : List HotRecord) → AllByRecursion (λ found. IsBlob longest found.value) records
-            → AllByRecursion (IsPathTyped longest) (renewing_commands clock records)
-        renewing-typed clock [] blobs = tt
-        renewing-typed clock (found ∷ more) blobs =
-            ((length-bits_of key_bits found.key, blobs.0), (tt, renewing-typed (renewing clock found.stamp) more blobs.1))
+            → AllByRecursion (λ found. IsKeyOf old.shard (key_path false found.key)) records
+            → AllByRecursion (IsPathTypedIn wide longest) (renewing_commands clock records)
+        renewing-typed clock [] blobs own = tt
+        renewing-typed clock (found ∷ more) blobs own =
+            let below = key_in wide old.shard (key_path false found.key) own.0 within in
+            ((below, (key_path-data false found.key, blobs.0)), ((below, tt), renewing-typed (renewing clock found.stamp) more blobs.1 own.1))
 
 -- ---- it runs
 
@@ -187,7 +193,7 @@ module _ (rules : Rules) (cache : Held) (threshold : Option ℕ) (old : Stage) (
   apart = not_root old.shard.frontier given.mirrors.shard.fits.below_root
 
   clear : IsClear old.shard.frontier cache.entries
-  clear = clear-bare cache.entries old.shard.frontier can.bare apart
+  clear = clear-bare cache.entries old.shard.frontier can.bare given.mirrors.shard.fits.below_root
 
   open_still : is_open (renewing_each old.clock (touched_in old.places)) old.shard.stamp.epoch ≡ true
   open_still = renewing_each-open old.clock (touched_in old.places) old.shard.stamp.epoch ∙ can.takable.0.1
@@ -331,11 +337,11 @@ module _ (rules : Rules) (cache : Held) (threshold : Option ℕ) (old : Stage) (
   is_run = record {
     told = told_all;
     runs = run-append rules (at_stage cache old) _ _ _ _ (record { cache = cache; clock = renewed }) (at_stage cache new)
-        (renewing-runs rules (at_stage cache old) touched can.bare (omega (arith, can.room, given.mirrors.shard.fits.no_data, given.mirrors.shard.fits.below_root))
+        (renewing-runs rules (at_stage cache old) touched can.bare (omega (arith, can.room))
         (touched_all (λ found. IsTakable rules old.clock (pending_hot found)) old.places takable)
         (omega (arith, within, counters, ends, renewing-up renewed old.shard.stamp)))
         (run-append rules (record { cache = cache; clock = renewed }) _ _ _ _ (holding cache.entries cache.room start) (at_stage cache new)
-        (takes_in rules cache.entries cache.room renewed element apart clear (omega (arith, length-bare cache.entries can.bare, can.room, given.mirrors.shard.fits.no_data, given.mirrors.shard.fits.below_root))
+        (takes_in rules cache.entries cache.room renewed element apart clear (omega (arith, length-bare cache.entries can.bare, can.room))
         can.takable.0.0 open_still (omega (arith, within, counters, ends)))
         (run-append rules (holding cache.entries cache.room start) _ _ _ _ (holding cache.entries cache.room last) (at_stage cache new) done.runs
         (subst (λ (k : List Bool). run rules (standing cache.entries cache.room last.clock (new_entry k last.shard.value B)) (EvictB old.shard.frontier (giving last.clock).at ∷ [])
@@ -395,10 +401,10 @@ move_mirrors longest digest worker threshold old new commands digests some mirro
     subst (StageMirrors longest digest) (sym is.after)
     (mirrors_again longest digest worker threshold old is.promotable is.descents (move_given longest digest worker threshold old new commands is digests some mirrors))
 
--- The values that its commands bring in are of their paths' kinds.
-pub move_typed : (longest : ℕ) (digest : Digest) (worker : ℕ) (threshold : Option ℕ) (old new : Stage) (commands : List Command)
-    → GivesDigests digest → IfSome threshold (λ least. 0 < least) → StageMirrors longest digest old
-    → IsMove digest worker threshold old commands new → AllByRecursion (IsPathTyped longest) commands
-move_typed longest digest worker threshold old new commands digests some mirrors is =
-    subst (AllByRecursion (IsPathTyped longest)) (sym is.commands)
-    (all_typed longest digest worker threshold old is.promotable is.descents (move_given longest digest worker threshold old new commands is digests some mirrors))
+-- The paths that its commands name are of the frontier's tree, and the values that they bring in are of their paths' kinds.
+pub move_typed : (wide : Bool) (longest : ℕ) (digest : Digest) (worker : ℕ) (threshold : Option ℕ) (old new : Stage) (commands : List Command)
+    → IsIn wide old.shard.frontier → GivesDigests digest → IfSome threshold (λ least. 0 < least) → StageMirrors longest digest old
+    → IsMove digest worker threshold old commands new → AllByRecursion (IsPathTypedIn wide longest) commands
+move_typed wide longest digest worker threshold old new commands within digests some mirrors is =
+    subst (AllByRecursion (IsPathTypedIn wide longest)) (sym is.commands)
+    (all_typed longest digest worker threshold old is.promotable is.descents (move_given longest digest worker threshold old new commands is digests some mirrors) wide within)

@@ -1,11 +1,9 @@
 -- Hot records that are taken in and handed out again, one after another.
-use Rattle.std.proofs.Common.{◌≡◌, ◌⊎◌, ℕ, ◌+◌, ◌*◌, ◌<◌, ◌≤◌, Bool, true, false, List, [], ◌∷◌, ◌++◌, map, length, Ok, refl, ◌∙◌, ap, inl, inr, arith}
-use Rattle.std.specs.Int.{Width, w8, w16, w32, w64, w128, byte_len}
+use Rattle.std.proofs.Common.{◌≡◌, ◌⊎◌, ℕ, ◌+◌, ◌<◌, ◌≤◌, Bool, true, false, List, [], ◌∷◌, ◌++◌, map, Ok, refl, ◌∙◌, ap, inl, inr, arith}
 use Rattle.std.specs.List.{AllByRecursion, flat_map}
-use Rattle.tree_keys.specs.Path.{key_bits}
+use Rattle.tree_keys.specs.Path.{key_path}
 use Rattle.soundness.specs.Certified.{sealed_by}
 use Rattle.std.proofs.lemmas.Bool.{false≢true}
-use Rattle.tree_keys.specs.BitsLaws.{length-bits_of}
 use Rattle.lamport_clocks.specs.declared.stamp.Stamp.{Stamp}
 use Rattle.lamport_clocks.specs.Reading.{Reading}
 use Rattle.record_text.specs.declared.element.Element.{Element}
@@ -13,13 +11,14 @@ use Rattle.record_text.specs.declared.value.Value.TheVariants as values
 use Rattle.verifier_cache.specs.declared.entry.Hold.TheVariants.{B}
 use Rattle.verifier_commands.specs.declared.state.State.{State}
 use Rattle.verifier_commands.specs.Change.{Change}
-use Rattle.verifier_commands.specs.Transition.{Rules, is_root}
+use Rattle.verifier_commands.specs.Transition.{Rules}
 use Rattle.host_shard.specs.declared.content.HotRecord.{HotRecord}
-use Rattle.host_shard.specs.Content.{Content, hot, key_path, pending_hot}
+use Rattle.host_shard.specs.Content.{Content, hot, pending_hot}
 use Rattle.host_plan.specs.Moments.{renewing}
 use Rattle.host_laws.specs.Running.{Told, run, added_told, evicted_told, accesses_told}
 use Rattle.host_laws.specs.Carried.{carried, carries}
 use Rattle.host_laws.specs.Served.{IsBare}
+use Rattle.host_laws.proofs.DepthLaws.{not_root, key_deep}
 use Rattle.host_laws.proofs.RunLaws.{run-none, run-append}
 use Rattle.host_laws.proofs.WorksLaws.{works-none}
 use Rattle.host_laws.proofs.BetweenLaws.{clear-bare, length-bare, told_between, between_runs}
@@ -29,24 +28,6 @@ use Rattle.protection_moves.specs.Renewing.{renewed_record, renewing_each, renew
 use Rattle.move_laws.specs.Stages.{IsOne, IsTakable}
 use Rattle.move_laws.proofs.CountLaws.{weight, weight-front}
 use Rattle.move_laws.proofs.PlaceLaws.{HasNone, AreApart, replaced-weight, replaced-keys, apart-replaced, all-replaced, one-replaced}
-
--- ---- paths
-
--- a path that isn't empty isn't the root
-pub not_root : (path : List Bool) → 0 < length path → is_root path ≡ false
-not_root [] some = absurd (omega (arith, some))
-not_root (bit ∷ path) some = refl
-
-some_bits : (word : Width) → 0 < 8 * byte_len word
-some_bits w8 = omega arith
-some_bits w16 = omega arith
-some_bits w32 = omega arith
-some_bits w64 = omega arith
-some_bits w128 = omega arith
-
--- a key isn't the root
-pub key_apart : (key : ℕ) → is_root (key_path key) ≡ false
-key_apart key = not_root (key_path key) (omega (arith, length-bits_of key_bits key, some_bits w64))
 
 -- ---- at the verifier
 
@@ -66,7 +47,7 @@ renewing-runs rules state [] bare room takable within = run-none rules state
 renewing-runs rules state (found ∷ more) bare room takable within =
     run-append rules state _ _ _ _ (record state { clock = renewing state.clock found.stamp }) _
     (between_runs rules state (pending_hot found) 0 [] [] (values.Blob found.value)
-    (key_apart found.key) (clear-bare state.cache.entries _ bare (key_apart found.key))
+    (not_root (key_path false found.key) (key_deep false found.key)) (clear-bare state.cache.entries (key_path false found.key) bare (key_deep false found.key))
     (omega (arith, length-bare state.cache.entries bare)) takable.0.0 takable.0.1
     (omega (arith, renewing_each-up (renewing state.clock found.stamp) more))
     (works-none rules 0 _ B _ _))

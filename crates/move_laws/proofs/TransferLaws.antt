@@ -4,9 +4,9 @@ use Rattle.std.specs.List.{AllByRecursion}
 use Rattle.std.proofs.lemmas.Option.{same_Some}
 use Rattle.std.proofs.Math.Nat.{le-max_left}
 use Rattle.std.specs.Prelude.{◌==◌}
-use Rattle.tree_keys.specs.Path.{side, same_path, IsBelow, key_bits}
-use Rattle.tree_keys.specs.BitsLaws.{length-bits_of}
+use Rattle.tree_keys.specs.Path.{key_bits, key_path, side, same_path, IsIn, IsBelow}
 use Rattle.tree_keys.proofs.PathLaws.{same_path-apart}
+use Rattle.tree_keys.proofs.TreeLaws.{in-below, key_path-data}
 use Rattle.verifier_commands.proofs.BelowLaws.{below_apart}
 use Rattle.lamport_clocks.specs.declared.stamp.Stamp.{Stamp}
 use Rattle.lamport_clocks.specs.Reading.{Reading}
@@ -18,17 +18,19 @@ use Rattle.log_codec.specs.declared.command.Command.{Command}
 use Rattle.merkle_records.specs.Merkle.{Digest, GivesDigests}
 use Rattle.verifier_cache.specs.declared.entry.Entry.{Entry}
 use Rattle.verifier_cache.specs.declared.entry.Hold.TheVariants.{B}
-use Rattle.verifier_commands.specs.Transition.{Rules, is_root}
-use Rattle.soundness.specs.Typed.{IsPathTyped}
+use Rattle.verifier_commands.specs.Transition.{Rules}
+use Rattle.soundness.specs.Typed.{IsPathTypedIn}
 use Rattle.host_shard.specs.declared.link.Link.{Link}
 use Rattle.host_shard.specs.declared.content.HotRecord.{HotRecord}
 use Rattle.host_shard.specs.Tree.{Tree}
 use Rattle.host_shard.specs.Chain.{last_value}
 use Rattle.host_shard.specs.Shard.{Shard, tree_of}
-use Rattle.host_shard.specs.Content.{key_path, pending_hot}
+use Rattle.host_shard.specs.Content.{pending_hot}
 use Rattle.host_shard.specs.Mirrors.{IsShard, IsKeyOf}
 use Rattle.host_plan.specs.Moments.{taking, giving}
 use Rattle.host_laws.specs.Served.{IsBare}
+use Rattle.host_laws.proofs.DepthLaws.{depth_in, some_path}
+use Rattle.host_laws.proofs.FrontierLaws.{frontier_in}
 use Rattle.host_laws.proofs.BetweenLaws.{clear-bare, length-bare}
 use Rattle.host_laws.proofs.ToldLaws.{all-append}
 use Rattle.protection_moves.specs.Stage.{Stage, hot_records}
@@ -42,10 +44,6 @@ use Rattle.move_laws.proofs.AlongLemmas.{Along, IsOnward, along, back_ends, hot_
 use Rattle.move_laws.proofs.AboveLaws.{apart_from}
 use Rattle.move_laws.proofs.BackLemmas.{back_shard, back_own, end, blob, back_way, back_sound, back_mirrors}
 use Rattle.move_laws.proofs.HotLemmas.{recorded, hot_way, hot_end, hot_sound, last_data, hot_mirrors}
-
-not_root : (path : List Bool) → 0 < length path → is_root path ≡ false
-not_root [] some = absurd (omega (arith, some))
-not_root (bit ∷ path) some = refl
 
 not_below : (frontier path : List Bool) → (IsBelow frontier path → ⊥) → side frontier path ≡ None
 not_below frontier path is = go (side frontier path) is
@@ -75,8 +73,8 @@ shard_for stage (promotes key) = stage.shard
 
 -- and the key to which they do
 abbrev pub key_for : Transfer → List Bool
-key_for (demotes found) = key_path found.key
-key_for (promotes key) = key_path key
+key_for (demotes found) = key_path false found.key
+key_for (promotes key) = key_path false key
 
 -- That is a shard, and the key is one of it.
 pub transfer_shard : (longest : ℕ) (digest : Digest) (stage : Stage) (transfer : Transfer) → StageMirrors longest digest stage → IsFit stage transfer
@@ -91,50 +89,63 @@ transfer_own longest digest stage (promotes key) mirrors fit = fit.own
 
 -- each hot key is one of the shard
 pub hot_own : (longest : ℕ) (digest : Digest) (stage : Stage) → StageMirrors longest digest stage
-    → AllByRecursion (λ found. IsKeyOf stage.shard (key_path found.key)) (hot_records stage.places)
+    → AllByRecursion (λ found. IsKeyOf stage.shard (key_path false found.key)) (hot_records stage.places)
 hot_own longest digest stage mirrors =
-    all-map (IsOne (hot_records stage.places)) (λ found. IsKeyOf stage.shard (key_path found.key))
+    all-map (IsOne (hot_records stage.places)) (λ found. IsKeyOf stage.shard (key_path false found.key))
     (λ found is. let own = back_own longest digest stage mirrors found is in record { whole = own.whole; below = own.below })
     (hot_records stage.places) (all-are (hot_records stage.places))
 
--- ---- what is logged is typed
+-- ---- what is logged is of the frontier's tree and typed
 
-along_typed : (longest : ℕ) (tree : Tree) (key : List Bool) (late : Bool) (at_end : List Bool → Link → List Command)
-    → ((at : List Bool) (value : Value) (link : Link) → IsStep longest tree key late at value link → link.path ≡ key → AllByRecursion (IsPathTyped longest) (at_end at link))
-    → (at : List Bool) (value : Value) (links : List Link) → IsWay longest tree key late at value links
-    → AllByRecursion (IsPathTyped longest) (visit_but_last at links at_end)
-along_typed longest tree key late at_end ends at value [] way = tt
-along_typed longest tree key late at_end ends at value (link ∷ []) way = ends at value link way.0 way.1
-along_typed longest tree key late at_end ends at value (link ∷ next ∷ links) way = (
-  subst (IsOf longest link.path) (sym way.0.as_it_is) way.0.kind,
-  all-append (IsPathTyped longest) (visit_but_last link.path (next ∷ links) at_end) _
-      (along_typed longest tree key late at_end ends link.path link.taken (next ∷ links) way.1) (tt, tt),
-)
+along_typed : (wide : Bool) (longest : ℕ) (tree : Tree) (key : List Bool) (late : Bool) (at_end : List Bool → Link → List Command)
+    → ((at : List Bool) (value : Value) (link : Link) → IsIn wide at → IsStep longest tree key late at value link → link.path ≡ key → AllByRecursion (IsPathTypedIn wide longest) (at_end at link))
+    → (at : List Bool) (value : Value) (links : List Link) → IsIn wide at → IsWay longest tree key late at value links
+    → AllByRecursion (IsPathTypedIn wide longest) (visit_but_last at links at_end)
+along_typed wide longest tree key late at_end ends at value [] within way = tt
+along_typed wide longest tree key late at_end ends at value (link ∷ []) within way = ends at value link within way.0 way.1
+along_typed wide longest tree key late at_end ends at value (link ∷ next ∷ links) within way =
+    let below = in-below wide at link.path way.0.on within way.0.below in (
+      ((below, within), subst (IsOf longest link.path) (sym way.0.as_it_is) way.0.kind),
+      all-append (IsPathTypedIn wide longest) (visit_but_last link.path (next ∷ links) at_end) _
+          (along_typed wide longest tree key late at_end ends link.path link.taken (next ∷ links) below way.1) (((below, within), tt), tt),
+    )
 
-pub transfer_typed : (longest : ℕ) (digest : Digest) (stage : Stage) (transfer : Transfer) (links : List Link)
-    → StageMirrors longest digest stage → IsFit stage transfer → AreLinks stage.shard transfer links
-    → AllByRecursion (IsPathTyped longest) (commands_by stage transfer links)
-transfer_typed longest digest stage (demotes found) links mirrors fit chain =
-    along_typed longest (tree_of (with_back stage.shard found)) (key_path found.key) true (come_back (pending_hot found))
-    (λ at value link step is_key. ((length-bits_of key_bits found.key, blob longest digest stage mirrors found fit), (tt, tt)))
-    stage.shard.frontier stage.shard.value links (back_way longest digest stage mirrors found fit links chain)
-transfer_typed longest digest stage (promotes key) links mirrors fit chain =
-    along_typed longest (tree_of stage.shard) (key_path key) false (become_hot (giving stage.clock).at)
-    (λ at value link step is_key. (subst (IsOf longest link.path) (sym step.as_it_is) step.kind, (tt, tt)))
-    stage.shard.frontier stage.shard.value links (hot_way longest digest stage mirrors key fit links chain)
+pub transfer_typed : (wide : Bool) (longest : ℕ) (digest : Digest) (stage : Stage) (transfer : Transfer) (links : List Link)
+    → IsIn wide stage.shard.frontier → StageMirrors longest digest stage → IsFit stage transfer → AreLinks stage.shard transfer links
+    → AllByRecursion (IsPathTypedIn wide longest) (commands_by stage transfer links)
+transfer_typed wide longest digest stage (demotes found) links within mirrors fit chain =
+    along_typed wide longest (tree_of (with_back stage.shard found)) (key_path false found.key) true (come_back (pending_hot found))
+    (λ at value link above step is_key.
+    let below = in-below wide at link.path step.on above step.below in
+    ((subst (IsIn wide) is_key below, (key_path-data false found.key, blob longest digest stage mirrors found fit)), (((below, above), tt), tt)))
+    stage.shard.frontier stage.shard.value links within (back_way longest digest stage mirrors found fit links chain)
+transfer_typed wide longest digest stage (promotes key) links within mirrors fit chain =
+    along_typed wide longest (tree_of stage.shard) (key_path false key) false (become_hot (giving stage.clock).at)
+    (λ at value link above step is_key.
+    let below = in-below wide at link.path step.on above step.below in
+    (((below, above), subst (IsOf longest link.path) (sym step.as_it_is) step.kind), (((below, above), tt), tt)))
+    stage.shard.frontier stage.shard.value links within (hot_way longest digest stage mirrors key fit links chain)
+
+-- the frontier is of the tree of the transfer's key
+pub transfer_in : (longest : ℕ) (digest : Digest) (stage : Stage) (transfer : Transfer) → StageMirrors longest digest stage → IsFit stage transfer
+    → IsIn false stage.shard.frontier
+transfer_in longest digest stage (demotes found) mirrors fit =
+    frontier_in false longest (with_back stage.shard found) (key_path false found.key) (back_shard longest digest stage mirrors found fit)
+    (back_own longest digest stage mirrors found fit) refl
+transfer_in longest digest stage (promotes key) mirrors fit = frontier_in false longest stage.shard (key_path false key) mirrors.shard.fits fit.own refl
 
 -- ---- it runs
 
 runs_back : (rules : Rules) (entries : List Entry) (room : ℕ) (stage : Stage) (found : HotRecord) (links : List Link)
-    → IsBare entries → key_bits < room → StageMirrors rules.scheme.format.longest rules.scheme.digest stage
+    → IsBare entries → key_bits false < room → StageMirrors rules.scheme.format.longest rules.scheme.digest stage
     → IsOne (hot_records stage.places) found → CanDo rules stage (demotes found) → AreLinks stage.shard (demotes found) links
     → TransferRuns rules entries room stage (demotes found) links
 runs_back rules entries room stage found [] bare roomy mirrors is_hot can chain =
-    absurd (apart_from rules.scheme.format.longest rules.scheme.digest stage mirrors (key_path found.key) (length-bits_of key_bits found.key) chain)
+    absurd (apart_from rules.scheme.format.longest rules.scheme.digest stage mirrors (key_path false found.key) (key_path-data false found.key) chain)
 runs_back rules entries room stage found (link ∷ more) bare roomy mirrors is_hot can chain = record {
   told = way.told;
-  runs = way.works entries room (clear-bare entries shard.frontier bare no_root)
-      (omega (arith, length-bare entries bare, few, mirrors.shard.fits.below_root, length-bits_of key_bits found.key, roomy));
+  runs = way.works entries room (clear-bare entries shard.frontier bare mirrors.shard.fits.below_root)
+      (omega (arith, length-bare entries bare, few, depth_in shard.frontier mirrors.shard.fits.below_root, mirrors.shard.fits.below_root, key_path-data false found.key, roomy));
   added = way.added;
   evicted = way.evicted;
   no_access = way.no_access;
@@ -151,16 +162,13 @@ runs_back rules entries room stage found (link ∷ more) bare roomy mirrors is_h
     shard = stage.shard
 
     key : List Bool
-    key = key_path found.key
+    key = key_path false found.key
 
     tree : Tree
     tree = tree_of (with_back stage.shard found)
 
     base : Tree
     base = (with_back stage.shard found).records
-
-    no_root : is_root stage.shard.frontier ≡ false
-    no_root = not_root shard.frontier mirrors.shard.fits.below_root
 
     is_way : IsWay rules.scheme.format.longest tree key true stage.shard.frontier stage.shard.value (link ∷ more)
     is_way = back_way longest rules.scheme.digest stage mirrors found is_hot (link ∷ more) chain
@@ -182,21 +190,21 @@ runs_back rules entries room stage found (link ∷ more) bare roomy mirrors is_h
         along rules tree shard.records base key false (values.Blob found.value) stage.clock (taking stage.clock found.stamp) (come_back (pending_hot found))
         (pending_hot found ∷ []) [] (onward-taking stage.clock found.stamp)
         (λ at value one apart step. back_sound longest rules.scheme.digest stage mirrors found is_hot (link ∷ more) chain at value one apart step)
-        (λ at hold value one at_based step is_key.
-        back_ends rules tree shard.records base key (pending_hot found) stage.clock at hold value one kept_base step is_key refl
+        (λ at hold value one some at_based step is_key.
+        back_ends rules tree shard.records base key (pending_hot found) stage.clock at hold value one some kept_base step is_key refl
         (end longest rules.scheme.digest stage mirrors found is_hot) can.takable.0.0 can.takable.0.1 can.counters (onward-taking stage.clock found.stamp))
-        shard.frontier B shard.value link more based is_way
+        shard.frontier B shard.value link more (some_path shard.frontier mirrors.shard.fits.below_root) based is_way
 
 runs_hot : (rules : Rules) (entries : List Entry) (room : ℕ) (stage : Stage) (key : ℕ) (links : List Link)
-    → IsBare entries → key_bits < room → StageMirrors rules.scheme.format.longest rules.scheme.digest stage
+    → IsBare entries → key_bits false < room → StageMirrors rules.scheme.format.longest rules.scheme.digest stage
     → IsPromotable stage key → CanDo rules stage (promotes key) → AreLinks stage.shard (promotes key) links
     → TransferRuns rules entries room stage (promotes key) links
 runs_hot rules entries room stage key [] bare roomy mirrors fit can chain =
-    absurd (apart_from rules.scheme.format.longest rules.scheme.digest stage mirrors (key_path key) fit.own.whole chain)
+    absurd (apart_from rules.scheme.format.longest rules.scheme.digest stage mirrors (key_path false key) fit.own.whole chain)
 runs_hot rules entries room stage key (link ∷ more) bare roomy mirrors fit can chain = record {
   told = way.told;
-  runs = way.works entries room (clear-bare entries shard.frontier bare no_root)
-      (omega (arith, length-bare entries bare, few, mirrors.shard.fits.below_root, fit.own.whole, roomy));
+  runs = way.works entries room (clear-bare entries shard.frontier bare mirrors.shard.fits.below_root)
+      (omega (arith, length-bare entries bare, few, depth_in shard.frontier mirrors.shard.fits.below_root, mirrors.shard.fits.below_root, key_path-data false key, roomy));
   added = way.added;
   evicted = way.evicted
       ∙ ap (λ (v : Value). record { path = path; value = v; stamp = (giving stage.clock).at; verifier = rules.number } ∷ [])
@@ -215,16 +223,13 @@ runs_hot rules entries room stage key (link ∷ more) bare roomy mirrors fit can
     shard = stage.shard
 
     path : List Bool
-    path = key_path key
+    path = key_path false key
 
     tree : Tree
     tree = tree_of stage.shard
 
     last : Value
     last = last_value stage.shard.value (link ∷ more)
-
-    no_root : is_root stage.shard.frontier ≡ false
-    no_root = not_root shard.frontier mirrors.shard.fits.below_root
 
     is_way : IsWay rules.scheme.format.longest tree path false stage.shard.frontier stage.shard.value (link ∷ more)
     is_way = hot_way longest rules.scheme.digest stage mirrors key fit (link ∷ more) chain
@@ -250,15 +255,15 @@ runs_hot rules entries room stage key (link ∷ more) bare roomy mirrors fit can
         along rules tree shard.records shard.records path true last stage.clock (giving stage.clock) (become_hot (giving stage.clock).at)
         [] (record { path = path; value = last; stamp = (giving stage.clock).at; verifier = rules.number } ∷ []) (onward-giving stage.clock)
         (λ at value one apart step. sound at value one step)
-        (λ at hold value one at_based step is_key.
-        hot_ends rules tree shard.records shard.records path last stage.clock at hold value one (λ k apart. refl)
+        (λ at hold value one some at_based step is_key.
+        hot_ends rules tree shard.records shard.records path last stage.clock at hold value one some (λ k apart. refl)
         (sym (recorded longest rules.scheme.digest stage mirrors key fit (link ∷ more) chain)) step is_key
         (same_Some one.taken last (sym step.there ∙ (ap tree is_key ∙ at_end))) (sound at value one step).1 can.counters)
-        shard.frontier B shard.value link more based is_way
+        shard.frontier B shard.value link more (some_path shard.frontier mirrors.shard.fits.below_root) based is_way
 
 -- A transfer runs behind the frontier of its shard.
 pub transfer_runs : (rules : Rules) (entries : List Entry) (room : ℕ) (stage : Stage) (transfer : Transfer) (links : List Link)
-    → IsBare entries → key_bits < room → StageMirrors rules.scheme.format.longest rules.scheme.digest stage
+    → IsBare entries → key_bits false < room → StageMirrors rules.scheme.format.longest rules.scheme.digest stage
     → IsFit stage transfer → CanDo rules stage transfer → AreLinks stage.shard transfer links
     → TransferRuns rules entries room stage transfer links
 transfer_runs rules entries room stage (demotes found) links bare roomy mirrors fit can chain = runs_back rules entries room stage found links bare roomy mirrors fit can chain

@@ -2,7 +2,7 @@
 use Rattle.std.proofs.Common.{ℕ, ◌≡◌, ◌≢◌, ◌⊎◌, ◌+◌, ◌≤◌, Bool, true, List, [], ◌∷◌, length, Option, Some, if◌then◌else◌, refl, sym, ◌∙◌, ap, subst, inl, inr, arith}
 use Rattle.std.specs.Option.{unwrap_or}
 use Rattle.std.proofs.lemmas.Option.{none-some, same_Some}
-use Rattle.tree_keys.specs.Path.{side, is_prefix, IsData}
+use Rattle.tree_keys.specs.Path.{side, is_prefix}
 use Rattle.tree_keys.proofs.SideLaws.{side-self, is_prefix-self, is_prefix-trans, prefix_of_side, side_of_prefix, side-prefix, above_no_prefix}
 use Rattle.record_text.specs.declared.value.Pointer.{Pointer}
 use Rattle.record_text.specs.declared.value.Node.{Node}
@@ -28,12 +28,6 @@ pub pointer_side : (longest : ℕ) (path : List Bool) (value : Value) (on : Bool
 pointer_side longest path (values.Blob blob) on pointer kind is = absurd (none-some pointer is)
 pointer_side longest path (values.Node node) on pointer kind is =
     side_of_prefix path pointer.path on (subst (IsSide path on) is (IsSide-node_side longest path node on kind)).below
-
--- a whole path has no pointers
-pub whole_none : (longest : ℕ) (path : List Bool) (value : Value) (on : Bool) (pointer : Pointer) → IsOf longest path value
-    → IsData path → pointer_of value on ≡ Some pointer → ⊥
-whole_none longest path (values.Blob blob) on pointer kind whole is = none-some pointer is
-whole_none longest path (values.Node node) on pointer kind whole is = omega (arith, kind.0, whole)
 
 -- ---- what is reached
 

@@ -1,5 +1,5 @@
 -- When a stage mirrors what the verifiers hold of it.
-use Rattle.std.specs.Prelude.{ℕ, ◌≡◌, ◌^◌, ◌<◌, ◌⊎◌, List, [], ◌∷◌, IsTrue}
+use Rattle.std.specs.Prelude.{ℕ, ◌≡◌, ◌^◌, ◌<◌, ◌⊎◌, false, List, [], ◌∷◌, IsTrue}
 use Rattle.std.specs.List.{AllByRecursion}
 use Rattle.tree_keys.specs.Path.{key_bits}
 use Rattle.lamport_clocks.specs.Reading.{Reading}
@@ -17,7 +17,7 @@ use Rattle.protection_moves.specs.Stage.{Stage, hot_records, hot_paths}
 pub record StageMirrors (longest : ℕ) (digest : Digest) (stage : Stage) : Type 0 where
   pub shard : IsMirrored longest digest stage.shard (hot_paths stage.places)
   pub blobs : AllByRecursion (λ found. IsBlob longest found.value) (hot_records stage.places)
-  pub in_range : AllByRecursion (λ found. found.key < 2 ^ key_bits) (hot_records stage.places)
+  pub in_range : AllByRecursion (λ found. found.key < 2 ^ key_bits false) (hot_records stage.places)
 
 -- an element that a verifier takes in: it is of one of the verifiers, and of an open epoch
 abbrev pub IsTakable : Rules → Reading → Element → Type 0

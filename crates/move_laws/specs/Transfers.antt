@@ -1,7 +1,7 @@
 -- Which transfers can be done, and what one does to the verifier of its worker while the shard's frontier stands in its cache.
-use Rattle.std.specs.Prelude.{◌≡◌, ℕ, ◌^◌, ◌<◌, ◌≤◌, Bool, List, [], ◌∷◌, ◌++◌, IsSome, Ok}
+use Rattle.std.specs.Prelude.{◌≡◌, ℕ, ◌^◌, ◌<◌, ◌≤◌, Bool, false, List, [], ◌∷◌, ◌++◌, IsSome, Ok}
 use Rattle.std.specs.List.{AllByRecursion, IsAmong, flat_map}
-use Rattle.tree_keys.specs.Path.{IsBelow, key_bits}
+use Rattle.tree_keys.specs.Path.{IsBelow, key_bits, key_path}
 use Rattle.lamport_clocks.specs.declared.stamp.Stamp.{Stamp}
 use Rattle.lamport_clocks.specs.Reading.{Reading}
 use Rattle.record_text.specs.declared.element.Element.{Element}
@@ -12,7 +12,7 @@ use Rattle.verifier_commands.specs.declared.state.State.{State}
 use Rattle.verifier_commands.specs.Transition.{Rules}
 use Rattle.soundness.specs.Certified.{sealed_by}
 use Rattle.host_shard.specs.declared.link.Link.{Link}
-use Rattle.host_shard.specs.Content.{key_path, pending_hot}
+use Rattle.host_shard.specs.Content.{pending_hot}
 use Rattle.host_shard.specs.Mirrors.{IsKeyOf}
 use Rattle.host_laws.specs.Running.{Told, run, added_told, evicted_told, accesses_told}
 use Rattle.host_laws.specs.Carried.{carried}
@@ -24,11 +24,11 @@ use Rattle.move_laws.specs.Stages.{IsOne, IsTakable}
 
 -- A key of the shard can become hot: it has a record there and isn't hot, its touches are forgotten, and a place is vacant.
 pub record IsPromotable (stage : Stage) (key : ℕ) : Type 0 where
-  pub in_range : key < 2 ^ key_bits
-  pub own : IsKeyOf stage.shard (key_path key)
-  pub cold : IsAmong (hot_paths stage.places) (key_path key) → ⊥
-  pub there : IsSome (stage.shard.records (key_path key))
-  pub untouched : stage.shard.touches (key_path key) ≡ 0
+  pub in_range : key < 2 ^ key_bits false
+  pub own : IsKeyOf stage.shard (key_path false key)
+  pub cold : IsAmong (hot_paths stage.places) (key_path false key) → ⊥
+  pub there : IsSome (stage.shard.records (key_path false key))
+  pub untouched : stage.shard.touches (key_path false key) ≡ 0
   pub room : 0 < vacancies stage.places
 
 -- The transfer can be done: the record that comes back is hot, or the key can become hot.

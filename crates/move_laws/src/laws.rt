@@ -2,11 +2,12 @@
 //! laws.
 ghost use Rattle.std.specs.Prelude.{◌≡◌, ℕ, ◌<◌, List, Option, IfSome};
 ghost use Rattle.std.specs.List.{AllByRecursion};
+ghost use Rattle.tree_keys.specs.Path.{tree_of};
 ghost use Rattle.log_codec.specs.declared.command.Command.{Command};
 ghost use Rattle.merkle_records.specs.Merkle.{Digest, GivesDigests};
 ghost use Rattle.verifier_cache.specs.Cache.{Held};
 ghost use Rattle.verifier_commands.specs.Transition.{Rules};
-ghost use Rattle.soundness.specs.Typed.{IsPathTyped};
+ghost use Rattle.soundness.specs.Typed.{IsPathTypedIn};
 ghost use Rattle.protection_moves.specs.Stage.{Stage};
 ghost use Rattle.protection_moves.specs.Transfer.{clock_needed};
 ghost use Rattle.protection_moves.specs.Move.{IsMove};
@@ -30,11 +31,11 @@ pub fn a_move_mirrors()
         → IsMove digest worker threshold old commands new → StageMirrors longest digest new }
 {}
 
-/// The values that a move's commands bring in are of their paths' kinds.
+/// The paths that a move's commands name are of the frontier's tree, and the values that they bring in are of their paths' kinds.
 pub fn a_move_is_typed()
     ensures typed { (longest : ℕ) (digest : Digest) (worker : ℕ) (threshold : Option ℕ) (old new : Stage) (commands : List Command)
         → GivesDigests digest → IfSome threshold (λ least. 0 < least) → StageMirrors longest digest old
-        → IsMove digest worker threshold old commands new → AllByRecursion (IsPathTyped longest) commands }
+        → IsMove digest worker threshold old commands new → AllByRecursion (IsPathTypedIn (tree_of old.shard.frontier) longest) commands }
 {}
 
 /// The clock behind a move is the one that is counted from stamps.

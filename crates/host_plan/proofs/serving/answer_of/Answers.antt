@@ -1,13 +1,12 @@
-use Rattle.std.proofs.Common.{◌<◌, length, subst, arith}
-use Rattle.tree_keys.specs.BitsLaws.{length-bits_of}
+use Rattle.std.proofs.Common.{◌<◌, false, length, subst, arith}
+use Rattle.tree_keys.specs.Path.{key_path}
+use Rattle.tree_keys.proofs.TreeLaws.{data-no_node, key_path-data}
 use Rattle.record_text.specs.declared.value.Value.{Value}
 use Rattle.record_text.specs.Value.{IsOf}
 use Rattle.record_text.specs.Longest.{longest_blob}
-use Rattle.host_shard.specs.Content.{key_path}
 use Rattle.host_plan.proofs.serving.answer_of.Goals as goal
 
 pub unreachable-requires : goal.unreachable-requires
 unreachable-requires c =
-    let short : length (key_path c.args.request.now.key) < 64 = (subst (λ (value : Value). IsOf longest_blob (key_path c.args.request.now.key) value) c.in-Node.is c.requires.kind).0 in
-    let whole = length-bits_of 64 c.args.request.now.key in
-    omega arith
+    let kind = subst (λ (value : Value). IsOf longest_blob (key_path false c.args.request.now.key) value) c.in-Node.is c.requires.kind in
+    absurd (data-no_node (key_path false c.args.request.now.key) (key_path-data false c.args.request.now.key) kind.0)

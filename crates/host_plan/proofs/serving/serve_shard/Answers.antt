@@ -1,5 +1,6 @@
-use Rattle.std.proofs.Common.{ℕ, List, Option, subst, ap, sym, ◌∙◌}
+use Rattle.std.proofs.Common.{ℕ, false, List, Option, subst, ap, sym, ◌∙◌}
 use Rattle.std.specs.List.{AllByRecursion}
+use Rattle.tree_keys.specs.Path.{key_path}
 use Rattle.record_text.specs.declared.element.Element.{Element}
 use Rattle.record_text.specs.declared.value.Value.{Value}
 use Rattle.record_text.specs.declared.value.Value.TheVariants as values
@@ -8,7 +9,6 @@ use Rattle.record_text.specs.Longest.{longest_blob}
 use Rattle.log_codec.specs.Command.{IsPathCommand}
 use Rattle.host_shard.specs.declared.link.Link.{Link}
 use Rattle.host_shard.specs.Chain.{IsChain, last_value}
-use Rattle.host_shard.specs.Content.{key_path}
 use Rattle.host_shard.specs.Shard.{Shard, tree_of, touched}
 use Rattle.host_shard.specs.Shown.{shown}
 use Rattle.host_shard.proofs.ChainLaws.{frontier_kind, last_kind}
@@ -18,7 +18,7 @@ use Rattle.host_plan.proofs.serving.serve_shard.Goals as goal
 
 pub answer_of-answer-requires : goal.answer_of-answer-requires
 answer_of-answer-requires g c =
-    let key = key_path c.args.request.now.key in
+    let key = key_path false c.args.request.now.key in
     let last = last_kind longest_blob (tree_of (shown c.args.shard.now)) key c.args.shard.now.frontier c.args.shard.now.value c.in_ok-links.links.items c.requires.own.1.whole c.requires.own.0.kinds
     (frontier_kind longest_blob (shown c.args.shard.now) c.requires.own.0.kinds) c.in_ok-links.ensures.chain in
     record {
@@ -28,9 +28,9 @@ answer_of-answer-requires g c =
 
 pub touch-requires : goal.touch-requires
 touch-requires g c = record {
-  there = rehashed_there (g.D.Digests.functions c.args.d.now).digest (shown c.args.shard.now) (shown c.rehash.new.self) (key_path c.args.request.now.key)
+  there = rehashed_there (g.D.Digests.functions c.args.d.now).digest (shown c.args.shard.now) (shown c.rehash.new.self) (key_path false c.args.request.now.key)
       c.as_slice-3.result.now (values.Blob c.copy.result) c.requires.own.1.below
-      (subst (λ (links : List Link). IsChain (tree_of (shown c.args.shard.now)) (key_path c.args.request.now.key) c.args.shard.now.frontier c.args.shard.now.value links)
+      (subst (λ (links : List Link). IsChain (tree_of (shown c.args.shard.now)) (key_path false c.args.request.now.key) c.args.shard.now.frontier c.args.shard.now.value links)
       (sym c.as_slice-3.ensures.value) c.in_ok-links.ensures.chain)
       c.in_ok-rehash.ensures.rehashed;
 }
@@ -38,7 +38,7 @@ touch-requires g c = record {
 pub returns-clause-typed : goal.returns-clause-typed
 returns-clause-typed g c =
     let tree = tree_of (shown c.args.shard.now) in
-    let key = key_path c.args.request.now.key in
+    let key = key_path false c.args.request.now.key in
     let links : List Link = c.as_slice-2.result.now in
     let kind = subst (λ (element : Element). IsOf longest_blob element.path element.value) (sym c.pending-element.ensures.value)
     (frontier_kind longest_blob (shown c.args.shard.now) c.requires.own.0.kinds) in
@@ -52,7 +52,7 @@ pub returns-clause-owns : goal.returns-clause-owns
 returns-clause-owns g c key own =
     let digest = (g.D.Digests.functions c.args.d.now).digest in
     let shard : Shard = shown c.args.shard.now in
-    let mine = key_path c.args.request.now.key in
+    let mine = key_path false c.args.request.now.key in
     let links : List Link = c.as_slice-3.result.now in
     let chain = subst (λ (ls : List Link). IsChain (tree_of shard) mine shard.frontier shard.value ls) (sym c.as_slice-3.ensures.value) c.in_ok-links.ensures.chain in
     let end : IsOf longest_blob mine (values.Blob c.copy.result) =
@@ -62,7 +62,7 @@ returns-clause-owns g c key own =
           (λ text. (g.met.D.Digests.text_digest_shape c.args.d.now text).size) c.requires.own.0 c.requires.own.1 end chain c.in_ok-rehash.ensures.rehashed c.touch.ensures.touched,
       record {
         whole = own.1.whole;
-        below = served_owns digest shard (shown c.rehash.new.self) (shown c.touch.new.self) (key_path key) links (values.Blob c.copy.result) touches
+        below = served_owns digest shard (shown c.rehash.new.self) (shown c.touch.new.self) (key_path false key) links (values.Blob c.copy.result) touches
             c.in_ok-rehash.ensures.rehashed c.touch.ensures.touched own.1;
       },
     )

@@ -7,7 +7,7 @@ use Rattle.host_shard.specs.Chain.{IsChain}
 use Rattle.host_shard.specs.Shard.{tree_of}
 use Rattle.host_shard.specs.Shown.{shown}
 use Rattle.host_shard.proofs.ChainLaws.{frontier_kind}
-use Rattle.host_shard.proofs.ChainLemmas.{begun_with, begun_next, next_with, begun_end}
+use Rattle.host_shard.proofs.ChainLemmas.{begun_with, begun_next, next_with, begun_end, begun_few, length_of_key}
 use Rattle.host_shard.proofs.chains.chain.Goals as goal
 
 pub loop-end-init : goal.loop-end-init
@@ -21,7 +21,7 @@ loop-end-smaller c =
     let next = begun_next longest_blob (tree_of (shown c.args.shard.now)) c.of_key-end.result c.args.shard.now.frontier c.args.shard.now.value c.loop-end.links.items c.loop-end.at c.loop-end.ahead
     c.next_link-link.result c.of_key-end.ensures.whole c.requires.fits.kinds c.loop-end.invariant (λ same. true≢false (sym (c.is_same.ensures.same.1 same) ∙ c.loop-end-test.true)) c.next_link-link.ensures.value in
     let longer = next.1 in
-    let end : length c.next_link-link.result.path ≤ 64 = subst (λ (n : ℕ). length c.next_link-link.result.path ≤ n) c.of_key-end.ensures.whole (is_prefix-length c.next_link-link.result.path c.of_key-end.result next.0.toward) in
+    let end : length c.next_link-link.result.path ≤ 65 = subst (λ (n : ℕ). length c.next_link-link.result.path ≤ n) (length_of_key c.of_key-end.result c.args.key c.of_key-end.ensures.bits) (is_prefix-length c.next_link-link.result.path c.of_key-end.result next.0.toward) in
     omega arith
 
 pub loop-end-preserved : goal.loop-end-preserved
@@ -29,6 +29,12 @@ loop-end-preserved c =
     next_with longest_blob (tree_of (shown c.args.shard.now)) c.of_key-end.result c.args.shard.now.frontier c.args.shard.now.value c.loop-end.links.items c.push.new.self.items c.loop-end.at
     c.loop-end.ahead c.toward-ahead-in-loop-end.result c.next_link-link.result c.of_key-end.ensures.whole c.requires.fits.kinds c.loop-end.invariant
     (λ same. true≢false (sym (c.is_same.ensures.same.1 same) ∙ c.loop-end-test.true)) c.next_link-link.ensures.value c.in_ok-push.ensures.items c.toward-ahead-in-loop-end.ensures.value
+
+pub returns-clause-few : goal.returns-clause-few
+returns-clause-few c =
+    subst (λ (n : ℕ). n ≤ 64) (sym c.loop-end.links.ok.0)
+    (begun_few (tree_of (shown c.args.shard.now)) c.of_key-end.result c.args.shard.now.frontier c.args.shard.now.value c.loop-end.links.items c.loop-end.at c.loop-end.ahead c.args.key c.loop-end.invariant
+    (c.is_same.ensures.same.0 c.loop-end-test.false) c.of_key-end.ensures.bits c.requires.fits.below_root)
 
 pub returns-clause-chain : goal.returns-clause-chain
 returns-clause-chain c =

@@ -8,4 +8,4 @@ abbrev pub invariant-loop-end : goal.invariant-loop-end
 invariant-loop-end l = IsBegun (tree_of (shown l.shard)) l.end l.shard.frontier l.shard.value l.links.items l.at l.ahead
 
 abbrev pub decreases-loop-end : goal.decreases-loop-end
-decreases-loop-end l = 64 - length l.at
+decreases-loop-end l = 65 - length l.at

@@ -1,4 +1,4 @@
-use Rattle.std.proofs.Common.{rules, sym, ◌∙◌, ap}
+use Rattle.std.proofs.Common.{rules, ◌∙◌, ap}
 use Rattle.std.proofs.lemmas.Map.Made.{map_same_pairs}
 use Rattle.host_shard.specs.Records.{Listed, record_at, untouched}
 use Rattle.host_shard.proofs.ForgetLemmas.{forgotten, record_at-forgotten}

@@ -1,4 +1,4 @@
-use Rattle.std.proofs.Common.{◌≡◌, ℕ, Bool, List, ◌∙◌, ap}
+use Rattle.std.proofs.Common.{ℕ, Bool, List, ◌∙◌, ap}
 use Rattle.host_shard.specs.Tree.{Tree}
 use Rattle.host_shard.specs.Shown.{shown}
 use Rattle.host_shard.specs.Records.{Kept, record_at, untouched, values_in, touches_in}
