@@ -3,8 +3,8 @@ use Rattle.verifier_run.proofs.FollowLemmas.{HasRead}
 use Rattle.merkle_records.specs.Scheme.{scheme_of}
 use Rattle.verifier_run.proofs.run.follow.Given as goal
 
-abbrev pub invariant-loop-tracer : goal.invariant-loop-tracer
-invariant-loop-tracer g l = HasRead g.T.Kept.keeps (scheme_of (g.D.Digests.functions l.d) l.fn.tracer.machine.header) l.fn.tracer l.bytes l.taken l.tracer
+abbrev pub invariant-loop-window : goal.invariant-loop-window
+invariant-loop-window g l = HasRead g.T.Kept.keeps (scheme_of (g.D.Digests.functions l.d) l.fn.tracer.machine.header) l.fn.tracer l.bytes l.taken l.tracer
 
-abbrev pub decreases-loop-tracer : goal.decreases-loop-tracer
-decreases-loop-tracer g l = length l.bytes - l.taken
+abbrev pub decreases-loop-window : goal.decreases-loop-window
+decreases-loop-window g l = length l.bytes - l.taken
