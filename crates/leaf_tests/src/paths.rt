@@ -1,4 +1,4 @@
-//! Paths that were worked out by hand, as their bits are written. `-` is the path of no bits.
+//! Paths that were worked out by hand, as their bits are written. `-` is the root, to which no bits lead.
 use crate::rows::{field, same};
 use std::process::Abort;
 use tree_keys::Path;

@@ -5,8 +5,9 @@ use Rattle.std.proofs.lemmas.Option.{none-some, same_Some}
 use Rattle.std.proofs.Math.Path.{fun_ext}
 use Rattle.std.specs.Prelude.{slice_get}
 use Rattle.std.specs.List.{AllByRecursion}
-use Rattle.tree_keys.specs.Path.{side, same_path, IsData, IsPath}
+use Rattle.tree_keys.specs.Path.{key_path, side, same_path, IsData, IsPath}
 use Rattle.tree_keys.proofs.PathLaws.{same_path-true}
+use Rattle.tree_keys.proofs.TreeLaws.{data-path, node-path}
 use Rattle.lamport_clocks.specs.declared.stamp.Stamp.{Stamp}
 use Rattle.record_text.specs.declared.element.Element.{Element}
 use Rattle.record_text.specs.declared.value.Pointer.{Pointer}
@@ -24,7 +25,7 @@ use Rattle.host_shard.specs.declared.content.HotRecord.{HotRecord}
 use Rattle.host_shard.specs.Tree.{Tree}
 use Rattle.host_shard.specs.Chain.{IsChain, aimed, aimed_on, last_value, closed_value, closed_records}
 use Rattle.host_shard.specs.Shard.{Shard, tree_of, rehashed}
-use Rattle.host_shard.specs.Content.{key_path, pending_hot}
+use Rattle.host_shard.specs.Content.{pending_hot}
 use Rattle.host_shard.specs.Mirrors.{IsShard, IsKeyOf}
 use Rattle.host_shard.proofs.ShardLaws.{rehashed_is}
 use Rattle.host_shard.proofs.ChainLaws.{AreOf, frontier_kind, next_of}
@@ -38,10 +39,10 @@ use Rattle.protection_moves.proofs.SavingLemmas.{closed_there, closed_elsewhere,
 
 -- ---- commands
 
--- the path of a value isn't longer than a key's
+-- the path of a value isn't longer than the keys of its tree
 length-IsOf : (longest : ℕ) (path : List Bool) (value : Value) → IsOf longest path value → IsPath path
-length-IsOf longest path (values.Blob blob) kind = omega (arith, kind.0)
-length-IsOf longest path (values.Node node) kind = omega (arith, kind.0)
+length-IsOf longest path (values.Blob blob) kind = data-path path kind.0
+length-IsOf longest path (values.Node node) kind = node-path path kind.0
 
 -- all of two lists joined
 pub AllByRecursion-append : {X : Type 0} (P : X → Type 0) (xs ys : List X) → AllByRecursion P xs → AllByRecursion P ys → AllByRecursion P (xs ++ ys)
@@ -129,8 +130,8 @@ lent_record digest tree at value (first ∷ above) link last k apart =
 
 -- But for the record that is lent the shard is what it is without it.
 pub lent_shard : (digest : Digest) (old new : Shard) (key : ℕ) (links : List Link)
-    → IsChain (tree_of old) (key_path key) old.frontier old.value links → IsLent digest old links new
-    → shard_but new (key_path key) ≡ shard_without digest old key links
+    → IsChain (tree_of old) (key_path false key) old.frontier old.value links → IsLent digest old links new
+    → shard_but new (key_path false key) ≡ shard_without digest old key links
 lent_shard digest old new key links chain lent =
     ap (λ (s : Shard). shard_but s path) lent.rehashed
     ∙ ap (λ (v : Value). record old { value = v; records = without_record (closed_records digest false old.records lent.above pv) path }) (sym (lent_value digest old.frontier old.value lent.above lent.link last))
@@ -141,7 +142,7 @@ lent_shard digest old new key links chain lent =
     }) (sym lent.parts)
   where
     path : List Bool
-    path = key_path key
+    path = key_path false key
 
     whole : List Link
     whole = lent.above ++ lent.link ∷ []
@@ -240,20 +241,20 @@ lent_is longest digest old new key links digests fits whole chain lent =
         (λ value is. fits.kinds path value (ap (λ (b : Bool). if b then Some old.value else old.records path) apart ∙ is)) found other
 
 -- a hot record has a place in its shard
-pub back_is : (longest : ℕ) (shard : Shard) (found : HotRecord) → IsShard longest shard → IsKeyOf shard (key_path found.key)
-    → IsOf longest (key_path found.key) (values.Blob found.value) → IsShard longest (with_back shard found)
+pub back_is : (longest : ℕ) (shard : Shard) (found : HotRecord) → IsShard longest shard → IsKeyOf shard (key_path false found.key)
+    → IsOf longest (key_path false found.key) (values.Blob found.value) → IsShard longest (with_back shard found)
 back_is longest shard found fits own kind = record {
   below_root = fits.below_root;
   no_data = fits.no_data;
-  kinds = λ path value is. go path value (same_path path shard.frontier) refl (same_path path (key_path found.key)) refl is;
+  kinds = λ path value is. go path value (same_path path shard.frontier) refl (same_path path (key_path false found.key)) refl is;
 }
   where
-    go : (path : List Bool) (value : Value) (a : Bool) → same_path path shard.frontier ≡ a → (b : Bool) → same_path path (key_path found.key) ≡ b
+    go : (path : List Bool) (value : Value) (a : Bool) → same_path path shard.frontier ≡ a → (b : Bool) → same_path path (key_path false found.key) ≡ b
         → (if a then Some shard.value else if b then Some (values.Blob found.value) else shard.records path) ≡ Some value → IsOf longest path value
     go path value true at b here is = fits.kinds path value (ap (λ (b' : Bool). if b' then Some shard.value else shard.records path) at ∙ is)
     go path value false at true here is =
         subst (λ (v : Value). IsOf longest path v) (same_Some (values.Blob found.value) value is)
-        (subst (λ (p : List Bool). IsOf longest p (values.Blob found.value)) (sym (same_path-true path (key_path found.key) here)) kind)
+        (subst (λ (p : List Bool). IsOf longest p (values.Blob found.value)) (sym (same_path-true path (key_path false found.key) here)) kind)
     go path value false at false here is = fits.kinds path value (ap (λ (b' : Bool). if b' then Some shard.value else shard.records path) at ∙ is)
 
 -- the shard without a record
@@ -278,13 +279,13 @@ but_is longest shard path fits = record {
 
 -- what the code works out of it
 pub returning_of : (digest : Digest) (found : HotRecord) (old now new : Shard) (along : List Link) (before after : List Command) (element : Element) (blob : Option (List ℕ))
-    → now ≡ with_back old found → IsChain (tree_of now) (key_path found.key) now.frontier now.value along
+    → now ≡ with_back old found → IsChain (tree_of now) (key_path false found.key) now.frontier now.value along
     → after ≡ before ++ visit_but_last now.frontier along (come_back element) → element ≡ pending_hot found
     → new ≡ rehashed digest now along (values.Blob blob) → blob ≡ found.value
     → IsReturning digest found old before after new
 returning_of digest found old now new along before after element blob back way logged pending rehashes same = record {
   links = along;
-  way = subst (λ (s : Shard). IsChain (tree_of s) (key_path found.key) s.frontier s.value along) back way;
+  way = subst (λ (s : Shard). IsChain (tree_of s) (key_path false found.key) s.frontier s.value along) back way;
   commands = logged
       ∙ ap (λ (e : Element). before ++ visit_but_last now.frontier along (come_back e)) pending
       ∙ ap (λ (s : Shard). before ++ visit_but_last s.frontier along (come_back (pending_hot found))) back;
@@ -294,14 +295,14 @@ returning_of digest found old now new along before after element blob back way l
 }
 
 pub returned_is : (digest : Digest) (found : HotRecord) (now new : Shard) (along : List Link) (element : Element) (blob : Option (List ℕ))
-    → GivesDigests digest → IsShard longest_blob now → IsKeyOf now (key_path found.key)
-    → IsChain (tree_of now) (key_path found.key) now.frontier now.value along
+    → GivesDigests digest → IsShard longest_blob now → IsKeyOf now (key_path false found.key)
+    → IsChain (tree_of now) (key_path false found.key) now.frontier now.value along
     → element ≡ pending_hot found → IsOf longest_blob element.path element.value
     → new ≡ rehashed digest now along (values.Blob blob) → blob ≡ found.value → IsShard longest_blob new
 returned_is digest found now new along element blob digests fits own way pending kind rehashes same =
     subst (IsShard longest_blob) (sym rehashes)
-    (rehashed_is longest_blob digest now (key_path found.key) along (values.Blob blob) digests fits own
-    (subst (λ (b : Option (List ℕ)). IsOf longest_blob (key_path found.key) (values.Blob b)) (sym same)
+    (rehashed_is longest_blob digest now (key_path false found.key) along (values.Blob blob) digests fits own
+    (subst (λ (b : Option (List ℕ)). IsOf longest_blob (key_path false found.key) (values.Blob b)) (sym same)
     (subst (λ (e : Element). IsOf longest_blob e.path e.value) pending kind))
     way)
 

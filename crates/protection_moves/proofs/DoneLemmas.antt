@@ -4,10 +4,10 @@ use Rattle.std.proofs.lemmas.Bool.{false≢true}
 use Rattle.std.proofs.Math.Path.{fun_ext}
 use Rattle.std.specs.List.{AllByRecursion}
 use Rattle.tree_keys.specs.BitsLaws.{length-bits_of}
-use Rattle.tree_keys.specs.Path.{side, same_path, is_prefix, IsBelow}
-use Rattle.tree_keys.proofs.BitsLaws.{bits_of-injective}
+use Rattle.tree_keys.specs.Path.{key_path, side, same_path, is_prefix, IsBelow}
 use Rattle.tree_keys.proofs.PathLaws.{same_path-self, same_path-true, same_path-apart}
 use Rattle.tree_keys.proofs.SideLaws.{is_prefix-self, prefix_cases}
+use Rattle.tree_keys.proofs.TreeLaws.{key_path-injective}
 use Rattle.lamport_clocks.specs.declared.stamp.Stamp.{Stamp}
 use Rattle.lamport_clocks.specs.Clock.{is_open}
 use Rattle.lamport_clocks.specs.Reading.{Reading}
@@ -21,7 +21,7 @@ use Rattle.merkle_records.proofs.KindLaws.{length-side}
 use Rattle.host_shard.specs.declared.content.HotRecord.{HotRecord}
 use Rattle.host_shard.specs.declared.link.Link.{Link}
 use Rattle.host_shard.specs.Chain.{IsChain, next_link, known_link, fork_link, last_value, closed_value, closed_records}
-use Rattle.host_shard.specs.Content.{Content, key_path, vacant}
+use Rattle.host_shard.specs.Content.{Content, vacant}
 use Rattle.host_shard.specs.Mirrors.{IsKeyOf}
 use Rattle.host_shard.specs.Shard.{Shard, tree_of, rehashed}
 use Rattle.host_shard.specs.Tree.{Tree, pointer_of}
@@ -144,7 +144,7 @@ module _ (digest : Digest) (worker : ℕ) where
 
   -- a key that becomes hot, and another record that isn't there
   without_but : (shard : Shard) (key : ℕ) (path : List Bool) (links : List Link)
-      → same_path (key_path key) path ≡ false → AllByRecursion (λ (link : Link). same_path path link.path ≡ false) links
+      → same_path (key_path false key) path ≡ false → AllByRecursion (λ (link : Link). same_path path link.path ≡ false) links
       → shard_without digest (shard_but shard path) key links ≡ shard_but (shard_without digest shard key links) path
   without_but shard key path links apart elsewhere =
       ap (λ (t : Tree). record shard { value = closed_value digest true shard.frontier shard.value links last; records = t }) (fun_ext each)
@@ -168,14 +168,14 @@ module _ (digest : Digest) (worker : ℕ) where
       at k false false there =
           closed_else (without_record shard.records path) shard.records links last k (ap (λ (b : Bool). if b then None else shard.records k) there)
 
-      each : (k : List Bool) → without_record (closed_records digest true (without_record shard.records path) links last) (key_path key) k
-          ≡ without_record (without_record (closed_records digest true shard.records links last) (key_path key)) path k
-      each k = at k (same_path k (key_path key)) (same_path k path) refl
+      each : (k : List Bool) → without_record (closed_records digest true (without_record shard.records path) links last) (key_path false key) k
+          ≡ without_record (without_record (closed_records digest true shard.records links last) (key_path false key)) path k
+      each k = at k (same_path k (key_path false key)) (same_path k path) refl
 
   -- a transfer that makes another key hot than that of this path
   abbrev pub IsElse : List Bool → Transfer → Type 0
   IsElse path (demotes found) = ⊥
-  IsElse path (promotes key) = (same_path (key_path key) path ≡ false) × (length path ≡ length (key_path key))
+  IsElse path (promotes key) = (same_path (key_path false key) path ≡ false) × (length path ≡ length (key_path false key))
 
   above_same : (shard : Shard) (path key : List Bool) → ((p : List Bool) → is_prefix p key ≡ true → same_path p path ≡ false)
       → (p : List Bool) → is_prefix p key ≡ true → tree_of shard p ≡ tree_of (shard_but shard path) p
@@ -185,8 +185,8 @@ module _ (digest : Digest) (worker : ℕ) where
   links_but : (shard : Shard) (path : List Bool) (transfer : Transfer) (links : List Link) → IsElse path transfer → AreLinks shard transfer links → AreLinks (shard_but shard path) transfer links
   links_but shard path (demotes found) links is way = absurd is
   links_but shard path (promotes key) links is way =
-      chain_same (tree_of shard) (tree_of (shard_but shard path)) (key_path key) shard.frontier shard.value links
-      (above_same shard path (key_path key) (apart_fronts path (key_path key) is.1 is.0)) way
+      chain_same (tree_of shard) (tree_of (shard_but shard path)) (key_path false key) shard.frontier shard.value links
+      (above_same shard path (key_path false key) (apart_fronts path (key_path false key) is.1 is.0)) way
 
   done_but : (stage : Stage) (path : List Bool) (transfer : Transfer) (links : List Link) → IsElse path transfer → AreLinks stage.shard transfer links
       → done_by digest worker (stage_but stage path) transfer links ≡ stage_but (done_by digest worker stage transfer links) path
@@ -194,7 +194,7 @@ module _ (digest : Digest) (worker : ℕ) where
   done_but stage path (promotes key) links is way =
       ap (λ (s : Shard). let now : Stage = record { shard = s; places = placed (promoted_record worker stage key links) stage.places; clock = giving stage.clock } in now)
       (without_but stage.shard key path links is.0
-      (links_apart (tree_of stage.shard) path (key_path key) stage.shard.frontier stage.shard.value links (apart_fronts path (key_path key) is.1 is.0) way))
+      (links_apart (tree_of stage.shard) path (key_path false key) stage.shard.frontier stage.shard.value links (apart_fronts path (key_path false key) is.1 is.0) way))
 
   commands_but : (stage : Stage) (path : List Bool) (transfer : Transfer) (links : List Link) → IsElse path transfer
       → commands_by (stage_but stage path) transfer links ≡ commands_by stage transfer links
@@ -247,9 +247,9 @@ module _ (digest : Digest) (worker : ℕ) where
   pub transfers_hot : (shard mid_shard : Shard) (key : ℕ) (hot : HotRecord) (clock next : Reading) (stamp : Stamp) (transfers : List Transfer) (before mid after : List Command) (last : Command) (new : Stage)
       (touches : List Bool → ℕ) (places : List Content)
       → IsLending digest worker stamp key shard before hot mid mid_shard → next ≡ giving clock → stamp ≡ next.at
-      → AllByRecursion (IsElse (key_path key)) transfers
+      → AllByRecursion (IsElse (key_path false key)) transfers
       → AreDone digest worker (stage_with mid_shard touches (placed hot places) next) transfers mid last after new
-      → AreDone digest worker (stage_with shard touches places clock) (promotes key ∷ transfers) before last after (stage_but new (key_path key))
+      → AreDone digest worker (stage_with shard touches places clock) (promotes key ∷ transfers) before last after (stage_but new (key_path false key))
   transfers_hot shard mid_shard key hot clock next stamp transfers before mid after last new touches places lending later at all rest =
       transfers_cons (stage_with shard touches places clock) (promotes key) links transfers before mid after last (stage_but new path) lending.way
       (lending.commands ∙ ap (λ (t : Stamp). before ++ visit_but_last shard.frontier links (become_hot t)) moment)
@@ -257,7 +257,7 @@ module _ (digest : Digest) (worker : ℕ) where
       (transfers_but (stage_with mid_shard touches (placed hot places) next) new path transfers mid after last all rest))
     where
       path : List Bool
-      path = key_path key
+      path = key_path false key
 
       links : List Link
       links = lending.links
@@ -275,12 +275,12 @@ module _ (digest : Digest) (worker : ℕ) where
 
 -- keys above another are others
 pub else_all : (digest : Digest) (worker key : ℕ) (keys : List ℕ) → key < 2 ^ 64 → AllByRecursion (λ other. other < 2 ^ 64) keys → AllByRecursion (λ other. key < other) keys
-    → AllByRecursion (IsElse digest worker (key_path key)) (map (λ (k : ℕ). promotes k) keys)
+    → AllByRecursion (IsElse digest worker (key_path false key)) (map (λ (k : ℕ). promotes k) keys)
 else_all digest worker key [] fits all above = tt
 else_all digest worker key (other ∷ keys) fits all above = (
   (
-    same_path-apart (key_path other) (key_path key) (λ same. absurd (omega (arith, above.0, bits_of-injective 64 other key all.0 fits same))),
-    length-bits_of 64 key ∙ sym (length-bits_of 64 other),
+    same_path-apart (key_path false other) (key_path false key) (λ same. absurd (omega (arith, above.0, key_path-injective false other key all.0 fits same))),
+    ap (λ (n : ℕ). suc n) (length-bits_of 64 key ∙ sym (length-bits_of 64 other)),
   ),
   else_all digest worker key keys fits all.1 above.1,
 )
@@ -291,19 +291,19 @@ all_fit [] fits = tt
 all_fit (key ∷ keys) fits = (omega (arith, fits 0), all_fit keys (λ i. fits (suc i)))
 
 -- what is asked of the keys behind the first
-pub rest_own : (old new : Shard) (keys : List ℕ) → new.frontier ≡ old.frontier → AllByRecursion (λ key. IsKeyOf old (key_path key)) keys
-    → AllByRecursion (λ key. IsKeyOf new (key_path key)) keys
+pub rest_own : (old new : Shard) (keys : List ℕ) → new.frontier ≡ old.frontier → AllByRecursion (λ key. IsKeyOf old (key_path false key)) keys
+    → AllByRecursion (λ key. IsKeyOf new (key_path false key)) keys
 rest_own old new [] same own = tt
 rest_own old new (key ∷ keys) same own = (
-  record { whole = own.0.whole; below = subst (λ (f : List Bool). IsBelow f (key_path key)) (sym same) own.0.below },
+  record { whole = own.0.whole; below = subst (λ (f : List Bool). IsBelow f (key_path false key)) (sym same) own.0.below },
   rest_own old new keys same own.1,
 )
 
-pub rest_own_back : (old new : Shard) (records : List HotRecord) → new.frontier ≡ old.frontier → AllByRecursion (λ found. IsKeyOf old (key_path found.key)) records
-    → AllByRecursion (λ found. IsKeyOf new (key_path found.key)) records
+pub rest_own_back : (old new : Shard) (records : List HotRecord) → new.frontier ≡ old.frontier → AllByRecursion (λ found. IsKeyOf old (key_path false found.key)) records
+    → AllByRecursion (λ found. IsKeyOf new (key_path false found.key)) records
 rest_own_back old new [] same own = tt
 rest_own_back old new (found ∷ records) same own = (
-  record { whole = own.0.whole; below = subst (λ (f : List Bool). IsBelow f (key_path found.key)) (sym same) own.0.below },
+  record { whole = own.0.whole; below = subst (λ (f : List Bool). IsBelow f (key_path false found.key)) (sym same) own.0.below },
   rest_own_back old new records same own.1,
 )
 
@@ -322,7 +322,7 @@ pub transfers_promoted : (digest : Digest) (worker : ℕ) (shard mid_shard rest_
     → ((touches : List Bool → ℕ) (places : List Content) → AreDone digest worker (stage_with mid_shard touches places next) (map (λ (k : ℕ). promotes k) rest) mid
     (EvictB mid_shard.frontier (giving (clock_by_each next (map (λ (k : ℕ). promotes k) rest))).at) after
     (stage_with rest_shard touches (placed_each others places) (clock_by_each next (map (λ (k : ℕ). promotes k) rest))))
-    → all ≡ hot ∷ others → ((touches : List Bool → ℕ) → record final { touches = touches } ≡ record (shard_but rest_shard (key_path key)) { touches = touches })
+    → all ≡ hot ∷ others → ((touches : List Bool → ℕ) → record final { touches = touches } ≡ record (shard_but rest_shard (key_path false key)) { touches = touches })
     → (touches : List Bool → ℕ) (places : List Content) → AreDone digest worker (stage_with shard touches places clock) (map (λ (k : ℕ). promotes k) keys) before
     (EvictB shard.frontier (giving (clock_by_each clock (map (λ (k : ℕ). promotes k) keys))).at) after
     (stage_with final touches (placed_each all places) (clock_by_each clock (map (λ (k : ℕ). promotes k) keys)))
@@ -332,7 +332,7 @@ transfers_promoted digest worker shard mid_shard rest_shard final key rest keys 
     (stage_with final touches (placed_each all places) (clock_by_each clock (map (λ (k : ℕ). promotes k) ks)))) (sym is)
     (subst (λ (new : Stage). AreDone digest worker (stage_with shard touches places clock) (promotes key ∷ transfers) before (EvictB shard.frontier (giving (clock_by_each (giving clock) transfers)).at) after new) new
     (subst (λ (last : Command). AreDone digest worker (stage_with shard touches places clock) (promotes key ∷ transfers) before last after
-    (stage_but digest worker (stage_with rest_shard touches (placed_each others (placed hot places)) (clock_by_each next transfers)) (key_path key))) last
+    (stage_but digest worker (stage_with rest_shard touches (placed_each others (placed hot places)) (clock_by_each next transfers)) (key_path false key))) last
     (transfers_hot digest worker shard mid_shard key hot clock next stamp transfers before mid after _ _ touches places lending later at
     (else_all digest worker key rest fits.0 fits.1 above.0) (run touches (placed hot places)))))
   where
@@ -348,7 +348,7 @@ transfers_promoted digest worker shard mid_shard rest_shard final key rest keys 
     last : EvictB mid_shard.frontier (giving (clock_by_each next transfers)).at ≡ EvictB shard.frontier (giving (clock_by_each (giving clock) transfers)).at
     last = ap (λ (f : List Bool). EvictB f (giving (clock_by_each next transfers)).at) same ∙ ap (λ (c : Reading). EvictB shard.frontier (giving (clock_by_each c transfers)).at) later
 
-    new : stage_but digest worker (stage_with rest_shard touches (placed_each others (placed hot places)) (clock_by_each next transfers)) (key_path key)
+    new : stage_but digest worker (stage_with rest_shard touches (placed_each others (placed hot places)) (clock_by_each next transfers)) (key_path false key)
         ≡ stage_with final touches (placed_each all places) (clock_by_each (giving clock) transfers)
     new = ap (λ (s : Shard). let now : Stage = record { shard = s; places = placed_each (hot ∷ others) places; clock = clock_by_each next transfers } in now) (sym (left touches))
         ∙ ap (λ (hs : List HotRecord). stage_with final touches (placed_each hs places) (clock_by_each next transfers)) (sym hots)

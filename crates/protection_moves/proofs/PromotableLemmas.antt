@@ -1,32 +1,26 @@
 -- Which keys are promotable, read off records that stand in the order of their paths.
 use Rattle.std.proofs.Common.{◌≡◌, ◌≢◌, ◌⊎◌, ℕ, zero, suc, ◌+◌, ◌-◌, ◌<◌, ◌≤◌, ◌^◌, Bool, true, false, List, [], ◌∷◌, ◌++◌, length, take, nat_lt, Option, Some, None, IsSome, IfNone, IfSome, is_none, if◌then◌else◌, refl, sym, ◌∙◌, ap, subst, inl, inr, arith, append_assoc, append-nil, length-append}
 use Rattle.std.proofs.lemmas.Bool.{false≢true, true≢false, le-ltb, ltb-false, eqb-true, eq-eqb}
-use Rattle.std.specs.Prelude.{◌==◌, ◌||◌, slice_index_or, AllPairs}
+use Rattle.std.specs.Prelude.{◌==◌, ◌&&◌, ◌||◌, slice_index_or, AllPairs}
 use Rattle.std.specs.List.{AllByRecursion, IsAmong}
 use Rattle.std.specs.Map.{lookup}
 use Rattle.std.specs.Option.{option_map_or}
 use Rattle.tree_keys.specs.Bits.{bits_of, number_of}
-use Rattle.tree_keys.specs.BitsLaws.{length-bits_of, number_back}
-use Rattle.tree_keys.specs.Path.{side, same_path}
+use Rattle.tree_keys.specs.BitsLaws.{length-bits_of, number_back, number_behind}
+use Rattle.tree_keys.specs.Path.{tree_of, IsNodePath, key_path, key_of, same_bit, side, same_path}
 use Rattle.tree_keys.proofs.BitsLaws.{bits_of-number_of, number_of-lt}
 use Rattle.tree_keys.proofs.PathLaws.{same_path-self, same_path-true, same_path-apart}
+use Rattle.tree_keys.proofs.TreeLaws.{node-is, key_path-data}
 use Rattle.host_shard.specs.declared.record.Record.{Record}
-use Rattle.host_shard.specs.Content.{Content, cold, hot, vacant, key_path}
+use Rattle.host_shard.specs.Content.{Content, cold, hot, vacant}
 use Rattle.host_shard.specs.Shard.{Shard}
 use Rattle.host_shard.specs.Mirrors.{IsKeyOf}
-use Rattle.host_shard.specs.Records.{Listed, IsBefore, AreInOrder, record_at, touches_in}
+use Rattle.host_shard.specs.Records.{Listed, numbers_of, IsBefore, AreInOrder, record_at, touches_in}
 use Rattle.protection_moves.specs.Stage.{Stage, hot_paths}
 use Rattle.protection_moves.specs.Transfer.{ArePromotable}
-use Rattle.protection_moves.specs.Promotable.{is_hot, promotable_key, listed_key, promotable_among, AreRising}
+use Rattle.protection_moves.specs.Promotable.{is_hot, key_in, promotable_key, listed_key, promotable_among, AreRising}
 
 -- ---- lists and tests
-
-other_number : (n m : ℕ) → (n ≡ m → ⊥) → (n == m) ≡ false
-other_number n m apart = go (n == m) refl
-  where
-    go : (b : Bool) → (n == m) ≡ b → b ≡ false
-    go true same = absurd (apart (eqb-true n m same))
-    go false other = refl
 
 none≢some : {X : Type 0} (x : X) → None ≡ Some x → ⊥
 none≢some {X} x is = false≢true (ap there is)
@@ -86,7 +80,7 @@ hot_among path (cold shard ∷ places) is among = hot_among path places is among
 hot_among path (vacant ∷ places) is among = hot_among path places is among
 hot_among path (hot found ∷ places) is (zero, among) =
     true≢false (sym (ap (λ (b : Bool). b || is_hot path places) (ap (λ (p : List Bool). same_path p path) (sym among.1) ∙ same_path-self path)) ∙ is)
-hot_among path (hot found ∷ places) is (suc i, among) = hot_among path places (second (same_path (key_path found.key) path) (is_hot path places) is) (i, (omega (arith, among.0), among.1))
+hot_among path (hot found ∷ places) is (suc i, among) = hot_among path places (second (same_path (key_path false found.key) path) (is_hot path places) is) (i, (omega (arith, among.0), among.1))
   where
     second : (a b : Bool) → (a || b) ≡ false → b ≡ false
     second true b h = absurd (true≢false h)
@@ -97,10 +91,10 @@ not_hot path [] apart = refl
 not_hot path (cold shard ∷ places) apart = not_hot path places apart
 not_hot path (vacant ∷ places) apart = not_hot path places apart
 not_hot path (hot found ∷ places) apart =
-    go (same_path (key_path found.key) path) refl (not_hot path places (λ among. apart (suc among.0, (omega (arith, among.1.0), among.1.1))))
+    go (same_path (key_path false found.key) path) refl (not_hot path places (λ among. apart (suc among.0, (omega (arith, among.1.0), among.1.1))))
   where
-    go : (b : Bool) → same_path (key_path found.key) path ≡ b → is_hot path places ≡ false → (b || is_hot path places) ≡ false
-    go true same rest = absurd (apart (0, (omega arith, sym (same_path-true (key_path found.key) path same))))
+    go : (b : Bool) → same_path (key_path false found.key) path ≡ b → is_hot path places ≡ false → (b || is_hot path places) ≡ false
+    go true same rest = absurd (apart (0, (omega arith, sym (same_path-true (key_path false found.key) path same))))
     go false other rest = rest
 
 -- ---- one record
@@ -110,26 +104,54 @@ pub record IsPromotableAt (least : ℕ) (frontier : List Bool) (places : List Co
   pub often : least ≤ kept.touches
   pub below : IsSome (side frontier path)
   pub cold' : is_hot path places ≡ false
-  pub whole : length path ≡ 64
-  pub number : number_of path ≡ key
+  pub own : path ≡ key_path false key
+  pub fits : key < 2 ^ 64
+
+-- the key of a path, where it has one
+key_in_path : (path : List Bool) (key : ℕ) → key_in false path ≡ Some key → (path ≡ key_path false key) × (key < 2 ^ 64)
+key_in_path [] key is = absurd (none≢some key is)
+key_in_path (true ∷ bits) key is = absurd (none≢some key is)
+key_in_path (false ∷ bits) key is = go (length bits == 64) refl is
+  where
+    go : (whole : Bool) → (length bits == 64) ≡ whole → (if whole then Some (number_of bits) else None) ≡ Some key → (false ∷ bits ≡ key_path false key) × (key < 2 ^ 64)
+    go false is found = absurd (none≢some key found)
+    go true is found =
+        let long : length bits ≡ 64 = eqb-true (length bits) 64 is in
+        let number : number_of bits ≡ key = some_of (number_of bits) key found in (
+          ap (λ (more : List Bool). false ∷ more) (sym (ap (bits_of 64) (sym number) ∙ ap (λ (n : ℕ). bits_of n (number_of bits)) (sym long) ∙ bits_of-number_of bits)),
+          subst (λ (n : ℕ). n < 2 ^ 64) number (subst (λ (n : ℕ). number_of bits < 2 ^ n) long (number_of-lt bits)),
+        )
+
+key_in_its_path : (key : ℕ) → key < 2 ^ 64 → key_in false (key_path false key) ≡ Some key
+key_in_its_path key fits =
+    ap (λ (whole : Bool). if whole then Some (number_of (bits_of 64 key)) else None) (eq-eqb (length (bits_of 64 key)) 64 (length-bits_of 64 key))
+    ∙ ap Some (number_back 64 key fits)
+
+key_in_node : (path : List Bool) → IsNodePath path → key_in false path ≡ None
+key_in_node path short =
+    ap (λ (whole : Bool). if same_bit (tree_of path) false && whole then Some (key_of path) else None) (node-is path short)
+    ∙ never (same_bit (tree_of path) false)
+  where
+    never : (b : Bool) → (if b && false then Some (key_of path) else None) ≡ None
+    never true = refl
+    never false = refl
 
 module _ (least : ℕ) (frontier : List Bool) (places : List Content) where
-  abbrev pub chosen : Bool → Bool → Bool → ℕ → Option ℕ
-  chosen few out whole number = if few then None else if out then None else if whole then Some number else None
+  abbrev pub chosen : Bool → Bool → Option ℕ → Option ℕ
+  chosen few out key = if few then None else if out then None else key
 
-  opened : (path : List Bool) (kept : Record) (key : ℕ) (few none is whole : Bool)
-      → nat_lt kept.touches least ≡ few → is_none (side frontier path) ≡ none → is_hot path places ≡ is → (length path == 64) ≡ whole
-      → chosen few (none || is) whole (number_of path) ≡ Some key → IsPromotableAt least frontier places path kept key
-  opened path kept key true none is whole a b c d e = absurd (none≢some key e)
-  opened path kept key false true is whole a b c d e = absurd (none≢some key e)
-  opened path kept key false false true whole a b c d e = absurd (none≢some key e)
-  opened path kept key false false false false a b c d e = absurd (none≢some key e)
-  opened path kept key false false false true a b c d e = record {
+  opened : (path : List Bool) (kept : Record) (key : ℕ) (few none is : Bool)
+      → nat_lt kept.touches least ≡ few → is_none (side frontier path) ≡ none → is_hot path places ≡ is
+      → chosen few (none || is) (key_in false path) ≡ Some key → IsPromotableAt least frontier places path kept key
+  opened path kept key true none is a b c e = absurd (none≢some key e)
+  opened path kept key false true is a b c e = absurd (none≢some key e)
+  opened path kept key false false true a b c e = absurd (none≢some key e)
+  opened path kept key false false false a b c e = record {
     often = ltb-false kept.touches least a;
     below = some (side frontier path) b;
     cold' = c;
-    whole = eqb-true (length path) 64 d;
-    number = some_of (number_of path) key e;
+    own = (key_in_path path key e).0;
+    fits = (key_in_path path key e).1;
   }
     where
       some : (o : Option Bool) → is_none o ≡ false → IsSome o
@@ -137,59 +159,54 @@ module _ (least : ℕ) (frontier : List Bool) (places : List Content) where
       some (Some x) h = refl
 
   promotable_at : (path : List Bool) (kept : Record) (key : ℕ) → promotable_key least frontier places path kept ≡ Some key → IsPromotableAt least frontier places path kept key
-  promotable_at path kept key is = opened path kept key (nat_lt kept.touches least) (is_none (side frontier path)) (is_hot path places) (length path == 64) refl refl refl refl is
+  promotable_at path kept key is = opened path kept key (nat_lt kept.touches least) (is_none (side frontier path)) (is_hot path places) refl refl refl is
 
   is_promotable_at : (path : List Bool) (kept : Record) (key : ℕ) → IsPromotableAt least frontier places path kept key → promotable_key least frontier places path kept ≡ Some key
   is_promotable_at path kept key promotable =
-      ap (λ (b : Bool). chosen b (is_none (side frontier path) || is_hot path places) (length path == 64) (number_of path)) (le-ltb kept.touches least promotable.often)
-      ∙ ap (λ (b : Bool). chosen false (b || is_hot path places) (length path == 64) (number_of path)) (there (side frontier path) promotable.below)
-      ∙ ap (λ (b : Bool). chosen false b (length path == 64) (number_of path)) promotable.cold'
-      ∙ ap (λ (b : Bool). chosen false false b (number_of path)) (eq-eqb (length path) 64 promotable.whole)
-      ∙ ap Some promotable.number
+      ap (λ (b : Bool). chosen b (is_none (side frontier path) || is_hot path places) (key_in false path)) (le-ltb kept.touches least promotable.often)
+      ∙ ap (λ (b : Bool). chosen false (b || is_hot path places) (key_in false path)) (there (side frontier path) promotable.below)
+      ∙ ap (λ (b : Bool). chosen false b (key_in false path)) promotable.cold'
+      ∙ ap (key_in false) promotable.own
+      ∙ key_in_its_path key promotable.fits
     where
       there : (o : Option Bool) → IsSome o → is_none o ≡ false
       there None h = absurd (false≢true h)
       there (Some x) h = refl
 
   -- the path of a promotable key
-  own_path : (path : List Bool) (kept : Record) (key : ℕ) → IsPromotableAt least frontier places path kept key → bits_of 64 key ≡ path
-  own_path path kept key promotable =
-      ap (bits_of 64) (sym promotable.number) ∙ ap (λ (n : ℕ). bits_of n (number_of path)) (sym promotable.whole) ∙ bits_of-number_of path
-
-  own_fits : (path : List Bool) (kept : Record) (key : ℕ) → IsPromotableAt least frontier places path kept key → key < 2 ^ 64
-  own_fits path kept key promotable =
-      subst (λ (n : ℕ). n < 2 ^ 64) promotable.number (subst (λ (n : ℕ). number_of path < 2 ^ n) promotable.whole (number_of-lt path))
+  own_path : (path : List Bool) (kept : Record) (key : ℕ) → IsPromotableAt least frontier places path kept key → key_path false key ≡ path
+  own_path path kept key promotable = sym promotable.own
 
   -- ---- keys among the records
 
   -- what is known of a promotable key of these records
   pub record IsFound (listed : Listed) (key : ℕ) : Type 0 where
-    pub often : least ≤ touches_in (record_at listed) (bits_of 64 key)
-    pub below : IsSome (side frontier (bits_of 64 key))
-    pub cold' : is_hot (bits_of 64 key) places ≡ false
+    pub often : least ≤ touches_in (record_at listed) (key_path false key)
+    pub below : IsSome (side frontier (key_path false key))
+    pub cold' : is_hot (key_path false key) places ≡ false
     pub fits : key < 2 ^ 64
-    pub behind : (path : List Bool) → AllByRecursion (λ (e : List Bool × Record). IsBefore path e.0) listed → IsBefore path (bits_of 64 key)
+    pub behind : (path : List Bool) → AllByRecursion (λ (e : List Bool × Record). IsBefore path e.0) listed → IsBefore path (key_path false key)
 
   before_apart : (p k : List Bool) → IsBefore p k → p ≢ k
-  before_apart p k (inl shorter) same = absurd (omega (arith, shorter, ap length same))
-  before_apart p k (inr lower) same = absurd (omega (arith, lower.1, ap number_of same))
+  before_apart p k (inl shorter) same = absurd (omega (arith, shorter, ap (λ (q : List Bool). (numbers_of q).0) same))
+  before_apart p k (inr lower) same = absurd (omega (arith, lower.1, ap (λ (q : List Bool). (numbers_of q).1) same))
 
   found_head : (e : List Bool × Record) (listed : Listed) (key : ℕ) → IsPromotableAt least frontier places e.0 e.1 key → IsFound (e ∷ listed) key
   found_head e listed key promotable =
-      let path : bits_of 64 key ≡ e.0 = own_path e.0 e.1 key promotable in
+      let path : key_path false key ≡ e.0 = own_path e.0 e.1 key promotable in
       record {
-        often = subst (λ (b : Bool). least ≤ option_map_or (λ (r : Record). r.touches) (if b then Some e.1 else lookup (same_path (bits_of 64 key)) listed) 0)
+        often = subst (λ (b : Bool). least ≤ option_map_or (λ (r : Record). r.touches) (if b then Some e.1 else lookup (same_path (key_path false key)) listed) 0)
             (sym (ap (λ (p : List Bool). same_path p e.0) path ∙ same_path-self e.0)) promotable.often;
         below = subst (λ (p : List Bool). IsSome (side frontier p)) (sym path) promotable.below;
         cold' = ap (λ (p : List Bool). is_hot p places) path ∙ promotable.cold';
-        fits = own_fits e.0 e.1 key promotable;
+        fits = promotable.fits;
         behind = λ p all. subst (IsBefore p) (sym path) all.0;
       }
 
   found_tail : (e : List Bool × Record) (listed : Listed) (key : ℕ) → AllByRecursion (λ (o : List Bool × Record). IsBefore e.0 o.0) listed → IsFound listed key → IsFound (e ∷ listed) key
   found_tail e listed key order found = record {
-    often = subst (λ (b : Bool). least ≤ option_map_or (λ (r : Record). r.touches) (if b then Some e.1 else lookup (same_path (bits_of 64 key)) listed) 0)
-        (sym (same_path-apart (bits_of 64 key) e.0 (λ same. before_apart e.0 (bits_of 64 key) (found.behind e.0 order) (sym same)))) found.often;
+    often = subst (λ (b : Bool). least ≤ option_map_or (λ (r : Record). r.touches) (if b then Some e.1 else lookup (same_path (key_path false key)) listed) 0)
+        (sym (same_path-apart (key_path false key) e.0 (λ same. before_apart e.0 (key_path false key) (found.behind e.0 order) (sym same)))) found.often;
     below = found.below;
     cold' = found.cold';
     fits = found.fits;
@@ -220,41 +237,47 @@ module _ (least : ℕ) (frontier : List Bool) (places : List Content) where
   among_first None keys key is = absurd (none≢some key is)
   among_first (Some k) keys key is = subst (λ (j : ℕ). IsAmong (k ∷ keys) j) (some_of k key is) (among_head k keys)
 
-  touched_step : (e : List Bool × Record) (listed : Listed) (key : ℕ) (b : Bool) → same_path (bits_of 64 key) e.0 ≡ b
-      → least ≤ option_map_or (λ (r : Record). r.touches) (if b then Some e.1 else lookup (same_path (bits_of 64 key)) listed) 0
-      → IsSome (side frontier (bits_of 64 key)) → is_hot (bits_of 64 key) places ≡ false → key < 2 ^ 64
-      → (least ≤ touches_in (record_at listed) (bits_of 64 key) → IsAmong (promotable_among least frontier places listed) key)
+  touched_step : (e : List Bool × Record) (listed : Listed) (key : ℕ) (b : Bool) → same_path (key_path false key) e.0 ≡ b
+      → least ≤ option_map_or (λ (r : Record). r.touches) (if b then Some e.1 else lookup (same_path (key_path false key)) listed) 0
+      → IsSome (side frontier (key_path false key)) → is_hot (key_path false key) places ≡ false → key < 2 ^ 64
+      → (least ≤ touches_in (record_at listed) (key_path false key) → IsAmong (promotable_among least frontier places listed) key)
       → IsAmong (promotable_among least frontier places (e ∷ listed)) key
   touched_step e listed key true same often below apart fits later =
-      let path : bits_of 64 key ≡ e.0 = same_path-true (bits_of 64 key) e.0 same in
+      let path : key_path false key ≡ e.0 = same_path-true (key_path false key) e.0 same in
       among_first (promotable_key least frontier places e.0 e.1) (promotable_among least frontier places listed) key (is_promotable_at e.0 e.1 key (record {
         often = often;
         below = subst (λ (p : List Bool). IsSome (side frontier p)) path below;
         cold' = ap (λ (p : List Bool). is_hot p places) (sym path) ∙ apart;
-        whole = ap length (sym path) ∙ length-bits_of 64 key;
-        number = ap number_of (sym path) ∙ number_back 64 key fits;
+        own = sym path;
+        fits = fits;
       }))
   touched_step e listed key false other often below apart fits later =
       among_behind (promotable_key least frontier places e.0 e.1) (promotable_among least frontier places listed) key (later often)
 
-  pub touched_among : (listed : Listed) (key : ℕ) → 0 < least → least ≤ touches_in (record_at listed) (bits_of 64 key)
-      → IsSome (side frontier (bits_of 64 key)) → is_hot (bits_of 64 key) places ≡ false → key < 2 ^ 64 → IsAmong (promotable_among least frontier places listed) key
+  pub touched_among : (listed : Listed) (key : ℕ) → 0 < least → least ≤ touches_in (record_at listed) (key_path false key)
+      → IsSome (side frontier (key_path false key)) → is_hot (key_path false key) places ≡ false → key < 2 ^ 64 → IsAmong (promotable_among least frontier places listed) key
   touched_among [] key some often below apart fits = absurd (omega (arith, some, often))
   touched_among (e ∷ listed) key some often below apart fits =
-      touched_step e listed key (same_path (bits_of 64 key) e.0) refl often below apart fits
+      touched_step e listed key (same_path (key_path false key) e.0) refl often below apart fits
       (λ more. touched_among listed key some more below apart fits)
 
   -- ---- their order, and whose they are
 
-  both_whole : (p k : List Bool) → IsBefore p k → length p ≡ 64 → length k ≡ 64 → number_of p < number_of k
-  both_whole p k (inl shorter) a b = absurd (omega (arith, shorter, a, b))
-  both_whole p k (inr lower) a b = lower.1
+  both_whole : (p k : List Bool) (key other : ℕ) → IsBefore p k → p ≡ key_path false key → k ≡ key_path false other → key < 2 ^ 64 → other < 2 ^ 64 → key < other
+  both_whole p k key other before a b low high = go (subst (IsBefore (key_path false key)) b (subst (λ (q : List Bool). IsBefore q k) a before))
+    where
+      spelled : (n : ℕ) → n < 2 ^ 64 → number_of (key_path false n) ≡ n
+      spelled n fits = number_behind (bits_of 64 n) ∙ number_back 64 n fits
+
+      go : IsBefore (key_path false key) (key_path false other) → key < other
+      go (inl shorter) = absurd (omega (arith, shorter, length-bits_of 64 key, length-bits_of 64 other))
+      go (inr lower) = omega (arith, lower.1, spelled key low, spelled other high)
 
   above_step : (e o : List Bool × Record) (key : ℕ) (found' : Option ℕ) (keys : List ℕ) → IsPromotableAt least frontier places e.0 e.1 key → promotable_key least frontier places o.0 o.1 ≡ found'
       → IsBefore e.0 o.0 → AllByRecursion (λ other. key < other) keys → AllByRecursion (λ other. key < other) (listed_key found' ++ keys)
   above_step e o key None keys promotable is before all = all
   above_step e o key (Some k) keys promotable is before all =
-      let next = promotable_at o.0 o.1 k is in (omega (arith, both_whole e.0 o.0 before promotable.whole next.whole, promotable.number, next.number), all)
+      let next = promotable_at o.0 o.1 k is in (both_whole e.0 o.0 key k before promotable.own next.own promotable.fits next.fits, all)
 
   above : (e : List Bool × Record) (key : ℕ) (listed : Listed) → IsPromotableAt least frontier places e.0 e.1 key → AllByRecursion (λ (o : List Bool × Record). IsBefore e.0 o.0) listed
       → AllByRecursion (λ other. key < other) (promotable_among least frontier places listed)
@@ -272,18 +295,18 @@ module _ (least : ℕ) (frontier : List Bool) (places : List Content) where
   promotable_rising (e ∷ listed) order = rising_step e listed (promotable_key least frontier places e.0 e.1) refl order.0 (promotable_rising listed order.1)
 
   own_step : (shard : Shard) (e : List Bool × Record) (keys : List ℕ) (o : Option ℕ) → shard.frontier ≡ frontier → promotable_key least frontier places e.0 e.1 ≡ o
-      → AllByRecursion (λ key. IsKeyOf shard (key_path key)) keys → AllByRecursion (λ key. IsKeyOf shard (key_path key)) (listed_key o ++ keys)
+      → AllByRecursion (λ key. IsKeyOf shard (key_path false key)) keys → AllByRecursion (λ key. IsKeyOf shard (key_path false key)) (listed_key o ++ keys)
   own_step shard e keys None same is all = all
   own_step shard e keys (Some k) same is all =
       let promotable = promotable_at e.0 e.1 k is in (
         record {
-          whole = length-bits_of 64 k;
-          below = subst (λ (f : List Bool). IsSome (side f (bits_of 64 k))) (sym same) (subst (λ (p : List Bool). IsSome (side frontier p)) (sym (own_path e.0 e.1 k promotable)) promotable.below);
+          whole = key_path-data false k;
+          below = subst (λ (f : List Bool). IsSome (side f (key_path false k))) (sym same) (subst (λ (p : List Bool). IsSome (side frontier p)) (sym (own_path e.0 e.1 k promotable)) promotable.below);
         },
         all,
       )
 
-  pub promotable_own : (shard : Shard) (listed : Listed) → shard.frontier ≡ frontier → AllByRecursion (λ key. IsKeyOf shard (key_path key)) (promotable_among least frontier places listed)
+  pub promotable_own : (shard : Shard) (listed : Listed) → shard.frontier ≡ frontier → AllByRecursion (λ key. IsKeyOf shard (key_path false key)) (promotable_among least frontier places listed)
   promotable_own shard [] same = tt
   promotable_own shard (e ∷ listed) same = own_step shard e (promotable_among least frontier places listed) (promotable_key least frontier places e.0 e.1) same refl (promotable_own shard listed same)
 
@@ -295,31 +318,29 @@ are_promotable stage listed least some order touches = record {
   promotable = λ key. (
     (λ among. let is = found least stage.shard.frontier stage.places listed key order among in record {
       in_range = is.fits;
-      own = record { whole = length-bits_of 64 key; below = is.below };
-      cold = hot_among (bits_of 64 key) stage.places is.cold';
-      often = subst (λ (t : List Bool → ℕ). least ≤ t (bits_of 64 key)) (sym touches) is.often;
+      own = record { whole = key_path-data false key; below = is.below };
+      cold = hot_among (key_path false key) stage.places is.cold';
+      often = subst (λ (t : List Bool → ℕ). least ≤ t (key_path false key)) (sym touches) is.often;
     }),
-    (λ is. touched_among least stage.shard.frontier stage.places listed key some (subst (λ (t : List Bool → ℕ). least ≤ t (bits_of 64 key)) touches is.often)
-        is.own.below (not_hot (bits_of 64 key) stage.places is.cold) is.in_range),
+    (λ is. touched_among least stage.shard.frontier stage.places listed key some (subst (λ (t : List Bool → ℕ). least ≤ t (key_path false key)) touches is.often)
+        is.own.below (not_hot (key_path false key) stage.places is.cold) is.in_range),
   );
 }
 
 -- what the code works out of one record
 pub key_found : (least : ℕ) (frontier path : List Bool) (places : List Content) (kept : Record) (few none is : Bool) (found' : Option ℕ)
     → nat_lt kept.touches least ≡ few → few ≡ false → is_none (side frontier path) ≡ none → none ≡ false → is_hot path places ≡ is → is ≡ false
-    → IfNone found' (length path < 64) → IfSome found' (λ key. (path ≡ bits_of 64 key)) → IfSome found' (λ key. key < 2 ^ 64)
+    → IfNone found' (IsNodePath path) → IfSome found' (λ key. (path ≡ key_path false key)) → IfSome found' (λ key. key < 2 ^ 64)
     → found' ≡ promotable_key least frontier places path kept
-key_found least frontier path places kept few none is None a a' b b' c c' short spelled fits =
-    sym (ap (λ (f : Bool). chosen least frontier places f (is_none (side frontier path) || is_hot path places) (length path == 64) (number_of path)) (a ∙ a')
-    ∙ ap (λ (f : Bool). chosen least frontier places false (f || is_hot path places) (length path == 64) (number_of path)) (b ∙ b')
-    ∙ ap (λ (f : Bool). chosen least frontier places false f (length path == 64) (number_of path)) (c ∙ c')
-    ∙ ap (λ (f : Bool). chosen least frontier places false false f (number_of path)) (other_number (length path) 64 (λ whole. absurd (omega (arith, short, whole)))))
-key_found least frontier path places kept few none is (Some key) a a' b b' c c' short spelled fits =
-    sym (ap (λ (f : Bool). chosen least frontier places f (is_none (side frontier path) || is_hot path places) (length path == 64) (number_of path)) (a ∙ a')
-    ∙ ap (λ (f : Bool). chosen least frontier places false (f || is_hot path places) (length path == 64) (number_of path)) (b ∙ b')
-    ∙ ap (λ (f : Bool). chosen least frontier places false f (length path == 64) (number_of path)) (c ∙ c')
-    ∙ ap (λ (f : Bool). chosen least frontier places false false f (number_of path)) (eq-eqb (length path) 64 (ap length spelled ∙ length-bits_of 64 key))
-    ∙ ap Some (ap number_of spelled ∙ number_back 64 key fits))
+key_found least frontier path places kept few none is found' a a' b b' c c' short spelled fits =
+    sym (ap (λ (f : Bool). chosen least frontier places f (is_none (side frontier path) || is_hot path places) (key_in false path)) (a ∙ a')
+    ∙ ap (λ (f : Bool). chosen least frontier places false (f || is_hot path places) (key_in false path)) (b ∙ b')
+    ∙ ap (λ (f : Bool). chosen least frontier places false f (key_in false path)) (c ∙ c')
+    ∙ own found' short spelled fits)
+  where
+    own : (o : Option ℕ) → IfNone o (IsNodePath path) → IfSome o (λ key. (path ≡ key_path false key)) → IfSome o (λ key. key < 2 ^ 64) → key_in false path ≡ o
+    own None short spelled fits = key_in_node path short
+    own (Some key) short spelled fits = ap (key_in false) spelled ∙ key_in_its_path key fits
 
 -- ---- the first keys, as they are gathered
 

@@ -1,10 +1,9 @@
 -- The keys that are promotable, read off the records one by one.
-use Rattle.std.specs.Prelude.{◌≡◌, ℕ, ◌<◌, ◌==◌, ◌||◌, Bool, false, List, [], ◌∷◌, ◌++◌, take, length, Option, Some, None, is_none, nat_lt, if◌then◌else◌}
+use Rattle.std.specs.Prelude.{◌≡◌, ℕ, ◌<◌, ◌&&◌, ◌||◌, Bool, false, List, [], ◌∷◌, ◌++◌, take, Option, Some, None, is_none, nat_lt, if◌then◌else◌}
 use Rattle.std.specs.List.{AllByRecursion}
-use Rattle.tree_keys.specs.Bits.{number_of}
-use Rattle.tree_keys.specs.Path.{side, same_path}
+use Rattle.tree_keys.specs.Path.{tree_of, is_data, key_path, key_of, same_bit, same_path, side}
 use Rattle.host_shard.specs.declared.record.Record.{Record}
-use Rattle.host_shard.specs.Content.{Content, cold, hot, vacant, key_path}
+use Rattle.host_shard.specs.Content.{Content, cold, hot, vacant}
 use Rattle.host_shard.specs.Records.{Listed}
 use Rattle.protection_moves.specs.Stage.{Stage}
 use Rattle.protection_moves.specs.Transfer.{ArePromotable}
@@ -13,16 +12,19 @@ use Rattle.protection_moves.specs.Transfer.{ArePromotable}
 abbrev pub is_hot : List Bool → List Content → Bool
 is_hot path [] = false
 is_hot path (cold shard ∷ places) = is_hot path places
-is_hot path (hot found ∷ places) = same_path (key_path found.key) path || is_hot path places
+is_hot path (hot found ∷ places) = same_path (key_path false found.key) path || is_hot path places
 is_hot path (vacant ∷ places) = is_hot path places
+
+-- the key of a data path of this tree
+abbrev pub key_in : Bool → List Bool → Option ℕ
+key_in wide path = if same_bit (tree_of path) wide && is_data path then Some (key_of path) else None
 
 -- the key of a record, if it is promotable: it was touched so often, lies below the frontier, isn't hot, and is a whole key
 abbrev pub promotable_key : ℕ → List Bool → List Content → List Bool → Record → Option ℕ
 promotable_key least frontier places path kept =
     if nat_lt kept.touches least then None
     else if is_none (side frontier path) || is_hot path places then None
-    else if length path == 64 then Some (number_of path)
-    else None
+    else key_in false path
 
 abbrev pub listed_key : Option ℕ → List ℕ
 listed_key None = []

@@ -1,6 +1,7 @@
 //! Hot records that were not touched: each comes back to its shard.
-ghost use Rattle.std.specs.Prelude.{◌≡◌, ◌<◌, ◌≤◌, ℕ, List, Bool, ◌++◌, length, map, None, IfOk, OnOk, OnErr, IsTrue};
+ghost use Rattle.std.specs.Prelude.{◌≡◌, ◌<◌, ◌≤◌, ℕ, false, List, Bool, ◌++◌, length, map, None, IfOk, OnOk, OnErr, IsTrue};
 ghost use Rattle.std.specs.List.{AllByRecursion};
+ghost use Rattle.tree_keys.specs.Path.{key_path};
 ghost use Rattle.record_text.specs.Longest.{longest_blob};
 ghost use Rattle.arrayvec.specs.ArrayVec.{array_vec_len};
 ghost use Rattle.lamport_clocks.specs.Clock.{is_open};
@@ -8,7 +9,7 @@ ghost use Rattle.record_text.specs.declared.value.Value.TheVariants as values;
 ghost use Rattle.record_text.specs.Value.{IsOf};
 ghost use Rattle.log_codec.specs.Command.{IsPathCommand};
 ghost use Rattle.log_codec.specs.declared.command.Command.TheVariants.{EvictB};
-ghost use Rattle.host_shard.specs.Content.{Content, key_path};
+ghost use Rattle.host_shard.specs.Content.{Content};
 ghost use Rattle.host_shard.specs.Mirrors.{IsShard, IsKeyOf};
 ghost use Rattle.host_shard.specs.Shard.{Shard as ShownShard};
 ghost use Rattle.host_shard.specs.Shown.{shown};
@@ -39,7 +40,7 @@ use tree_keys::Path;
 // Gives a hot record a place among the records of its shard. For want of memory all is as before.
 fn put_back(shard: &mut Shard, found: &HotRecord) -> Result<(), Memory>
     ensures back { OnOk result (shown shard.new ≡ with_back (shown shard.old) found.now) }
-    ensures kind { OnOk result (IsOf longest_blob (key_path found.now.key) (values.Blob found.now.value)) }
+    ensures kind { OnOk result (IsOf longest_blob (key_path false found.now.key) (values.Blob found.now.value)) }
     ensures as_before { OnErr result (shown shard.new ≡ shown shard.old) }
 {
     let path = Path::of_key(found.key);
@@ -50,8 +51,8 @@ fn put_back(shard: &mut Shard, found: &HotRecord) -> Result<(), Memory>
 
 // Takes its place away again: its path has what it had.
 fn take_away(shard: &mut Shard, found: &HotRecord, was: &Option<Value>)
-    ensures as_before { (old : ShownShard) → shown shard.old ≡ with_back old found.now → was.now ≡ old.records (key_path found.now.key)
-        → (was.now ≡ None → old.touches (key_path found.now.key) ≡ 0) → shown shard.new ≡ old }
+    ensures as_before { (old : ShownShard) → shown shard.old ≡ with_back old found.now → was.now ≡ old.records (key_path false found.now.key)
+        → (was.now ≡ None → old.touches (key_path false found.now.key) ≡ 0) → shown shard.new ≡ old }
 {
     restore_one(&mut shard.records, &Path::of_key(found.key), was);
 }
@@ -65,7 +66,7 @@ fn rehash_back<D: Digests>(
     commands: &mut Vec<Command>,
 ) -> Result<Saved, Memory>
     requires fits { IsShard longest_blob (shown shard.old) }
-    requires own { IsKeyOf (shown shard.old) (key_path found.now.key) }
+    requires own { IsKeyOf (shown shard.old) (key_path false found.now.key) }
     ensures back { IfOk result (λ saved. (old : ShownShard) → shown shard.old ≡ with_back old found.now
         → IsReturning (D.functions d.now).digest found.now old commands.old.items commands.new.items (shown shard.new)) }
     ensures saved { IfOk result (λ saved. IsSavedOf (shown shard.old) saved (shown shard.new)) }
@@ -97,8 +98,8 @@ pub(crate) fn demote_each<D: Digests>(
     commands: &mut Vec<Command>,
 ) -> Result<ArrayVec<HotRecord, HOT_PLACES>, Memory>
     requires fits { IsShard longest_blob (shown shard.old) }
-    requires own_back { AllByRecursion (λ found. IsKeyOf (shown shard.old) (key_path found.key)) back.now }
-    requires own { AllByRecursion (λ key. IsKeyOf (shown shard.old) (key_path key)) keys.now }
+    requires own_back { AllByRecursion (λ found. IsKeyOf (shown shard.old) (key_path false found.key)) back.now }
+    requires own { AllByRecursion (λ key. IsKeyOf (shown shard.old) (key_path false key)) keys.now }
     requires rising { AreRising keys.now }
     requires few { length keys.now ≤ 4 }
     requires open { AllByRecursion (λ found. IsTrue (is_open clock.now found.stamp.epoch)) back.now }

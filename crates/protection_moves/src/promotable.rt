@@ -1,9 +1,9 @@
 //! Which keys become hot: those that were touched often enough, in their order.
-ghost use Rattle.std.specs.Prelude.{◌≡◌, ◌<◌, ◌≤◌, length, map, IfSome, Some};
+ghost use Rattle.std.specs.Prelude.{◌≡◌, ◌<◌, ◌≤◌, length, false, map, IfSome, Some};
 ghost use Rattle.std.specs.List.{AllByRecursion};
+ghost use Rattle.tree_keys.specs.Path.{key_path};
 ghost use Rattle.arrayvec.specs.ArrayVec.{array_vec_len};
 ghost use Rattle.lamport_clocks.specs.Reading.{Reading};
-ghost use Rattle.host_shard.specs.Content.{key_path};
 ghost use Rattle.host_shard.specs.Mirrors.{IsKeyOf};
 ghost use Rattle.host_shard.specs.Shown.{shown, shown_content};
 ghost use Rattle.protection_moves.specs.Promotable.{promotable_key, is_hot, AreFirstPromotable, AreRising};
@@ -57,7 +57,7 @@ fn touched_often(
     requires some { 0 < least }
     requires few { room ≤ 4 }
     ensures first { (clock : Reading) → AreFirstPromotable (shown_stage shard.now places.now clock) (Some least) room result.items }
-    ensures own { AllByRecursion (λ key. IsKeyOf (shown shard.now) (key_path key)) result.items }
+    ensures own { AllByRecursion (λ key. IsKeyOf (shown shard.now) (key_path false key)) result.items }
     ensures rising { AreRising result.items }
 {
     let mut keys = ArrayVec::new();
@@ -82,7 +82,7 @@ pub(crate) fn promotable_keys(
     requires some { IfSome threshold (λ least. 0 < least) }
     requires few { room ≤ 4 }
     ensures first { (clock : Reading) → AreFirstPromotable (shown_stage shard.now places.now clock) threshold room result.items }
-    ensures own { AllByRecursion (λ key. IsKeyOf (shown shard.now) (key_path key)) result.items }
+    ensures own { AllByRecursion (λ key. IsKeyOf (shown shard.now) (key_path false key)) result.items }
     ensures rising { AreRising result.items }
 {
     match threshold {

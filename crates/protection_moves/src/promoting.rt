@@ -1,11 +1,12 @@
 //! Keys that become hot: the record of each leaves its shard.
-ghost use Rattle.std.specs.Prelude.{◌≡◌, ◌<◌, ◌≤◌, ℕ, List, [], ◌∷◌, Bool, ◌++◌, length, map, IfOk, OnOk, OnErr};
+ghost use Rattle.std.specs.Prelude.{◌≡◌, ◌<◌, ◌≤◌, ℕ, false, List, [], ◌∷◌, Bool, ◌++◌, length, map, IfOk, OnOk, OnErr};
 ghost use Rattle.std.specs.List.{AllByRecursion};
+ghost use Rattle.tree_keys.specs.Path.{key_path};
 ghost use Rattle.record_text.specs.Longest.{longest_blob};
 ghost use Rattle.arrayvec.specs.ArrayVec.{array_vec_len};
 ghost use Rattle.log_codec.specs.Command.{IsPathCommand};
 ghost use Rattle.log_codec.specs.declared.command.Command.TheVariants.{EvictB};
-ghost use Rattle.host_shard.specs.Content.{Content, key_path};
+ghost use Rattle.host_shard.specs.Content.{Content};
 ghost use Rattle.host_shard.specs.Mirrors.{IsShard, IsKeyOf};
 ghost use Rattle.host_shard.specs.Shown.{shown};
 ghost use Rattle.host_plan.specs.Moments.{giving};
@@ -105,7 +106,7 @@ fn promote<D: Digests>(
     commands: &mut Vec<Command>,
 ) -> Result<Promotion, Memory>
     requires fits { IsShard longest_blob (shown shard.old) }
-    requires own { IsKeyOf (shown shard.old) (key_path key) }
+    requires own { IsKeyOf (shown shard.old) (key_path false key) }
     ensures lending { IfOk result (λ promotion. IsLending (D.functions d.now).digest worker stamp key (shown shard.old) commands.old.items
         promotion.hot commands.new.items (shown shard.new)) }
     ensures saved { IfOk result (λ promotion. IsSavedOf (shown shard.old) promotion.saved (shown shard.new)) }
@@ -143,7 +144,7 @@ pub(crate) fn promote_each<D: Digests>(
     commands: &mut Vec<Command>,
 ) -> Result<ArrayVec<HotRecord, HOT_PLACES>, Memory>
     requires fits { IsShard longest_blob (shown shard.old) }
-    requires own { AllByRecursion (λ key. IsKeyOf (shown shard.old) (key_path key)) keys.now }
+    requires own { AllByRecursion (λ key. IsKeyOf (shown shard.old) (key_path false key)) keys.now }
     requires rising { AreRising keys.now }
     requires few { length keys.now ≤ 4 }
     requires within { (giving (clock_by_each clock.now (map promotes keys.now))).at.counter ≤ clock.now.end }

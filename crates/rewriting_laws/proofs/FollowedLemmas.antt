@@ -1,5 +1,5 @@
 -- Each command that is accepted by path is accepted by slot, and does the same.
-use Rattle.std.proofs.Common.{◌≡◌, ℕ, ◌+◌, ◌<◌, Bool, false, nat_le, not, List, [], ◌∷◌, length, set, Option, Some, None, is_some, IsNone, IsSome, Ok, refl, sym, ◌∙◌, ap, subst, arith, length-append, length-set}
+use Rattle.std.proofs.Common.{◌≡◌, ℕ, ◌+◌, Bool, false, nat_le, not, List, [], ◌∷◌, length, set, Option, Some, None, is_some, IsNone, IsSome, Ok, refl, sym, ◌∙◌, ap, subst, arith, length-append, length-set}
 use Rattle.std.proofs.lemmas.Bool.{leb-false, not-false}
 use Rattle.std.proofs.lemmas.Result.{IfOk-at_ok}
 use Rattle.tree_keys.specs.Path.{IsNodePath, is_data}

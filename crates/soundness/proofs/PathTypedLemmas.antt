@@ -1,5 +1,5 @@
 -- What is read as a command that names paths is typed, whatever the numbers: each value is of its path's kind.
-use Rattle.std.proofs.Common.{◌≡◌, ℕ, ◌+◌, ◌-◌, ◌/◌, ◌%◌, ◌^◌, ◌≤◌, ◌==◌, ◌&&◌, Bool, true, false, cond, leb, List, [], ◌∷◌, ◌++◌, length, take, Option, Some, None, Ok, Err, refl, sym, ap, subst, ◌∙◌, arith}
+use Rattle.std.proofs.Common.{◌≡◌, ℕ, ◌+◌, ◌-◌, ◌/◌, ◌%◌, ◌^◌, ◌≤◌, ◌==◌, ◌&&◌, Bool, true, false, cond, leb, List, [], ◌∷◌, ◌++◌, length, take, Option, Some, None, Ok, Err, refl, ap, subst, arith}
 use Rattle.std.specs.Int.{byte_len}
 use Rattle.std.proofs.lemmas.Bool.{leb-true, and_parts}
 use Rattle.std.proofs.lemmas.List.{length-take-le}
@@ -160,9 +160,9 @@ node_at-sides path bytes node rest e =
 
 -- ---- the value of a path
 
-value_by-kind : (longest : ℕ) (path : List Bool) (data : Bool) (bytes : List ℕ) (value : Value)
-    (rest : List ℕ) → IsPath path → is_data path ≡ data
-    → value_by longest path data bytes ≡ Ok (value, rest) → IsOf longest path value
+value_by-kind : (longest : ℕ) (path : List Bool) (at_data : Bool) (bytes : List ℕ) (value : Value)
+    (rest : List ℕ) → IsPath path → is_data path ≡ at_data
+    → value_by longest path at_data bytes ≡ Ok (value, rest) → IsOf longest path value
 value_by-kind longest path true bytes value rest short is e =
     let blob = bind_ok (blob_at longest bytes) (λ blob. Ok (values.Blob blob.0, blob.1)) (value, rest) e in
     let made : Value = values.Blob blob.0.0 in

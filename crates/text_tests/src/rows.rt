@@ -33,7 +33,7 @@ pub fn bytes_of(rt: &impl Abort, alloc: Global, digits: &str) -> Vec<u8> {
     bytes
 }
 
-/// The path of these bits, or, behind a `#`, of this key. `root` is the path of no bits.
+/// The path to which these bits lead, or, behind a `#`, that of this key. `root` is the root, to which no bits lead.
 pub fn path_of(rt: &impl Abort, text: &str) -> Path {
     if let Some(key) = text.strip_prefix('#') {
         return Path::of_key(key.parse().expect(rt, "a number"));

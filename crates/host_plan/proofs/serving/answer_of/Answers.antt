@@ -1,4 +1,4 @@
-use Rattle.std.proofs.Common.{◌<◌, false, length, subst, arith}
+use Rattle.std.proofs.Common.{false, subst}
 use Rattle.tree_keys.specs.Path.{key_path}
 use Rattle.tree_keys.proofs.TreeLaws.{data-no_node, key_path-data}
 use Rattle.record_text.specs.declared.value.Value.{Value}

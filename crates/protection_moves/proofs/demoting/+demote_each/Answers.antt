@@ -1,8 +1,8 @@
-use Rattle.std.proofs.Common.{rules, ◌≡◌, ℕ, List, ◌∷◌, map, sym, subst, ap, ◌∙◌, arith}
+use Rattle.std.proofs.Common.{rules, ◌≡◌, ℕ, false, List, ◌∷◌, map, sym, subst, ap, ◌∙◌, arith}
 use Rattle.std.specs.List.{AllByRecursion}
+use Rattle.tree_keys.specs.Path.{key_path}
 use Rattle.record_text.specs.Longest.{longest_blob}
 use Rattle.host_shard.specs.declared.content.HotRecord.{HotRecord}
-use Rattle.host_shard.specs.Content.{key_path}
 use Rattle.host_shard.specs.Mirrors.{IsKeyOf, IsShard}
 use Rattle.host_shard.specs.Records.{record_at, values_of}
 use Rattle.host_shard.specs.Shard.{Shard}
@@ -28,14 +28,14 @@ pub rehash_back-requires-clause-fits : goal.rehash_back-requires-clause-fits
 rehash_back-requires-clause-fits g t c =
     subst (IsShard longest_blob) (sym c.in_ok-put_back.ensures.back)
     (back_is longest_blob (shown c.args.shard.now) c.in-Some.parts.0.now c.requires.fits
-    (subst (AllByRecursion (λ (f : HotRecord). IsKeyOf (shown c.args.shard.now) (key_path f.key))) c.in-Some.ensures.cases.0 c.requires.own_back).0
+    (subst (AllByRecursion (λ (f : HotRecord). IsKeyOf (shown c.args.shard.now) (key_path false f.key))) c.in-Some.ensures.cases.0 c.requires.own_back).0
     c.in_ok-put_back.ensures.kind)
 
 pub returns-in-Err-clause-as_before : goal.returns-in-Err-clause-as_before
 returns-in-Err-clause-as_before g t c =
     let was = c.kept_of-was.ensures.value ∙ ap (values_of c.args.shard.now.records) c.of_key.ensures.bits in
     c.take_away.ensures.as_before (shown c.args.shard.now) (c.in-Err.ensures.as_before ∙ c.in_ok-put_back.ensures.back) was
-    (λ none. no_touches (record_at c.args.shard.now.records) (key_path c.in-Some.parts.0.now.key) (sym was ∙ none))
+    (λ none. no_touches (record_at c.args.shard.now.records) (key_path false c.in-Some.parts.0.now.key) (sym was ∙ none))
 
 pub demote_each-requires : goal.demote_each-requires
 demote_each-requires g t c κs within =
@@ -52,7 +52,7 @@ demote_each-requires g t c κs within =
         (
           c.in-Ok.ensures.fits,
           (
-            (subst (AllByRecursion (λ (f : HotRecord). IsKeyOf new (key_path f.key))) is (rest_own_back old new back frontier c.requires.own_back)).1,
+            (subst (AllByRecursion (λ (f : HotRecord). IsKeyOf new (key_path false f.key))) is (rest_own_back old new back frontier c.requires.own_back)).1,
             (
               rest_own old new c.args.keys.now frontier c.requires.own,
               (
@@ -88,4 +88,4 @@ returns-clause-as_before g t c =
     (c.restore.ensures.restored back
     (subst (λ (s : Shard). IsSavedOf back c.in-Ok.saved s) (sym c.in-Err-demote_each.ensures.as_before)
     (subst (λ (s : Shard). IsSavedOf s c.in-Ok.saved (shown c.rehash_back.new.shard)) c.in_ok-put_back.ensures.back c.in-Ok.ensures.saved))) was
-    (λ none. no_touches (record_at c.args.shard.now.records) (key_path found.key) (sym was ∙ none))
+    (λ none. no_touches (record_at c.args.shard.now.records) (key_path false found.key) (sym was ∙ none))

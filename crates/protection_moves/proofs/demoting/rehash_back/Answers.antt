@@ -1,9 +1,9 @@
-use Rattle.std.proofs.Common.{List, Bool, sym, subst}
+use Rattle.std.proofs.Common.{false, List, Bool, sym, subst}
+use Rattle.tree_keys.specs.Path.{key_path}
 use Rattle.record_text.specs.declared.value.Value.TheVariants as values
 use Rattle.record_text.specs.Longest.{longest_blob}
 use Rattle.host_shard.specs.declared.link.Link.{Link}
 use Rattle.host_shard.specs.Chain.{IsChain}
-use Rattle.host_shard.specs.Content.{key_path}
 use Rattle.host_shard.specs.Records.{record_at}
 use Rattle.host_shard.specs.Shard.{Shard, tree_of}
 use Rattle.host_shard.specs.Shown.{shown}
@@ -14,7 +14,7 @@ use Rattle.protection_moves.proofs.demoting.rehash_back.Goals as goal
 pub returns-clause-back : goal.returns-clause-back
 returns-clause-back g c old is =
     let now : Shard = shown c.args.shard.now in
-    let path : List Bool = key_path c.args.found.now.key in
+    let path : List Bool = key_path false c.args.found.now.key in
     returning_of (g.D.Digests.functions c.args.d.now).digest c.args.found.now old now (shown c.rehash.new.self) c.as_slice-along.result.now c.args.commands.now.items c.log_descent.new.commands.items
     c.pending.result c.copy.result is
     (subst (λ (ls : List Link). IsChain (tree_of now) path now.frontier now.value ls) (sym c.as_slice-along.ensures.value) c.in_ok-links.ensures.chain)
@@ -30,7 +30,7 @@ returns-clause-saved g c =
 pub returns-clause-typed : goal.returns-clause-typed
 returns-clause-typed g c =
     let now : Shard = shown c.args.shard.now in
-    let path : List Bool = key_path c.args.found.now.key in
+    let path : List Bool = key_path false c.args.found.now.key in
     back_typed longest_blob now path c.as_slice-along.result.now c.pending.result c.args.commands.now.items c.log_descent.new.commands.items
     c.requires.fits c.requires.own.whole
     (subst (λ (ls : List Link). IsChain (tree_of now) path now.frontier now.value ls) (sym c.as_slice-along.ensures.value) c.in_ok-links.ensures.chain)
@@ -39,7 +39,7 @@ returns-clause-typed g c =
 pub returns-clause-fits : goal.returns-clause-fits
 returns-clause-fits g c =
     let now : Shard = shown c.args.shard.now in
-    let path : List Bool = key_path c.args.found.now.key in
+    let path : List Bool = key_path false c.args.found.now.key in
     returned_is (g.D.Digests.functions c.args.d.now).digest c.args.found.now now (shown c.rehash.new.self) c.as_slice-along.result.now c.pending.result c.copy.result
     (λ text. (g.met.D.Digests.text_digest_shape c.args.d.now text).size) c.requires.fits c.requires.own
     (subst (λ (ls : List Link). IsChain (tree_of now) path now.frontier now.value ls) (sym c.as_slice-along.ensures.value) c.in_ok-links.ensures.chain)

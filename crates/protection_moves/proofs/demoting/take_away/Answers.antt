@@ -1,6 +1,6 @@
-use Rattle.std.proofs.Common.{◌≡◌, ℕ, List, Bool, None, IsSome, subst, ap, ◌∙◌}
+use Rattle.std.proofs.Common.{◌≡◌, ℕ, false, List, Bool, None, IsSome, subst, ap, ◌∙◌}
+use Rattle.tree_keys.specs.Path.{key_path}
 use Rattle.record_text.specs.declared.value.Value.TheVariants as values
-use Rattle.host_shard.specs.Content.{key_path}
 use Rattle.host_shard.specs.Records.{values_of, touches_of}
 use Rattle.host_shard.specs.Shard.{Shard}
 use Rattle.host_shard.specs.Shown.{shown}
@@ -13,7 +13,7 @@ pub returns : goal.returns
 returns c = record {
   as_before = λ old is was quiet.
       let now : Shard = shown c.args.shard.now in
-      let path : List Bool = key_path c.args.found.now.key in
+      let path : List Bool = key_path false c.args.found.now.key in
       let same = c.of_key.ensures.bits in
       ap (λ (t : Tree). record now { records = t; touches = touches_of c.restore_one.new.records })
       (taken_away old.records now.records (values_of c.restore_one.new.records) path (values.Blob c.args.found.now.value) c.args.was.now

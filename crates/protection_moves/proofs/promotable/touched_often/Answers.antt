@@ -1,6 +1,6 @@
-use Rattle.std.proofs.Common.{◌≡◌, ℕ, ◌-◌, List, ◌∷◌, ◌++◌, map, take, length, Option, refl, sym, ◌∙◌, ap, subst}
+use Rattle.std.proofs.Common.{◌≡◌, ℕ, ◌-◌, false, List, ◌∷◌, ◌++◌, map, take, length, Option, refl, sym, ◌∙◌, ap, subst}
 use Rattle.std.specs.List.{AllByRecursion}
-use Rattle.host_shard.specs.Content.{key_path}
+use Rattle.tree_keys.specs.Path.{key_path}
 use Rattle.host_shard.specs.Mirrors.{IsKeyOf}
 use Rattle.host_shard.specs.Records.{Listed}
 use Rattle.host_shard.specs.Shown.{shown, shown_content}
@@ -29,7 +29,7 @@ returns-then-len-room-clause-first c clock = record {
 
 pub returns-then-len-room-clause-own : goal.returns-then-len-room-clause-own
 returns-then-len-room-clause-own c =
-    subst (AllByRecursion (λ key. IsKeyOf (shown c.args.shard.now) (key_path key))) (sym (full c))
+    subst (AllByRecursion (λ key. IsKeyOf (shown c.args.shard.now) (key_path false key))) (sym (full c))
     (all_front _ c.args.room _ (promotable_own c.args.least c.args.shard.now.frontier (map shown_content c.args.places.now) (shown c.args.shard.now) c.args.shard.now.records refl))
 
 pub returns-then-len-room-clause-rising : goal.returns-then-len-room-clause-rising
@@ -57,7 +57,7 @@ returns-clause-first c clock = record {
 
 pub returns-clause-own : goal.returns-clause-own
 returns-clause-own c =
-    subst (AllByRecursion (λ key. IsKeyOf (shown c.args.shard.now) (key_path key))) (sym (gone c))
+    subst (AllByRecursion (λ key. IsKeyOf (shown c.args.shard.now) (key_path false key))) (sym (gone c))
     (all_front _ c.args.room _ (promotable_own c.args.least c.args.shard.now.frontier (map shown_content c.args.places.now) (shown c.args.shard.now) c.args.shard.now.records refl))
 
 pub returns-clause-rising : goal.returns-clause-rising

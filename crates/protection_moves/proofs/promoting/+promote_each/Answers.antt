@@ -1,7 +1,7 @@
-use Rattle.std.proofs.Common.{rules, ◌≡◌, ℕ, List, Bool, ◌∷◌, map, suc, length, sym, subst, ap, ◌∙◌, arith}
+use Rattle.std.proofs.Common.{rules, ◌≡◌, ℕ, false, List, Bool, ◌∷◌, map, suc, length, sym, subst, ap, ◌∙◌, arith}
 use Rattle.std.specs.List.{AllByRecursion}
+use Rattle.tree_keys.specs.Path.{key_path}
 use Rattle.record_text.specs.Longest.{longest_blob}
-use Rattle.host_shard.specs.Content.{key_path}
 use Rattle.host_shard.specs.Mirrors.{IsKeyOf, IsShard}
 use Rattle.host_shard.specs.Records.{record_at, values_of, touches_of}
 use Rattle.host_shard.specs.Shard.{Shard}
@@ -28,8 +28,8 @@ promote_each-requires g t c κs within =
     let key : ℕ = c.in-Some-split_first.parts.0.now in
     let is : keys ≡ key ∷ rest = c.in-Some-split_first.ensures.cases.0 in
     let own = rest_own (shown c.args.shard.now) (shown c.promote.new.shard) keys c.in_ok-hot.ensures.frontier c.requires.own in
-    let owned : AllByRecursion (λ k. IsKeyOf (shown c.promote.new.shard) (key_path k)) (key ∷ rest) =
-    subst (AllByRecursion (λ k. IsKeyOf (shown c.promote.new.shard) (key_path k))) is own in
+    let owned : AllByRecursion (λ k. IsKeyOf (shown c.promote.new.shard) (key_path false k)) (key ∷ rest) =
+    subst (AllByRecursion (λ k. IsKeyOf (shown c.promote.new.shard) (key_path false k))) is own in
     let rising : AreRising (key ∷ rest) = subst AreRising is c.requires.rising in
     let shorter : suc (length rest) ≡ length keys = sym (ap length is) in (
       search rules,
@@ -41,7 +41,7 @@ returns-in-Ok-clause-done g t c touches places =
     let digest = (g.D.Digests.functions c.args.d.now).digest in
     let rest_shard : Shard = shown c.promote_each.new.shard in
     let key : ℕ = c.in-Some-split_first.parts.0.now in
-    let values : values_of c.remove.new.self ≡ without_record rest_shard.records (key_path key) =
+    let values : values_of c.remove.new.self ≡ without_record rest_shard.records (key_path false key) =
     dropped_values (record_at c.promote_each.new.shard.records) (record_at c.remove.new.self) c.of_key.result c.remove.ensures.removed
     ∙ ap (λ (path : List Bool). without_record rest_shard.records path) c.of_key.ensures.bits in
     transfers_promoted digest c.args.worker (shown c.args.shard.now) (shown c.promote.new.shard) rest_shard
@@ -55,10 +55,10 @@ pub returns-in-Ok-clause-fits : goal.returns-in-Ok-clause-fits
 returns-in-Ok-clause-fits g t c =
     let rest_shard : Shard = shown c.promote_each.new.shard in
     let key : ℕ = c.in-Some-split_first.parts.0.now in
-    let values : values_of c.remove.new.self ≡ without_record rest_shard.records (key_path key) =
+    let values : values_of c.remove.new.self ≡ without_record rest_shard.records (key_path false key) =
     dropped_values (record_at c.promote_each.new.shard.records) (record_at c.remove.new.self) c.of_key.result c.remove.ensures.removed
     ∙ ap (λ (path : List Bool). without_record rest_shard.records path) c.of_key.ensures.bits in
-    let but = but_is longest_blob rest_shard (key_path key) c.in-Ok.ensures.fits in
+    let but = but_is longest_blob rest_shard (key_path false key) c.in-Ok.ensures.fits in
     subst (λ (tree : Tree). IsShard longest_blob (record rest_shard { records = tree; touches = touches_of c.remove.new.self })) (sym values)
     (record { below_root = but.below_root; no_data = but.no_data; kinds = but.kinds })
 

@@ -1,11 +1,10 @@
 use Rattle.std.proofs.Common.{rules, ◌≡◌, ℕ, List, Bool, Option, sym, subst, ap, ◌∙◌, false}
 use Rattle.std.specs.List.{AllByRecursion}
-use Rattle.tree_keys.specs.Path.{same_path}
+use Rattle.tree_keys.specs.Path.{key_path, same_path}
 use Rattle.record_text.specs.Longest.{longest_blob}
 use Rattle.host_shard.specs.declared.link.Link.{Link}
 use Rattle.host_shard.specs.declared.content.HotRecord.{HotRecord}
 use Rattle.host_shard.specs.Chain.{IsChain, last_value}
-use Rattle.host_shard.specs.Content.{key_path}
 use Rattle.host_shard.specs.Records.{record_at}
 use Rattle.host_shard.specs.Shard.{Shard, tree_of}
 use Rattle.host_shard.specs.Shown.{shown}
@@ -18,7 +17,7 @@ use Rattle.protection_moves.proofs.promoting.promote.Goals as goal
 pub returns-clause-lending : goal.returns-clause-lending
 returns-clause-lending g c =
     let digest = (g.D.Digests.functions c.args.d.now).digest in
-    let path : List Bool = key_path c.args.key in
+    let path : List Bool = key_path false c.args.key in
     let now : Shard = shown c.args.shard.now in
     let along : List Link = c.as_slice-along.result.now in
     let way = subst (λ (ls : List Link). IsChain (tree_of now) path now.frontier now.value ls) (sym c.as_slice-along.ensures.value) c.in_ok-links.ensures.chain in
@@ -44,7 +43,7 @@ returns-clause-saved g c =
 pub returns-clause-typed : goal.returns-clause-typed
 returns-clause-typed g c =
     let now : Shard = shown c.args.shard.now in
-    let path : List Bool = key_path c.args.key in
+    let path : List Bool = key_path false c.args.key in
     hot_typed longest_blob now path c.as_slice-along.result.now c.args.stamp c.args.commands.now.items c.log_descent.new.commands.items
     c.requires.fits c.requires.own.whole
     (subst (λ (ls : List Link). IsChain (tree_of now) path now.frontier now.value ls) (sym c.as_slice-along.ensures.value) c.in_ok-links.ensures.chain)
@@ -54,7 +53,7 @@ pub returns-clause-fits : goal.returns-clause-fits
 returns-clause-fits g c =
     let digest = (g.D.Digests.functions c.args.d.now).digest in
     let now : Shard = shown c.args.shard.now in
-    let path : List Bool = key_path c.args.key in
+    let path : List Bool = key_path false c.args.key in
     lent_is longest_blob digest now (shown c.lend.new.shard) path c.as_slice-along.result.now (λ text. (g.met.D.Digests.text_digest_shape c.args.d.now text).size)
     c.requires.fits c.requires.own.whole
     (subst (λ (ls : List Link). IsChain (tree_of now) path now.frontier now.value ls) (sym c.as_slice-along.ensures.value) c.in_ok-links.ensures.chain)
