@@ -1,7 +1,6 @@
 use Rattle.std.proofs.Common.{◌≡◌, ℕ, ◌+◌, suc, List, length, drop, slice_index_or, sym, ap, subst, ◌∙◌, arith}
 use Rattle.std.proofs.lemmas.List.{drop-drop}
 use Rattle.lamport_clocks.specs.declared.header.Header.{Header}
-use Rattle.record_hash.specs.Functions.{DigestFunctions}
 use Rattle.record_text.specs.Format.{format_of}
 use Rattle.command_window.specs.declared.read_command.ReadCommand.{ReadCommand}
 use Rattle.command_window.specs.Window.{IsReadOf, AreReadOf}
@@ -30,9 +29,9 @@ loop-place-preserved g c =
     let commands = c.commands.ensures.value in
     let ends = ap length c.commands-place-end.ensures.value in
     let there = read_at (format_of start.machine.header) (drop c.loop-place.taken c.args.bytes.now) c.args.window.now c.loop-place.place read
-        (omega (arith, c.loop-place-test.true, c.loop-place.auto.place-end, ends)) c.loop-place.invariant.read in
+    (omega (arith, c.loop-place-test.true, c.loop-place.auto.place-end, ends)) c.loop-place.invariant.read in
     let is_read : slice_index_or c.args.window.now c.loop-place.place read ≡ read =
-        sym (c.index-commands-place.is ∙ ap (λ (reads : List ReadCommand). slice_index_or reads c.loop-place.place read) commands) in
+    sym (c.index-commands-place.is ∙ ap (λ (reads : List ReadCommand). slice_index_or reads c.loop-place.place read) commands) in
     let next : suc c.loop-place.place ≡ c.loop-place.place + 1 = omega arith in
     let some = subst (λ (r : ReadCommand). IsReadOf (format_of start.machine.header) (drop c.loop-place.taken c.args.bytes.now) r) is_read there.0 in
     record {

@@ -1,4 +1,4 @@
-use Rattle.std.proofs.Common.{◌≡◌, ℕ, ◌<◌, length, drop, None}
+use Rattle.std.proofs.Common.{◌≡◌, ◌<◌, drop, None}
 use Rattle.record_text.specs.Format.{format_of}
 use Rattle.command_window.specs.Window.{AreReadOf}
 use Rattle.merkle_records.specs.Scheme.{scheme_of}
