@@ -2,7 +2,7 @@
 use Rattle.std.proofs.Common.{◌≡◌, ℕ, ◌≤◌, ◌<◌, Bool, true, false, List, [], ◌∷◌, length, Option, Some, None, IsTrue, refl, sym, ap, ⊎_elim, ◌∙◌, subst, if◌then◌else◌, eq-eqb, arith}
 use Rattle.std.proofs.lemmas.Option.{none-some, same_Some}
 use Rattle.std.proofs.lemmas.Bool.{cases_lt}
-use Rattle.tree_keys.specs.Path.{side, IsData}
+use Rattle.tree_keys.specs.Path.{key_path, side, IsData}
 use Rattle.tree_keys.proofs.PathLaws.{side-short}
 use Rattle.lamport_clocks.specs.declared.header.Header.{Header}
 use Rattle.lamport_clocks.specs.Clock.{is_open}
@@ -19,7 +19,7 @@ use Rattle.host_shard.specs.declared.link.Link.{Link}
 use Rattle.host_shard.specs.Tree.{Tree, pointer_of}
 use Rattle.host_shard.specs.Chain.{IsChain, IsNextLink, next_link, last_value}
 use Rattle.host_shard.specs.Shard.{Shard, tree_of}
-use Rattle.host_shard.specs.Content.{Content, cold, hot, vacant, key_path}
+use Rattle.host_shard.specs.Content.{Content, cold, hot, vacant}
 use Rattle.host_shard.specs.Mirrors.{IsShard, IsKeyOf}
 use Rattle.host_shard.specs.Shown.{shown_content}
 use Rattle.host_shard.proofs.ChainLaws.{frontier_kind, last_kind}
@@ -34,22 +34,22 @@ use Rattle.host_table.specs.Told.{Leads}
 -- ---- the owners
 
 -- a request leaves its key a value of its kind
-after_kind : (longest : ℕ) (request : Request) (found : Value) → IsBlob longest request.value → IsData (key_path request.key)
-    → IsOf longest (key_path request.key) found → IsOf longest (key_path request.key) (value_after request found)
+after_kind : (longest : ℕ) (request : Request) (found : Value) → IsBlob longest request.value → IsData (key_path false request.key)
+    → IsOf longest (key_path false request.key) found → IsOf longest (key_path false request.key) (value_after request found)
 after_kind longest request found fits whole kind = go request.put
   where
-    go : (b : Bool) → IsOf longest (key_path request.key) (if b then values.Blob request.value else found)
+    go : (b : Bool) → IsOf longest (key_path false request.key) (if b then values.Blob request.value else found)
     go true = (whole, fits)
     go false = kind
 
 shard_owns : (longest : ℕ) (digest : Digest) (worker : ℕ) (shard : Shard) (request : Request) (clock : Reading) (links : List Link)
-    → GivesDigests digest → IsBlob longest request.value → IsShard longest shard → IsKeyOf shard (key_path request.key)
-    → IsChain (tree_of shard) (key_path request.key) shard.frontier shard.value links → IsShard longest (served digest worker shard links request clock)
+    → GivesDigests digest → IsBlob longest request.value → IsShard longest shard → IsKeyOf shard (key_path false request.key)
+    → IsChain (tree_of shard) (key_path false request.key) shard.frontier shard.value links → IsShard longest (served digest worker shard links request clock)
 shard_owns longest digest worker shard request clock links digests fits is own chain =
     let last = value_after request (last_value shard.value links) in
-    let rehashed = rehashed_is longest digest shard (key_path request.key) links last digests is own
+    let rehashed = rehashed_is longest digest shard (key_path false request.key) links last digests is own
     (after_kind longest request (last_value shard.value links) fits own.whole
-    (last_kind longest (tree_of shard) (key_path request.key) shard.frontier shard.value links own.whole is.kinds (frontier_kind longest shard is.kinds) chain)) chain in
+    (last_kind longest (tree_of shard) (key_path false request.key) shard.frontier shard.value links own.whole is.kinds (frontier_kind longest shard is.kinds) chain)) chain in
     record { below_root = rehashed.below_root; no_data = rehashed.no_data; kinds = rehashed.kinds }
 
 -- what a content owned before a request it owns after it
@@ -150,7 +150,7 @@ chain_one tree key at value (link ∷ links) (other ∷ others) one two =
     λ i. same i ∷ more i
 
 links_one : (content : Content) (key : ℕ) (links others : List Link) → AreLinks content key links → AreLinks content key others → links ≡ others
-links_one (cold shard) key links others one two = chain_one (tree_of shard) (key_path key) shard.frontier shard.value links others one two
+links_one (cold shard) key links others one two = chain_one (tree_of shard) (key_path false key) shard.frontier shard.value links others one two
 links_one (hot kept) key links others one two = one ∙ sym two
 links_one vacant key links others one two = absurd one
 

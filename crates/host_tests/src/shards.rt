@@ -1,5 +1,6 @@
 //! A host of two shards, which requests are served on, and what it logs.
-ghost use Rattle.std.specs.Prelude.{◌≡◌, ◌<◌, ◌∷◌, [], ℕ, true, false, length};
+ghost use Rattle.std.specs.Prelude.{◌≡◌, ◌<◌, ◌∷◌, ◌++◌, [], ℕ, true, false};
+ghost use Rattle.tree_keys.specs.Path.{depth, IsNodePath, root_of};
 ghost use Rattle.record_text.specs.Longest.{longest_blob};
 ghost use Rattle.host_shard.specs.Shown.{shown_content};
 ghost use Rattle.host_plan.specs.Plan.{Owns};
@@ -29,8 +30,8 @@ pub struct Host {
 impl Host {
     /// Two shards without records, as a setup leaves them, and a worker whose clock is at this counter.
     pub fn new(alloc: Global, worker: u16, counter: u32) -> Self
-        ensures low { OwnsBelow (false ∷ []) (shown_content result.low) }
-        ensures high { OwnsBelow (true ∷ []) (shown_content result.high) }
+        ensures low { OwnsBelow (root_of false ++ false ∷ []) (shown_content result.low) }
+        ensures high { OwnsBelow (root_of false ++ true ∷ []) (shown_content result.high) }
     {
         let root = Path::root();
         Host {
@@ -50,10 +51,10 @@ impl Host {
         d: &D,
         request: &Request,
     ) -> Blob
-        requires low { OwnsBelow (false ∷ []) (shown_content self.old.low) }
-        requires high { OwnsBelow (true ∷ []) (shown_content self.old.high) }
-        ensures low { OwnsBelow (false ∷ []) (shown_content self.new.low) }
-        ensures high { OwnsBelow (true ∷ []) (shown_content self.new.high) }
+        requires low { OwnsBelow (root_of false ++ false ∷ []) (shown_content self.old.low) }
+        requires high { OwnsBelow (root_of false ++ true ∷ []) (shown_content self.old.high) }
+        ensures low { OwnsBelow (root_of false ++ false ∷ []) (shown_content self.new.low) }
+        ensures high { OwnsBelow (root_of false ++ true ∷ []) (shown_content self.new.high) }
     {
         let path = Path::of_key(request.key);
         let worker = self.worker;
@@ -86,7 +87,7 @@ impl Host {
 
     /// The links to a key of the lower shard.
     pub fn links_to(&self, rt: &impl Abort, alloc: Global, key: u64) -> Vec<Link>
-        requires low { OwnsBelow (false ∷ []) (shown_content self.now.low) }
+        requires low { OwnsBelow (root_of false ++ false ∷ []) (shown_content self.now.low) }
     {
         if !Path::of_key(key).is_below(&Path::root().child(false)) {
             panic!(rt; "a key of the other shard");
@@ -103,8 +104,8 @@ impl Host {
 
 // A shard without records, evicted last with this counter of epoch 0.
 fn fresh(alloc: Global, frontier: &Path, counter: u32) -> Content
-    requires below_root { 0 < length frontier.now }
-    requires no_data { length frontier.now < 64 }
+    requires below_root { 0 < depth frontier.now }
+    requires no_data { IsNodePath frontier.now }
     ensures owns { OwnsBelow frontier.now (shown_content result) }
 {
     let stamp = Stamp { epoch: 0, counter };

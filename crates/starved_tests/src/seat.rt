@@ -1,9 +1,9 @@
 //! A shard with its hot places and its worker's clock, which requests and closes go through.
-ghost use Rattle.std.specs.Prelude.{◌≡◌, ◌≤◌, IfOk, IsTrue, length, map};
+ghost use Rattle.std.specs.Prelude.{◌≡◌, ◌≤◌, IfOk, IsTrue, length, false, map};
 ghost use Rattle.std.specs.List.{AllByRecursion};
+ghost use Rattle.tree_keys.specs.Path.{key_path};
 ghost use Rattle.lamport_clocks.specs.Clock.{is_open};
 ghost use Rattle.record_text.specs.Longest.{longest_blob};
-ghost use Rattle.host_shard.specs.Content.{key_path};
 ghost use Rattle.host_shard.specs.Mirrors.{IsShard, IsKeyOf};
 ghost use Rattle.host_shard.specs.Shown.{shown, shown_content};
 ghost use Rattle.host_plan.specs.Plan.{Owns, IsOpenAt};
@@ -199,7 +199,7 @@ fn takes_all(clock: &Clock, places: &[Content]) -> bool
 
 // Whether each record in these places is of a key of the shard.
 fn owns_all(shard: &Shard, places: &[Content]) -> bool
-    ensures own { IsTrue result → AllByRecursion (λ found. IsKeyOf (shown shard.now) (key_path found.key))
+    ensures own { IsTrue result → AllByRecursion (λ found. IsKeyOf (shown shard.now) (key_path false found.key))
         (hot_records (map shown_content places.now)) }
 {
     let (first, rest) = match places.split_first() {

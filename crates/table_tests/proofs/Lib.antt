@@ -1,2 +1,3 @@
+mod FrontierLemmas
 mod ReadyLemmas
 mod TurnLemmas

@@ -1,5 +1,6 @@
 //! Shards side by side, and requests for keys below them.
 ghost use Rattle.std.specs.Prelude.{◌≡◌, ◌<◌, ◌≤◌, length, IfOk};
+ghost use Rattle.tree_keys.specs.Path.{depth, IsNodePath};
 ghost use Rattle.table_tests.specs.Ready.{AreReady, IsReady};
 
 use host_shard::{Content, Shard};
@@ -11,7 +12,8 @@ use tree_keys::Path;
 /// The frontier of a shard, one of 2^bits side by side.
 pub(crate) fn frontier_of(shard: usize, bits: u8) -> Path
     requires few { (0 < bits) × (bits ≤ 6) }
-    ensures length { length result ≡ bits }
+    ensures length { depth result ≡ bits }
+    ensures node { IsNodePath result }
 {
     Path::of_key((shard as u64) << (64 - bits)).front(bits)
 }
@@ -37,7 +39,7 @@ pub(crate) fn shards(
 
 // A shard that was evicted with this counter of epoch 1.
 fn shard_at(alloc: Global, frontier: Path, counter: u32) -> Content
-    requires frontier { (0 < length frontier) × (length frontier < 64) }
+    requires frontier { (0 < depth frontier) × IsNodePath frontier }
     requires counter { counter ≤ 64 }
     ensures ready { IsReady frontier result }
 {

@@ -1,6 +1,6 @@
-use Rattle.std.proofs.Common.{IsSome, subst, sym}
+use Rattle.std.proofs.Common.{IsSome, subst, sym, false}
+use Rattle.tree_keys.specs.Path.{key_path}
 use Rattle.record_text.specs.Longest.{longest_blob}
-use Rattle.host_shard.specs.Content.{key_path}
 use Rattle.host_shard.specs.Mirrors.{IsShard}
 use Rattle.host_shard.specs.Shard.{Shard}
 use Rattle.host_tests.proofs.closes.touch.Goals as goal
@@ -10,5 +10,5 @@ loop-preserved g c =
     let fits = c.loop.invariant.fits in
     record {
       fits = subst (IsShard longest_blob) (sym c.touch.ensures.touched) (record { below_root = fits.below_root; no_data = fits.no_data; kinds = fits.kinds });
-      there = subst (λ (shard : Shard). IsSome (shard.records (key_path c.args.key))) (sym c.touch.ensures.touched) c.loop.invariant.there;
+      there = subst (λ (shard : Shard). IsSome (shard.records (key_path false c.args.key))) (sym c.touch.ensures.touched) c.loop.invariant.there;
     }
