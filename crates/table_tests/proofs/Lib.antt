@@ -1,3 +1,2 @@
-mod FrontierLemmas
 mod ReadyLemmas
 mod TurnLemmas
