@@ -1,10 +1,12 @@
 -- A run that takes in what waited and hands out what then waits is a deed.
 use Rattle.std.proofs.Common.{◌≡◌, ℕ, List, map, Ok, ◌∙◌, ap}
 use Rattle.std.specs.List.{AllByRecursion}
+use Rattle.soundness.specs.Typed.{IsPathTypedIn}
 use Rattle.lamport_clocks.specs.Reading.{Reading}
 use Rattle.record_text.specs.declared.element.Element.{Element}
 use Rattle.record_text.specs.declared.request.Request.{Request}
 use Rattle.record_text.specs.Longest.{longest_of}
+use Rattle.record_text.specs.Tree.{wide_of}
 use Rattle.log_codec.specs.declared.command.Command.{Command}
 use Rattle.verifier_commands.specs.declared.state.State.{State}
 use Rattle.soundness.specs.History.{Event}
@@ -12,7 +14,6 @@ use Rattle.soundness.specs.StateHistory.{rules_under}
 use Rattle.soundness.specs.Certified.{sealed_count}
 use Rattle.soundness.specs.Timed.{added_among, evicted_among}
 use Rattle.soundness.specs.Permutation.{count_of}
-use Rattle.soundness.specs.Typed.{IsPathTyped}
 use Rattle.host_core.specs.Host.{Host, scheme, resting}
 use Rattle.host_core.specs.Deeds.{pending_of, answers_in, AreStamped, IsClock, IsDeed}
 use Rattle.host_laws.specs.Running.{Told, run, added_told, evicted_told, accesses_told, IsHistory}
@@ -21,7 +22,7 @@ use Rattle.host_fits.proofs.EventLemmas.{run-state, IsOfEpoch, run-steady, added
 
 pub is_deed : {C R : Type 0} (host : Host C R) (i : ℕ) (from : State) (commands : List Command) (told : Told) (clock : Reading) (old new : List C) (answers : List (ℕ × Request))
     → run (rules_under (scheme host) host.header i) from commands ≡ Ok (told, resting host i clock)
-    → AllByRecursion (IsPathTyped (longest_of host.header)) commands → IsClock host clock → clock.at.epoch ≡ from.clock.at.epoch
+    → AllByRecursion (IsPathTypedIn (wide_of host.header) (longest_of host.header)) commands → IsClock host clock → clock.at.epoch ≡ from.clock.at.epoch
     → AreStamped host clock.at.epoch new → added_told told ≡ pending_of host old → evicted_told told ≡ pending_of host new
     → map (ask_of from.clock.at.epoch) (accesses_told told) ≡ answers
     → IsDeed host i from commands clock old new answers

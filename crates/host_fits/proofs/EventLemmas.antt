@@ -2,7 +2,7 @@
 use Rattle.std.proofs.Common.{◌≡◌, ℕ, suc, ◌≤◌, Bool, true, false, List, [], ◌∷◌, ◌++◌, length, map, None, Ok, if◌then◌else◌, refl, sym, ◌∙◌, ap, subst, arith}
 use Rattle.std.specs.List.{AllByRecursion, flat_map}
 use Rattle.std.proofs.lemmas.List.{map-append}
-use Rattle.tree_keys.specs.Bits.{number_of}
+use Rattle.tree_keys.specs.Path.{key_of}
 use Rattle.lamport_clocks.specs.declared.stamp.Stamp.{Stamp}
 use Rattle.lamport_clocks.specs.Reading.{Reading}
 use Rattle.record_text.specs.declared.element.Element.{Element}
@@ -107,7 +107,7 @@ sealed-events epoch number index told steady = ap (λ (xs : List ℕ). length xs
 
 -- what an access asks, and when
 abbrev pub ask_of : ℕ → Access → ℕ × Request
-ask_of epoch access = (epoch, record { put = access.put; key = number_of access.path; value = if access.put then blob_of access.value else None })
+ask_of epoch access = (epoch, record { put = access.put; key = key_of access.path; value = if access.put then blob_of access.value else None })
 
 abbrev pub answer_of : Operation → ℕ × Request
 answer_of operation = (operation.stamp.epoch, request_of operation)
@@ -120,12 +120,12 @@ one-answer epoch number index at (did_add_b child element) same = refl
 one-answer epoch number index at (did_evict_b child element) same = refl
 one-answer epoch number index at (did_evict_bm parent after child element) same = refl
 one-answer epoch number index at (did_get entry) same =
-    ap (λ (e : ℕ). asks (e, record { put = false; key = number_of entry.path; value = None })) same
+    ap (λ (e : ℕ). asks (e, record { put = false; key = key_of entry.path; value = None })) same
   where
     asks : ℕ × Request → List (ℕ × Request)
     asks ask = ask ∷ []
 one-answer epoch number index at (did_put before after) same =
-    ap (λ (e : ℕ). asks (e, record { put = true; key = number_of after.path; value = blob_of after.value })) same
+    ap (λ (e : ℕ). asks (e, record { put = true; key = key_of after.path; value = blob_of after.value })) same
   where
     asks : ℕ × Request → List (ℕ × Request)
     asks ask = ask ∷ []

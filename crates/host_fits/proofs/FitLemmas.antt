@@ -46,7 +46,7 @@ all-weaker P Q weaker (one ∷ told) all = (weaker one.0 all.0, all-weaker P Q w
 clear_deed : (setting : Setting) (worker : ℕ) (from last : State) (commands : List Command) (told : Told) (s : ℕ) (old new : List Content)
     → run (rules_under (scheme (ranged setting)) setting.settings.header worker) from commands ≡ Ok (told, last)
     → ((path : List Bool) → IsCarried path (kept_of old path) (kept_of new path) (carried path told))
-    → ((path : List Bool) → (home_of (bits_in setting) path ≡ Some s → ⊥) → carried path told ≡ [])
+    → ((path : List Bool) → (home_of (suc (bits_in setting)) path ≡ Some s → ⊥) → carried path told ≡ [])
     → AllByRecursion (λ (one : Stamp × Change). IsLater one.0 (front_of old)) told
     → AllByRecursion (λ (one : Stamp × Change). IsNotAfter one.0 (front_of new)) told
     → IsNotAfter (front_of old) (front_of new)
@@ -117,8 +117,8 @@ module _ (setting : Setting) (worker : ℕ) (clock : Reading) (s : ℕ) (content
       (subst (λ (cs : List Content). (path : List Bool) → IsCarried path (kept_of cs path) (kept_of (set contents 0 found.after) path) (carried path did.told)) (sym mirrors.is)
       (subst (λ (cs : List Content). (path : List Bool) → IsCarried path (mirrors.shard.records path) (kept_of cs path) (carried path did.told)) (sym behind)
       did.once))
-      (λ path not_home. did.own path (λ below. not_home (home-below mirrors.shard.frontier path (bits_in setting) s
-      (subst (λ (cs : List Content). length (frontier_in cs) ≡ bits_in setting) mirrors.is serves.ready.mirrored.levels)
+      (λ path not_home. did.own path (λ below. not_home (home-below mirrors.shard.frontier path (suc (bits_in setting)) s
+      (subst (λ (cs : List Content). length (frontier_in cs) ≡ suc (bits_in setting)) mirrors.is serves.ready.mirrored.levels)
       (subst (λ (cs : List Content). number_of (frontier_in cs) ≡ s) mirrors.is serves.ready.mirrored.number) below)))
       (subst (λ (cs : List Content). AllByRecursion (λ (one : Stamp × Change). IsLater one.0 (front_of cs)) did.told) (sym mirrors.is)
       (all-weaker (IsWithin (Some (pending_shard mirrors.shard)) (Some (pending_shard left))) (λ stamp. IsLater stamp mirrors.shard.stamp) (λ stamp is. is.0) did.told did.within))

@@ -1,13 +1,14 @@
 -- What the shipped host keeps at the places of a shard, as the proofs speak of it.
-use Rattle.std.specs.Prelude.{◌≡◌, ℕ, ◌^◌, ◌<◌, ◌≤◌, ◌&&◌, nat_lt, Bool, List, [], ◌∷◌, length, take, IfSome, Option, Some, None, if◌then◌else◌}
+use Rattle.std.specs.Prelude.{◌≡◌, ℕ, ◌^◌, ◌<◌, ◌≤◌, ◌&&◌, nat_lt, Bool, false, List, [], ◌∷◌, length, take, IfSome, Option, Some, None, if◌then◌else◌, suc}
 use Rattle.tree_keys.specs.Bits.{number_of}
-use Rattle.tree_keys.specs.Path.{key_bits}
+use Rattle.tree_keys.specs.Path.{key_bits, IsIn}
 use Rattle.lamport_clocks.specs.declared.stamp.Stamp.{Stamp}
 use Rattle.lamport_clocks.specs.Reading.{Reading}
 use Rattle.record_hash.specs.Functions.{DigestFunctions}
 use Rattle.record_text.specs.declared.request.Request.{Request}
 use Rattle.record_text.specs.declared.value.Value.{Value}
 use Rattle.record_text.specs.Longest.{longest_of}
+use Rattle.record_text.specs.Tree.{wide_of}
 use Rattle.merkle_records.specs.Merkle.{GivesDigests}
 use Rattle.script_text.specs.declared.task.Task.{Task}
 use Rattle.host_shard.specs.Content.{Content, cold, hot, vacant}
@@ -30,7 +31,7 @@ pub record Setting : Type 0 where
 abbrev pub setting_of : DigestFunctions → Settings → List (List Task) → Setting
 setting_of functions settings script = record { functions = functions; settings = settings; script = script }
 
--- how many bits its frontiers have
+-- how many bits lead to its frontiers
 abbrev pub bits_in : Setting → ℕ
 bits_in setting = frontier_bits setting.settings.shards
 
@@ -38,7 +39,7 @@ bits_in setting = frontier_bits setting.settings.shards
 abbrev pub ranged : Setting → Host Content Request
 ranged setting = record (shipped_host setting.functions setting.settings setting.script) {
   owns = λ s seats seat request.
-      nat_lt request.key (2 ^ key_bits) && is_place_of (longest_of setting.settings.header) seats seat request;
+      nat_lt request.key (2 ^ key_bits false) && is_place_of (longest_of setting.settings.header) seats seat request;
 }
 
 -- What the proofs take of its numbers: a worker at least, shards that can be set up, a cache with room for each path
@@ -46,7 +47,7 @@ ranged setting = record (shipped_host setting.functions setting.settings setting
 pub record IsSetting (setting : Setting) : Type 0 where
   pub some : 1 ≤ setting.settings.header.verifiers
   pub shards : CanSetUp setting.settings.header (bits_in setting)
-  pub room : key_bits < setting.settings.header.cache
+  pub room : key_bits false < setting.settings.header.cache
   pub digests : GivesDigests setting.functions.digest
   pub threshold : IfSome setting.settings.hot (λ least. 0 < least)
 
@@ -85,17 +86,20 @@ frontier_in (cold shard ∷ rest) = shard.frontier
 frontier_in (hot record' ∷ rest) = []
 frontier_in (vacant ∷ rest) = []
 
--- The contents of a shard's places mirror, its frontier is the path of its number, and it waits since the first epoch or later.
+-- The contents of a shard's places mirror; its frontier is a path of the header's tree, and its bits spell the shard's number; and
+-- it waits since the first epoch or later.
 pub record PlacesMirror (setting : Setting) (s : ℕ) (contents : List Content) : Type 0 where
   pub mirrors : SeatsMirror (longest_of setting.settings.header) setting.functions.digest contents
-  pub levels : length (frontier_in contents) ≡ bits_in setting
+  pub tree : IsIn (wide_of setting.settings.header) (frontier_in contents)
+  pub levels : length (frontier_in contents) ≡ suc (bits_in setting)
   pub number : number_of (frontier_in contents) ≡ s
   pub from_first : setting.settings.header.first ≤ (front_of contents).epoch
 
--- What the host keeps of its records: a path longer than the frontiers is of the shard whose number its first bits spell.
+-- What the host keeps of its records: a path longer than the frontiers is of the shard whose number its first bits spell. Of
+-- a path of the other tree they spell a number past those of all shards.
 abbrev pub keeping_of : Setting → Keeping Content
 keeping_of setting = record {
-  home = λ path. if nat_lt (bits_in setting) (length path) then Some (number_of (take (bits_in setting) path)) else None;
+  home = λ path. if nat_lt (suc (bits_in setting)) (length path) then Some (number_of (take (suc (bits_in setting)) path)) else None;
   kept = λ s contents path. kept_of contents path;
   front = front_of;
 }

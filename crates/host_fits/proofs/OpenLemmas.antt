@@ -9,11 +9,13 @@ use Rattle.std.proofs.lemmas.Bool.Decides.{nat_tests}
 use Rattle.std.proofs.lemmas.Option.{none-some}
 use Rattle.std.proofs.Math.Nat.{pow-suc}
 use Rattle.tree_keys.specs.Bits.{number_of}
-use Rattle.tree_keys.specs.Path.{same_path}
+use Rattle.tree_keys.specs.Path.{same_path, depth, root_of, IsIn}
+use Rattle.tree_keys.proofs.TreeLaws.{in-child, length-in}
 use Rattle.lamport_clocks.specs.declared.stamp.Stamp.{Stamp}
 use Rattle.lamport_clocks.specs.Clock.{opening_reading}
 use Rattle.record_text.specs.declared.element.Element.{Element}
 use Rattle.record_text.specs.Longest.{longest_of}
+use Rattle.record_text.specs.Tree.{wide_of}
 use Rattle.verifier_cache.specs.declared.entry.Entry.{Entry}
 use Rattle.verifier_commands.specs.declared.state.State.{State}
 use Rattle.verifier_commands.specs.State.{opening, root_entry}
@@ -32,11 +34,11 @@ use Rattle.host_laws.specs.Running.{Told, Access, IsHistory}
 use Rattle.host_laws.specs.Carried.{carrying, carried}
 use Rattle.host_laws.specs.Served.{waiting}
 use Rattle.host_laws.specs.SettingUp.{IsNew, SetupRuns, set_up_state}
-use Rattle.host_laws.proofs.NumberLaws.{number_of-none, number_of-child, count_first, count_between}
-use Rattle.host_laws.proofs.ContentsLaws.{length-child}
+use Rattle.host_laws.proofs.NumberLaws.{number_of-child, count_first, count_between}
 use Rattle.host_laws.proofs.RunLaws.{run-history}
 use Rattle.host_laws.proofs.SetUpLaws.{setup_runs}
 use Rattle.host_laws.proofs.FirstLaws.{new_mirrors}
+use Rattle.host_laws.proofs.DepthLaws.{node_in}
 use Rattle.host_world.specs.ShippedHost.{hot_places, new_seats}
 use Rattle.host_fits.proofs.Keeping.{Setting, IsSetting, bits_in, ranged, PlacesMirror, kept_of}
 use Rattle.host_fits.proofs.EventLemmas.{ask_of, touching-events, touching-none}
@@ -45,33 +47,49 @@ use Rattle.host_fits.proofs.PlaceLemmas.{home_of, waiting_behind}
 
 -- ---- the numbers of frontiers
 
--- these paths have so many bits, and spell numbers one behind another from this one on
-abbrev AreNumbered : ℕ → ℕ → List (List Bool) → Type 0
-AreNumbered bits number [] = Unit {0}
-AreNumbered bits number (path ∷ paths) = (number_of path ≡ number) × (length path ≡ bits) × AreNumbered bits (suc number) paths
+-- these paths are of one tree and have so many bits, and these spell numbers one behind another from this one on
+abbrev AreNumbered : Bool → ℕ → ℕ → List (List Bool) → Type 0
+AreNumbered wide bits number [] = Unit {0}
+AreNumbered wide bits number (path ∷ paths) =
+    IsIn wide path × (number_of path ≡ number) × (length path ≡ bits) × AreNumbered wide bits (suc number) paths
 
-numbered-append : (bits number : ℕ) (xs ys : List (List Bool)) → AreNumbered bits number xs → AreNumbered bits (number + length xs) ys → AreNumbered bits number (xs ++ ys)
-numbered-append bits number [] ys first second = subst (λ (n : ℕ). AreNumbered bits n ys) (omega arith) second
-numbered-append bits number (x ∷ xs) ys first second =
-    (first.0, first.1, numbered-append bits (suc number) xs ys first.2 (subst (λ (n : ℕ). AreNumbered bits n ys) (omega arith) second))
+numbered-append : (wide : Bool) (bits number : ℕ) (xs ys : List (List Bool)) → AreNumbered wide bits number xs → AreNumbered wide bits (number + length xs) ys
+    → AreNumbered wide bits number (xs ++ ys)
+numbered-append wide bits number [] ys first second = subst (λ (n : ℕ). AreNumbered wide bits n ys) (omega arith) second
+numbered-append wide bits number (x ∷ xs) ys first second =
+    (first.0, first.1, first.2, numbered-append wide bits (suc number) xs ys first.3 (subst (λ (n : ℕ). AreNumbered wide bits n ys) (omega arith) second))
 
 count_below : (levels : ℕ) (path : List Bool) → length (paths_below levels path) ≡ 2 ^ levels
 count_below zero path = refl
 count_below (suc levels) path =
     omega (arith, length-append (paths_below levels (child path false)) (paths_below levels (child path true)), count_below levels (child path false), count_below levels (child path true), pow-suc 2 levels)
 
-numbered_below : (levels bits : ℕ) (path : List Bool) → length path + levels ≡ bits → AreNumbered bits (number_of path * 2 ^ levels) (paths_below levels path)
-numbered_below zero bits path short = (omega arith, omega (arith, short), tt)
-numbered_below (suc levels) bits path short =
+numbered_below : (wide : Bool) (levels bits : ℕ) (path : List Bool) → IsIn wide path → length path + levels ≡ bits
+    → AreNumbered wide bits (number_of path * 2 ^ levels) (paths_below levels path)
+numbered_below wide zero bits path within short = (within, omega arith, omega (arith, short), tt)
+numbered_below wide (suc levels) bits path within short =
     let one = number_of-child path false in
     let two = number_of-child path true in
     let middle = count_between (number_of path) (number_of (child path false)) (number_of (child path true)) (2 ^ levels) one two in
     let start = count_first (number_of path) (number_of (child path false)) (2 ^ levels) levels one refl in
-    numbered-append bits (number_of path * 2 ^ suc levels) (paths_below levels (child path false)) (paths_below levels (child path true))
-    (subst (λ (n : ℕ). AreNumbered bits n (paths_below levels (child path false))) start
-    (numbered_below levels bits (child path false) (omega (arith, length-child path false, short))))
-    (subst (λ (n : ℕ). AreNumbered bits n (paths_below levels (child path true))) (omega (arith, middle, start, count_below levels (child path false)))
-    (numbered_below levels bits (child path true) (omega (arith, length-child path true, short))))
+    numbered-append wide bits (number_of path * 2 ^ suc levels) (paths_below levels (child path false)) (paths_below levels (child path true))
+    (subst (λ (n : ℕ). AreNumbered wide bits n (paths_below levels (child path false))) start
+    (numbered_below wide levels bits (child path false) (in-child wide path false within) (omega (arith, length-append path (false ∷ []), short))))
+    (subst (λ (n : ℕ). AreNumbered wide bits n (paths_below levels (child path true))) (omega (arith, middle, start, count_below levels (child path false)))
+    (numbered_below wide levels bits (child path true) (in-child wide path true within) (omega (arith, length-append path (true ∷ []), short))))
+
+-- the root, whose bit spells nothing
+abbrev root : List Bool
+root = root_of false
+
+number_of-root : number_of root ≡ 0
+unfolding number_of
+number_of-root = refl
+
+-- what is longer lies deeper
+longer-deeper : (path : List Bool) (bits : ℕ) → suc bits < length path → bits < depth path
+longer-deeper [] bits longer = absurd (omega (arith, longer))
+longer-deeper (wide ∷ path) bits longer = omega (arith, longer)
 
 -- ---- new places
 
@@ -85,7 +103,7 @@ module _ (setting : Setting) (is_setting : IsSetting setting) where
   abbrev after_of : List (List Bool) → List (List Content)
   after_of frontiers = map new_seats (first_contents first frontiers)
 
-  new_places : (frontiers : List (List Bool)) (number : ℕ) → AreNumbered (bits_in setting) number frontiers → (s : ℕ) → s < length (after_of frontiers)
+  new_places : (frontiers : List (List Bool)) (number : ℕ) → AreNumbered (wide_of setting.settings.header) (suc (bits_in setting)) number frontiers → (s : ℕ) → s < length (after_of frontiers)
       → PlacesMirror setting (number + s) (get_or (after_of frontiers) s [])
   new_places [] number numbered s within = absurd (omega arith)
   new_places (frontier ∷ frontiers) number numbered zero within = record {
@@ -95,22 +113,27 @@ module _ (setting : Setting) (is_setting : IsSetting setting) where
       is = refl;
       four = refl;
       hot_alone = (tt, (tt, (tt, (tt, tt))));
-      mirrored = new_mirrors longest setting.functions.digest frontier (first_stamp first frontier) 0 (omega (arith, numbered.1, is_setting.shards.some)) (omega (arith, numbered.1, is_setting.shards.short));
+      mirrored = new_mirrors longest setting.functions.digest frontier (first_stamp first frontier) 0 (omega (arith, deep, is_setting.shards.some))
+          (node_in (wide_of setting.settings.header) frontier numbered.0 (omega (arith, deep, is_setting.shards.short)));
       blobs = tt;
       in_range = tt;
     };
-    levels = numbered.1;
-    number = omega (arith, numbered.0);
+    tree = numbered.0;
+    levels = numbered.2;
+    number = omega (arith, numbered.1);
     from_first = omega arith;
   }
+    where
+      deep : depth frontier ≡ bits_in setting
+      deep = omega (arith, length-in (wide_of setting.settings.header) frontier numbered.0, numbered.2)
   new_places (frontier ∷ frontiers) number numbered (suc s) within =
       subst (λ (n : ℕ). PlacesMirror setting n (get_or (after_of frontiers) s [])) (omega arith)
-      (new_places frontiers (suc number) numbered.2 s (omega (arith, within)))
+      (new_places frontiers (suc number) numbered.3 s (omega (arith, within)))
 
   pub setup_mirrored : (s : ℕ) → s < length (ranged setting).setup.after → PlacesMirror setting s (get_or (ranged setting).setup.after s [])
   setup_mirrored s within =
-      subst (λ (n : ℕ). PlacesMirror setting n (get_or (ranged setting).setup.after s [])) (ap (λ (n : ℕ). n * 2 ^ bits_in setting + s) number_of-none ∙ omega arith)
-      (new_places (paths_below (bits_in setting) []) (number_of [] * 2 ^ bits_in setting) (numbered_below (bits_in setting) (bits_in setting) [] (omega arith)) s within)
+      subst (λ (n : ℕ). PlacesMirror setting n (get_or (ranged setting).setup.after s [])) (ap (λ (n : ℕ). n * 2 ^ bits_in setting + s) number_of-root ∙ omega arith)
+      (new_places (paths_below (bits_in setting) root) (number_of root * 2 ^ bits_in setting) (numbered_below (wide_of setting.settings.header) (bits_in setting) (suc (bits_in setting)) root refl (omega arith)) s within)
 
   -- what waits there
   waits_first : (frontiers : List (List Bool)) → pending_of (ranged setting) (flat_map (λ contents. contents) (after_of frontiers))
@@ -136,13 +159,13 @@ module _ (setting : Setting) (is_setting : IsSetting setting) where
       ran.runs ran.typed
       (record { first = refl; end = refl; reading = record { within = is_setting.shards.counters; from_first = omega arith } })
       refl
-      (subst (AllByRecursion (IsStamped (ranged setting) first)) (sym (waits_first (paths_below (bits_in setting) []))) (stamped_first (paths_below (bits_in setting) [])))
-      ran.added (ran.evicted ∙ sym (waits_first (paths_below (bits_in setting) [])))
+      (subst (AllByRecursion (IsStamped (ranged setting) first)) (sym (waits_first (paths_below (bits_in setting) root))) (stamped_first (paths_below (bits_in setting) root)))
+      ran.added (ran.evicted ∙ sym (waits_first (paths_below (bits_in setting) root)))
       (ap (λ (xs : List Access). map (ask_of first) xs) ran.accesses)
 
   -- the verifiers that set nothing up are at rest
   pub others_rest : (i : ℕ) → 1 ≤ i → opening i setting.settings.header ≡ resting (ranged setting) i (opening_reading setting.settings.header.first setting.settings.header.end)
-  others_rest i some = both_none (i == 0) root_entry _ (grind (arith, nat_tests))
+  others_rest i some = both_none (i == 0) (root_entry (wide_of setting.settings.header)) _ (grind (arith, nat_tests))
     where
       both_none : (b : Bool) (x y : Entry) → b ≡ false
           → ◌≡◌ {A = State} (record { cache = record { entries = if b then x ∷ [] else []; room = setting.settings.header.cache }; clock = opening_reading setting.settings.header.first setting.settings.header.end })
@@ -194,15 +217,15 @@ module _ (setting : Setting) (is_setting : IsSetting setting) where
   none_kept (frontier ∷ frontiers) zero path = refl
   none_kept (frontier ∷ frontiers) (suc s) path = none_kept frontiers s path
 
-  pub setup_apart : (path : List Bool) (s : ℕ) → home_of (bits_in setting) path ≡ Some s → (touching path events ≡ []) × (kept_of (get_or (ranged setting).setup.after s []) path ≡ None)
+  pub setup_apart : (path : List Bool) (s : ℕ) → home_of (suc (bits_in setting)) path ≡ Some s → (touching path events ≡ []) × (kept_of (get_or (ranged setting).setup.after s []) path ≡ None)
   setup_apart path s home = (
-    ap (λ (es : List Event). touching path es) (history.events 0 0) ∙ touching-none path 0 0 ran.told (ran.apart path longer),
-    none_kept (paths_below (bits_in setting) []) s path,
+    ap (λ (es : List Event). touching path es) (history.events 0 0) ∙ touching-none path 0 0 ran.told (ran.apart path (longer-deeper path (bits_in setting) longer)),
+    none_kept (paths_below (bits_in setting) root) s path,
   )
     where
-      longer : bits_in setting < length path
-      longer = go (nat_lt (bits_in setting) (length path)) refl home
+      longer : suc (bits_in setting) < length path
+      longer = go (nat_lt (suc (bits_in setting)) (length path)) refl home
         where
-          go : (b : Bool) → nat_lt (bits_in setting) (length path) ≡ b → (if b then Some (number_of (take (bits_in setting) path)) else None) ≡ Some s → bits_in setting < length path
+          go : (b : Bool) → nat_lt (suc (bits_in setting)) (length path) ≡ b → (if b then Some (number_of (take (suc (bits_in setting)) path)) else None) ≡ Some s → suc (bits_in setting) < length path
           go true long is = grind (arith, nat_tests)
           go false short is = absurd (none-some s is)

@@ -3,11 +3,13 @@ use Rattle.std.proofs.Common.{◌≡◌, ℕ, suc, ◌<◌, ◌≤◌, Bool, tru
 use Rattle.std.specs.List.{AllByRecursion}
 use Rattle.std.proofs.lemmas.Bool.Decides.{nat_tests}
 use Rattle.tree_keys.specs.Bits.{number_of}
+use Rattle.tree_keys.specs.Path.{IsIn}
 use Rattle.lamport_clocks.specs.Reading.{Reading}
 use Rattle.lamport_clocks.specs.Clock.{is_open}
 use Rattle.record_text.specs.declared.element.Element.{Element}
 use Rattle.record_text.specs.declared.operation.Operation.{Operation}
 use Rattle.record_text.specs.Longest.{longest_of}
+use Rattle.record_text.specs.Tree.{wide_of}
 use Rattle.merkle_records.specs.Merkle.{Digest}
 use Rattle.verifier_cache.specs.Cache.{Held}
 use Rattle.verifier_commands.specs.Transition.{Rules}
@@ -138,9 +140,12 @@ module _ (setting : Setting) (worker epoch : ℕ) (clock : Reading) (s : ℕ) (c
       (sym (moved_so.clock ∙ move_clock digest worker setting.settings.hot old new found.commands moved_so.is))
       (not_past clock.end _ (λ past. moved_so.within (record { promotable = moved_so.is.promotable; are_promotable = moved_so.is.are_promotable; past = past })))
 
+  tree : IsIn (wide_of setting.settings.header) mirrors.shard.frontier
+  tree = subst (λ (cs : List Content). IsIn (wide_of setting.settings.header) (frontier_in cs)) mirrors.is moves.ready.mirrored.tree
+
   rest_deed : IsDeed (ranged setting) worker (resting (ranged setting) worker clock) found.commands found.clock contents found.after []
   rest_deed = record {
-    typed = move_typed longest digest worker setting.settings.hot old new found.commands moves.settled.digests moves.settled.threshold there moved_so.is;
+    typed = move_typed (wide_of setting.settings.header) longest digest worker setting.settings.hot old new found.commands tree moves.settled.digests moves.settled.threshold there moved_so.is;
     accepted = deed.accepted;
     rests = deed.rests ∙ ap (λ (c : Reading). resting (ranged setting) worker c) (sym moved_so.clock);
     is_clock = record {
@@ -170,6 +175,7 @@ module _ (setting : Setting) (worker epoch : ℕ) (clock : Reading) (s : ℕ) (c
   rest_mirrors : PlacesMirror setting s found.after
   rest_mirrors = record {
     mirrors = keeps.mirrors;
+    tree = subst (IsIn (wide_of setting.settings.header)) (sym frontier_new) moves.ready.mirrored.tree;
     levels = ap (λ (path : List Bool). length path) frontier_new ∙ moves.ready.mirrored.levels;
     number = ap number_of frontier_new ∙ moves.ready.mirrored.number;
     from_first = subst (λ (cs : List Content). setting.settings.header.first ≤ (front_of cs).epoch) (sym moved_so.after)
@@ -179,8 +185,8 @@ module _ (setting : Setting) (worker epoch : ℕ) (clock : Reading) (s : ℕ) (c
       since : new.shard.stamp.epoch ≡ clock.at.epoch
       since = (subst (AllByRecursion (λ (element : Element). (element.verifier ≡ worker) × (element.stamp.epoch ≡ clock.at.epoch))) waits_then keeps.waits).0.1
 
-  levels : length mirrors.shard.frontier ≡ bits_in setting
-  levels = subst (λ (cs : List Content). length (frontier_in cs) ≡ bits_in setting) mirrors.is moves.ready.mirrored.levels
+  levels : length mirrors.shard.frontier ≡ suc (bits_in setting)
+  levels = subst (λ (cs : List Content). length (frontier_in cs) ≡ suc (bits_in setting)) mirrors.is moves.ready.mirrored.levels
 
   number : number_of mirrors.shard.frontier ≡ s
   number = subst (λ (cs : List Content). number_of (frontier_in cs) ≡ s) mirrors.is moves.ready.mirrored.number
@@ -188,7 +194,7 @@ module _ (setting : Setting) (worker epoch : ℕ) (clock : Reading) (s : ℕ) (c
   clear_there : IsClearDeed (PlacesMirror setting) (keeping_of setting) (ranged setting) worker (resting (ranged setting) worker clock) found.commands s
       (cold mirrors.shard ∷ mirrors.places) (cold new.shard ∷ new.places)
   clear_there = record {
-    apart = λ index path not_home. clears.apart worker index path (λ below. not_home (home-below mirrors.shard.frontier path (bits_in setting) s levels number below));
+    apart = λ index path not_home. clears.apart worker index path (λ below. not_home (home-below mirrors.shard.frontier path (suc (bits_in setting)) s levels number below));
     clear = λ index path last home kept. clears.clear worker index path last kept;
     keeps = λ index path last home kept. clears.keeps worker index path last kept;
     behind = λ index path. clears.behind worker index path;

@@ -1,12 +1,14 @@
 -- A request that is served fits, wherever its place is.
-use Rattle.std.proofs.Common.{◌≡◌, ◌⊎◌, ℕ, zero, suc, ◌^◌, ◌<◌, ◌≤◌, Bool, true, false, List, [], ◌∷◌, length, map, get_or, set, Ok, Option, Some, None, nat_lt, if◌then◌else◌, append-nil, refl, sym, ◌∙◌, ap, subst, inl, inr, arith}
+use Rattle.std.proofs.Common.{◌≡◌, ◌⊎◌, ℕ, zero, suc, ◌^◌, ◌<◌, ◌≤◌, Bool, true, false, List, [], ◌∷◌, length, map, get_or, set, Ok, Option, Some, None, nat_lt, if◌then◌else◌, append-nil, refl, sym, ◌∙◌, ap, subst, inl, inr, arith, IsTrue}
 use Rattle.std.specs.Prelude.{◌==◌}
 use Rattle.std.specs.List.{AllByRecursion}
 use Rattle.std.proofs.lemmas.Bool.{ltb-true}
 use Rattle.std.proofs.lemmas.Bool.Decides.{nat_tests}
+use Rattle.soundness.specs.Typed.{IsPathTypedIn}
 use Rattle.tree_keys.specs.Bits.{number_of}
 use Rattle.tree_keys.specs.BitsLaws.{number_back}
-use Rattle.tree_keys.specs.Path.{key_bits}
+use Rattle.tree_keys.specs.Path.{key_bits, root_of, IsIn}
+use Rattle.tree_keys.proofs.TreeLaws.{key_of-path}
 use Rattle.lamport_clocks.specs.declared.stamp.Stamp.{Stamp}
 use Rattle.lamport_clocks.specs.Reading.{Reading}
 use Rattle.lamport_clocks.specs.Clock.{is_open}
@@ -15,15 +17,15 @@ use Rattle.record_text.specs.declared.request.Request.{Request}
 use Rattle.record_text.specs.declared.value.Value.{Value}
 use Rattle.record_text.specs.declared.value.Value.TheVariants as values
 use Rattle.record_text.specs.Longest.{longest_of}
+use Rattle.record_text.specs.Tree.{wide_of}
 use Rattle.log_codec.specs.declared.command.Command.{Command}
 use Rattle.merkle_records.specs.Merkle.{Digest}
 use Rattle.verifier_cache.specs.declared.entry.Entry.{Entry}
 use Rattle.verifier_cache.specs.declared.entry.Hold.TheVariants.{Root}
 use Rattle.verifier_cache.specs.Entry.{new_entry}
 use Rattle.verifier_commands.specs.Outcome.{blob_of}
-use Rattle.verifier_commands.specs.Transition.{Rules}
+use Rattle.verifier_commands.specs.Transition.{Rules, is_root}
 use Rattle.soundness.specs.StateHistory.{rules_under}
-use Rattle.soundness.specs.Typed.{IsPathTyped}
 use Rattle.host_shard.specs.declared.link.Link.{Link}
 use Rattle.host_shard.specs.Shard.{Shard, pending_shard}
 use Rattle.host_shard.specs.Content.{Content, cold, hot, vacant, pending}
@@ -63,13 +65,13 @@ asked_so request found answer is = go request.put is
 
 -- ---- a verifier at rest
 
-bare_if : (b : Bool) (root : Entry) → root.path ≡ [] → IsBare (if b then root ∷ [] else [])
+bare_if : (b : Bool) (root : Entry) → IsTrue (is_root root.path) → IsBare (if b then root ∷ [] else [])
 bare_if true root is = inr (root, is, refl)
 bare_if false root is = inl refl
 
 pub bare_at_rest : (setting : Setting) (worker : ℕ) → IsBare (resting_cache setting.functions setting.settings.header (bits_in setting) worker).entries
 bare_at_rest setting worker =
-    bare_if (worker == 0) (new_entry [] (values.Node (set_up_root setting.functions.digest (bits_in setting))) Root) refl
+    bare_if (worker == 0) (new_entry (root_of false) (values.Node (set_up_root setting.functions.digest (bits_in setting))) Root) refl
 
 open_now : (clock : Reading) (epoch : ℕ) → epoch ≡ clock.at.epoch → is_open clock epoch ≡ true
 open_now clock epoch same = grind (arith, nat_tests)
@@ -131,11 +133,11 @@ module _ (setting : Setting) (worker : ℕ) (clock : Reading) (s seat : ℕ) (co
   abbrev hot_keys : List (List Bool)
   hot_keys = hot_paths mirrors.places
 
-  range : (nat_lt request.key (2 ^ key_bits) ≡ true) × (is_place_of longest contents seat request ≡ true)
-  range = both (nat_lt request.key (2 ^ key_bits)) (is_place_of longest contents seat request) serves.owns
+  range : (nat_lt request.key (2 ^ key_bits false) ≡ true) × (is_place_of longest contents seat request ≡ true)
+  range = both (nat_lt request.key (2 ^ key_bits false)) (is_place_of longest contents seat request) serves.owns
 
-  small : request.key < 2 ^ key_bits
-  small = ltb-true request.key (2 ^ key_bits) range.0
+  small : request.key < 2 ^ key_bits false
+  small = ltb-true request.key (2 ^ key_bits false) range.0
 
   there : SeatServes longest digest hot_keys content request
   there = seat_serves longest digest contents mirrors seat request small range.1
@@ -189,7 +191,7 @@ module _ (setting : Setting) (worker : ℕ) (clock : Reading) (s seat : ℕ) (co
 
   asked : map (ask_of clock.at.epoch) (access_for request planned.plan.answer ∷ []) ≡ (clock.at.epoch, told request) ∷ []
   asked =
-      ap asks (ap (λ (k : ℕ). record { put = request.put; key = k; value = if request.put then planned.plan.answer else None }) (number_back key_bits request.key small)
+      ap asks (ap (λ (k : ℕ). record { put = request.put; key = k; value = if request.put then planned.plan.answer else None }) (key_of-path false request.key small)
       ∙ ap (λ (v : Option (List ℕ)). record { put = request.put; key = request.key; value = v }) (asked_so request (value_found content planned.is.links) planned.plan.answer planned.is.answer))
     where
       asks : Request → List (ℕ × Request)
@@ -199,7 +201,7 @@ module _ (setting : Setting) (worker : ℕ) (clock : Reading) (s seat : ℕ) (co
   serve_deed =
       is_deed (ranged setting) worker (resting (ranged setting) worker clock) found.commands runs.told found.clock (content ∷ []) (found.after ∷ []) ((clock.at.epoch, told request) ∷ [])
       logged
-      (subst (AllByRecursion (IsPathTyped longest)) (sym planned.logged)
+      (subst (AllByRecursion (IsPathTypedIn (wide_of setting.settings.header) longest)) (sym planned.logged)
       (plan_typed longest digest worker hot_keys content found.after request clock found.clock planned.plan there.fits there.mirrors there.own there.cold_there planned.is))
       (subst (IsClock (ranged setting)) (sym planned.is.clock) (clock_is content counters))
       keeps.same_epoch.epoch
@@ -221,6 +223,7 @@ module _ (setting : Setting) (worker : ℕ) (clock : Reading) (s seat : ℕ) (co
   pub serve_mirrors : PlacesMirror setting s (set contents seat found.after)
   serve_mirrors = record {
     mirrors = keeps.mirrors;
+    tree = subst (IsIn (wide_of setting.settings.header)) (sym front.frontier) serves.ready.mirrored.tree;
     levels = ap (λ (path : List Bool). length path) front.frontier ∙ serves.ready.mirrored.levels;
     number = ap number_of front.frontier ∙ serves.ready.mirrored.number;
     from_first = from front.since;

@@ -65,5 +65,5 @@ is_setting functions settings script can = record {
     two : 2 ≤ settings.shards
     two = two_shards settings.shards can.in_range.shards
 
-    width : key_bits ≡ 64
+    width : key_bits false ≡ 64
     width = refl

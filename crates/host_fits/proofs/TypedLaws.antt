@@ -1,10 +1,11 @@
--- Whatever happens, each command that the shipped host logs brings in a value of its path's kind.
+-- Whatever happens, each command that the shipped host logs names paths of its header's tree, and brings in a value of its path's kind.
 use Rattle.std.proofs.Common.{List, subst}
+use Rattle.soundness.specs.Typed.{ArePathsTypedIn}
 use Rattle.record_hash.specs.Functions.{DigestFunctions}
 use Rattle.record_text.specs.declared.request.Request.{Request}
 use Rattle.record_text.specs.Longest.{longest_of}
+use Rattle.record_text.specs.Tree.{wide_of}
 use Rattle.script_text.specs.declared.task.Task.{Task}
-use Rattle.soundness.specs.Typed.{ArePathsTyped}
 use Rattle.host_shard.specs.Content.{Content}
 use Rattle.host_core.specs.World.{World, logs_of, set_up}
 use Rattle.host_core.specs.WorldEvent.{WorldEvent, AreEnabled, run_events}
@@ -20,9 +21,9 @@ use Rattle.host_fits.proofs.PromiseLemmas.{is_fit}
 pub logs_typed : (functions : DigestFunctions) (settings : Settings) (script : List (List Task)) (events : List (WorldEvent Request))
     → CanRun functions settings script
     → AreEnabled (shipped_host functions settings script) (set_up (shipped_host functions settings script)) events
-    → ArePathsTyped (longest_of settings.header) (logs_of (run_events (shipped_host functions settings script) (set_up (shipped_host functions settings script)) events))
+    → ArePathsTypedIn (wide_of settings.header) (longest_of settings.header) (logs_of (run_events (shipped_host functions settings script) (set_up (shipped_host functions settings script)) events))
 logs_typed functions settings script events can enabled =
-    subst (λ (w : World Content). ArePathsTyped (longest_of settings.header) (logs_of w))
+    subst (λ (w : World Content). ArePathsTypedIn (wide_of settings.header) (longest_of settings.header) (logs_of w))
     (run_same functions settings script can.keys (set_up (shipped_host functions settings script)) events)
     (always_typed (PlacesMirror setting) (ranged setting) (is_fit setting (is_setting functions settings script can)) events
     (are_enabled functions settings script can.keys (set_up (shipped_host functions settings script)) events enabled))

@@ -162,7 +162,7 @@ module _ {D : Type 0} (functions : DigestFunctions) (world : code.World D) (logs
       let whole = with_logs logs (shown_world world) in
       sym (length-map (shown_world world).shards (λ (seats : Seats Content). frontier_in seats.contents))
       ∙ ap (λ (xs : List (List Bool)). length xs) (frontiers_behind functions world.settings (requests_of world) digests whole stands.behind)
-      ∙ count_paths (frontier_bits world.settings.shards) []
+      ∙ count_paths (frontier_bits world.settings.shards) _
       ∙ shards_are world.settings.shards stands.behind.settings_fit.shards
 
   -- in a phase the clocks stand in its epoch, and no shard is moved

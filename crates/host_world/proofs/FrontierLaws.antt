@@ -2,6 +2,7 @@
 use Rattle.std.proofs.Common.{◌≡◌, ℕ, zero, suc, ◌<◌, ◌==◌, Bool, true, false, List, [], ◌∷◌, get_or, set, map, Option, Some, None, if◌then◌else◌, refl, sym, ◌∙◌, ap, subst, arith}
 use Rattle.std.specs.Prelude.{IfSome}
 use Rattle.std.proofs.lemmas.List.{map-set, set-get_or}
+use Rattle.tree_keys.specs.Path.{root_of}
 use Rattle.lamport_clocks.specs.Reading.{Reading}
 use Rattle.lamport_clocks.specs.Clock.{last_epoch}
 use Rattle.record_hash.specs.Functions.{DigestFunctions}
@@ -157,11 +158,11 @@ module _ (functions : DigestFunctions) (settings : Settings) (script : List (Lis
 
 -- Behind the setup, whatever happened: the paths of the shards' numbers, in their order.
 pub frontiers_behind : (functions : DigestFunctions) (settings : Settings) (script : List (List Task)) (digests : GivesDigests functions.digest) (world : World Content)
-    → IsBehindSetup functions settings script world → frontiers world ≡ paths_below (frontier_bits settings.shards) []
+    → IsBehindSetup functions settings script world → frontiers world ≡ paths_below (frontier_bits settings.shards) (root_of false)
 frontiers_behind functions settings script digests world behind =
     let count = behind.settings_fit.shards in
     let bits = frontier_bits_are settings.shards count in
     ap frontiers behind.is
     ∙ run_frontiers functions settings script digests behind.settings_fit.hot behind.keys (set_up (host functions settings script)) behind.events
     (set_up_orderly functions settings script (omega (arith, bits, count.some)) (omega (arith, bits, count.most)) digests) behind.enabled
-    ∙ set_up_frontiers functions settings script digests behind.settings_fit.hot behind.keys (paths_below (frontier_bits settings.shards) [])
+    ∙ set_up_frontiers functions settings script digests behind.settings_fit.hot behind.keys (paths_below (frontier_bits settings.shards) (root_of false))

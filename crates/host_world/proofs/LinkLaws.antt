@@ -1,7 +1,7 @@
 -- The chain to a key is one list of links, and there is one where each value is of its path's kind.
 use Rattle.std.proofs.Common.{◌≡◌, ℕ, zero, suc, ◌+◌, ◌≤◌, Bool, true, false, List, [], ◌∷◌, length, Option, Some, None, is_some, inl, inr, ◌⊎◌, if◌then◌else◌, refl, sym, ◌∙◌, ap, subst, arith}
 use Rattle.std.proofs.lemmas.Bool.{false≢true}
-use Rattle.tree_keys.specs.Path.{side, same_path, is_prefix, IsBelow, key_bits, IsData}
+use Rattle.tree_keys.specs.Path.{side, same_path, is_prefix, IsBelow, IsData, depth}
 use Rattle.tree_keys.proofs.PathLaws.{same_path-self, same_path-true, same_path-apart}
 use Rattle.tree_keys.proofs.SideLaws.{prefix_cases, prefix_of_side, above_apart}
 use Rattle.record_text.specs.declared.value.Value.{Value}
@@ -13,6 +13,7 @@ use Rattle.host_shard.specs.Chain.{IsChain, IsNextLink, next_link, pointer_towar
 use Rattle.host_shard.specs.Shard.{Shard, tree_of}
 use Rattle.host_shard.specs.Mirrors.{IsShard, IsKeyOf}
 use Rattle.host_shard.proofs.ChainLaws.{AreOf, next_of, frontier_kind}
+use Rattle.host_laws.proofs.DepthLaws.{some_path}
 use Rattle.host_world.specs.Links.{link_behind, links_within, links_in}
 
 -- the side of what lies below a path
@@ -108,16 +109,21 @@ module _ (longest : ℕ) (tree : Tree) (key : List Bool) where
 
 -- ---- in a shard
 
+-- a key is one bit longer than it is deep
+length-key : (key : List Bool) → IsData key → length key ≡ suc (depth key)
+length-key [] whole = absurd whole
+length-key (wide ∷ bits) whole = refl
+
 module _ (longest : ℕ) (shard : Shard) (key : List Bool) (fits : IsShard longest shard) (own : IsKeyOf shard key) where
   -- Each chain from the frontier to the key is the list of its links.
   pub shard_chain_is : (links : List Link) → IsChain (tree_of shard) key shard.frontier shard.value links → links ≡ links_in shard key
   shard_chain_is links chain =
       let short = chain_short longest (tree_of shard) key own.whole fits.kinds shard.frontier shard.value links (frontier_kind longest shard fits.kinds) chain in
-      chain_is longest (tree_of shard) key key_bits shard.frontier shard.value links (omega (arith, own.whole)) chain
+      chain_is longest (tree_of shard) key (depth key) shard.frontier shard.value links (omega (arith, short, length-key key own.whole, some_path shard.frontier fits.below_root)) chain
 
   -- That list is a chain.
   pub shard_links_are : IsChain (tree_of shard) key shard.frontier shard.value (links_in shard key)
   shard_links_are =
       let below = below_side shard.frontier key own.below in
-      links_are longest (tree_of shard) key own.whole fits.kinds key_bits shard.frontier shard.value (omega (arith, own.whole))
+      links_are longest (tree_of shard) key own.whole fits.kinds (depth key) shard.frontier shard.value (omega (arith, length-key key own.whole, some_path shard.frontier fits.below_root))
       (prefix_of_side shard.frontier key below.0 below.1) (frontier_kind longest shard fits.kinds)

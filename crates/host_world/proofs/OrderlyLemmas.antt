@@ -4,7 +4,7 @@ use Rattle.std.proofs.lemmas.Bool.{false≢true, cases_eq, cases_lt}
 use Rattle.std.proofs.lemmas.List.{length-set, get_or-set_same, get_or-set_other, set_past, get_or-map, length-map}
 use Rattle.std.specs.Prelude.{IfSome}
 use Rattle.std.specs.List.{AllByRecursion}
-use Rattle.tree_keys.specs.Path.{key_bits}
+use Rattle.tree_keys.specs.Path.{key_bits, root_of}
 use Rattle.lamport_clocks.specs.Clock.{last_epoch}
 use Rattle.record_hash.specs.Functions.{DigestFunctions}
 use Rattle.record_text.specs.declared.element.Element.{Element}
@@ -224,7 +224,7 @@ module _ (functions : DigestFunctions) (settings : Settings) (script : List (Lis
         run_orderly (step host world event) events (step_orderly world event orderly enabled.0) enabled.1
 
   -- the setup
-  pub set_up_orderly : 0 < frontier_bits settings.shards → frontier_bits settings.shards < key_bits → GivesDigests functions.digest → IsOrderly functions settings script (set_up host)
+  pub set_up_orderly : 0 < frontier_bits settings.shards → frontier_bits settings.shards < key_bits false → GivesDigests functions.digest → IsOrderly functions settings script (set_up host)
   set_up_orderly some short digests = record {
     bounded = first;
     clocked = λ phase i there. epoch i;
@@ -240,7 +240,7 @@ module _ (functions : DigestFunctions) (settings : Settings) (script : List (Lis
       contents = setup_contents settings.header.first bits
 
       paths : List (List Bool)
-      paths = paths_below bits []
+      paths = paths_below bits (root_of false)
 
       first : (i : ℕ) → (worker_at host (set_up host) i).clock.first ≡ settings.header.first
       first zero = refl

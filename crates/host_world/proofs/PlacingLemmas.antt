@@ -8,7 +8,7 @@ use Rattle.std.proofs.lemmas.Nat.{pow_below, shr_high, mod_low}
 use Rattle.std.proofs.lemmas.List.Folds.{list_any_more}
 use Rattle.tree_keys.specs.Bits.{bits_of, number_of}
 use Rattle.tree_keys.specs.BitsLaws.{length-bits_of, number_back}
-use Rattle.tree_keys.specs.Path.{is_prefix}
+use Rattle.tree_keys.specs.Path.{is_prefix, key_path, key_bits, root_of}
 use Rattle.tree_keys.proofs.BitsLaws.{bits_of-same, bits_of-number_of, take-bits_of, first_below}
 use Rattle.record_hash.specs.Functions.{DigestFunctions}
 use Rattle.record_text.specs.declared.request.Request.{Request}
@@ -17,7 +17,7 @@ use Rattle.merkle_records.specs.Merkle.{Digest, GivesDigests}
 use Rattle.log_codec.specs.declared.command.Command.{Command}
 use Rattle.host_core.specs.World.{Place, Seats, World, unmoved, shard_at}
 use Rattle.host_core.specs.WorldEvent.{IsPlace}
-use Rattle.host_shard.specs.Content.{Content, cold, hot, vacant, key_path}
+use Rattle.host_shard.specs.Content.{Content, cold, hot, vacant}
 use Rattle.host_shard.specs.Shown.{shown_content}
 use Rattle.host_plan.specs.Setup.{IsShardCount, child, paths_below}
 use Rattle.script_text.specs.declared.task.Task.{Task}
@@ -57,14 +57,14 @@ pub shift_below : (shards r : ℕ) → IsShardCount shards → 2 ^ r ≤ shards 
 shift_below shards r count low high = omega (arith, log_is shards r count low high, count.some)
 
 -- so many first bits of a key spell what is left of it above the others
-number_of-first : (key bits : ℕ) → key < 2 ^ 64 → bits ≤ 64 → number_of (take bits (key_path key)) ≡ key / 2 ^ (64 - bits)
+number_of-first : (key bits : ℕ) → key < 2 ^ 64 → bits ≤ 64 → number_of (take bits (bits_of (key_bits false) key)) ≡ key / 2 ^ (64 - bits)
 number_of-first key bits small within =
     ap number_of (take-bits_of 64 bits key within)
     ∙ number_back bits (key / 2 ^ (64 - bits)) (first_below key 64 bits within small)
 
 -- The shard of a key, from the logarithm of how many shards there are.
 pub shard_is : (key shards r : ℕ) → key < 2 ^ 64 → IsShardCount shards → 2 ^ r ≤ shards → shards < 2 * 2 ^ r
-    → key / 2 ^ (64 - r) ≡ number_of (take (frontier_bits shards) (key_path key))
+    → key / 2 ^ (64 - r) ≡ number_of (take (frontier_bits shards) (bits_of (key_bits false) key))
 shard_is key shards r small count low high =
     let bits : r ≡ frontier_bits shards = log_is shards r count low high ∙ sym (frontier_bits_are shards count) in
     ap (λ (n : ℕ). key / 2 ^ (64 - n)) bits
@@ -145,27 +145,27 @@ module _ (functions : DigestFunctions) (settings : Settings) (script : List (Lis
   shards_there =
       sym (length-map world.shards (λ (seats : Seats Content). frontier_in seats.contents))
       ∙ ap (λ (paths : List (List Bool)). length paths) (frontiers_behind functions settings script digests world behind)
-      ∙ count_below (frontier_bits settings.shards) []
+      ∙ count_below (frontier_bits settings.shards) (root_of false)
       ∙ sym (shards_are settings.shards behind.settings_fit.shards)
 
-  -- each with its number's bits as its frontier
-  frontier_at : (s : ℕ) → s < settings.shards → frontier_in (shard_at world s).contents ≡ bits_of (frontier_bits settings.shards) s
+  -- each with its number's bits behind the root as its frontier
+  frontier_at : (s : ℕ) → s < settings.shards → frontier_in (shard_at world s).contents ≡ root_of false ++ bits_of (frontier_bits settings.shards) s
   frontier_at s there =
       sym (get_or-map (λ (seats : Seats Content). frontier_in seats.contents) world.shards s (unmoved []) [] (omega (arith, there, shards_there)))
       ∙ ap (λ (paths : List (List Bool)). get_or paths s []) (frontiers_behind functions settings script digests world behind)
-      ∙ path_at (frontier_bits settings.shards) [] s (omega (arith, there, shards_are settings.shards behind.settings_fit.shards))
+      ∙ path_at (frontier_bits settings.shards) (root_of false) s (omega (arith, there, shards_are settings.shards behind.settings_fit.shards))
 
   -- A key lies below the frontier of the shard whose number its first bits spell.
-  lies_below : (key s : ℕ) → s ≡ number_of (take (frontier_bits settings.shards) (key_path key)) → s < settings.shards
-      → is_prefix (frontier_in (shard_at world s).contents) (key_path key) ≡ true
+  lies_below : (key s : ℕ) → s ≡ number_of (take (frontier_bits settings.shards) (bits_of (key_bits false) key)) → s < settings.shards
+      → is_prefix (frontier_in (shard_at world s).contents) (key_path false key) ≡ true
   lies_below key s is there =
       let bits : ℕ = frontier_bits settings.shards in
-      let first : List Bool = take bits (key_path key) in
+      let first : List Bool = take bits (bits_of (key_bits false) key) in
       let count = behind.settings_fit.shards in
-      let long : length first ≡ bits = length-first bits (key_path key) (omega (arith, length-bits_of 64 key, frontier_bits_are settings.shards count, count.most)) in
-      let frontier : frontier_in (shard_at world s).contents ≡ first =
-      frontier_at s there ∙ ap (bits_of bits) is ∙ ap (λ (n : ℕ). bits_of n (number_of first)) (sym long) ∙ bits_of-number_of first in
-      ap (λ (path : List Bool). is_prefix path (key_path key)) frontier ∙ prefix-take bits (key_path key)
+      let long : length first ≡ bits = length-first bits (bits_of (key_bits false) key) (omega (arith, length-bits_of 64 key, frontier_bits_are settings.shards count, count.most)) in
+      let spelled : bits_of bits s ≡ first = ap (bits_of bits) is ∙ ap (λ (n : ℕ). bits_of n (number_of first)) (sym long) ∙ bits_of-number_of first in
+      let frontier : frontier_in (shard_at world s).contents ≡ root_of false ++ first = frontier_at s there ∙ ap (λ (more : List Bool). root_of false ++ more) spelled in
+      ap (λ (path : List Bool). is_prefix path (key_path false key)) frontier ∙ prefix-take bits (bits_of (key_bits false) key)
 
 -- ---- the seat of a key
 
@@ -185,13 +185,13 @@ hot_serves seats key vacant is = absurd (false≢true is)
 
 -- A hot place that has a request's key is its place; and where none has, the shard's own is, if the key lies below its frontier.
 seat_owns : (digest : Digest) (first : Content) (places : List Content) → SeatsMirror longest_blob digest (first ∷ places) → (seat : ℕ) (request : Request)
-    → is_prefix (frontier_in (first ∷ places)) (key_path request.key) ≡ true → is_blob longest_blob request.value ≡ true
+    → is_prefix (frontier_in (first ∷ places)) (key_path false request.key) ≡ true → is_blob longest_blob request.value ≡ true
     → (seat ≢ 0 → is_hot_at request.key (get_or (first ∷ places) seat vacant) ≡ true)
     → (seat ≡ 0 → list_any (is_hot_at request.key) places ≡ false)
     → is_place_of longest_blob (first ∷ places) seat request ≡ true
 seat_owns digest (cold shard) places mirrors zero request below blob hot_there none_there =
-    and_from (is_prefix shard.frontier (key_path request.key) && not (list_any (is_hot_at request.key) places)) (is_blob longest_blob request.value)
-    (and_from (is_prefix shard.frontier (key_path request.key)) (not (list_any (is_hot_at request.key) places)) below (ap not (none_there refl))) blob
+    and_from (is_prefix shard.frontier (key_path false request.key) && not (list_any (is_hot_at request.key) places)) (is_blob longest_blob request.value)
+    (and_from (is_prefix shard.frontier (key_path false request.key)) (not (list_any (is_hot_at request.key) places)) below (ap not (none_there refl))) blob
 seat_owns digest first places mirrors (suc k) request below blob hot_there none_there =
     and_from (serves_key (first ∷ places) request.key (get_or places k vacant)) (is_blob longest_blob request.value)
     (hot_serves (first ∷ places) request.key (get_or places k vacant) (hot_there (omega arith))) blob
@@ -253,7 +253,7 @@ module _ {D : Type 0} (functions : DigestFunctions) (digests : GivesDigests func
           )
 
       -- And it is the place of a request whose key's first bits spell the shard's number, if the seat is the key's.
-      pub place_owns : (request : Request) → s ≡ number_of (take (frontier_bits world.settings.shards) (key_path request.key)) → is_blob longest_blob request.value ≡ true
+      pub place_owns : (request : Request) → s ≡ number_of (take (frontier_bits world.settings.shards) (bits_of (key_bits false) request.key)) → is_blob longest_blob request.value ≡ true
           → (seat ≢ 0 → is_hot_at request.key (get_or (contents_of seats) seat vacant) ≡ true)
           → (seat ≡ 0 → list_any (is_hot_at request.key) (map shown_content seats.hot.items) ≡ false)
           → is_place_of longest_blob (shard_at (shown_world world) (place_of number).shard).contents (place_of number).seat request ≡ true
@@ -261,6 +261,6 @@ module _ {D : Type 0} (functions : DigestFunctions) (digests : GivesDigests func
           at_place (λ (place : Place). is_place_of longest_blob (shard_at (shown_world world) place.shard).contents place.seat request ≡ true)
           (subst (λ (found : Seats Content). is_place_of longest_blob found.contents seat request ≡ true) (sym seats_read)
           (seat_owns functions.digest (shown_content seats.first) (map shown_content seats.hot.items) seats_mirror seat request
-          (subst (λ (found : Seats Content). is_prefix (frontier_in found.contents) (key_path request.key) ≡ true) seats_read
+          (subst (λ (found : Seats Content). is_prefix (frontier_in found.contents) (key_path false request.key) ≡ true) seats_read
           (lies_below functions world.settings (requests_of world) digests (with_logs logs (shown_world world)) stands.behind request.key s first there))
           blob hot_there none_there))

@@ -2,7 +2,8 @@
 use Rattle.std.proofs.Common.{◌≡◌, ℕ, Bool, true, false, List, length, nat_lt, Option, Some, None, is_some, if◌then◌else◌, refl, sym, ◌∙◌, ap, subst, arith}
 use Rattle.std.proofs.lemmas.Bool.{false≢true, lt-ltb}
 use Rattle.std.proofs.lemmas.Option.{same_Some}
-use Rattle.tree_keys.specs.Path.{IsData}
+use Rattle.tree_keys.specs.Path.{IsData, key_path}
+use Rattle.tree_keys.proofs.TreeLaws.{data-no_node}
 use Rattle.lamport_clocks.specs.Reading.{Reading}
 use Rattle.record_text.specs.declared.request.Request.{Request}
 use Rattle.record_text.specs.declared.value.Value.{Value}
@@ -11,7 +12,7 @@ use Rattle.record_text.specs.Value.{IsOf}
 use Rattle.merkle_records.specs.Merkle.{Digest}
 use Rattle.host_core.specs.Host.{Done}
 use Rattle.host_shard.specs.Chain.{last_value}
-use Rattle.host_shard.specs.Content.{Content, cold, hot, vacant, key_path}
+use Rattle.host_shard.specs.Content.{Content, cold, hot, vacant}
 use Rattle.host_shard.specs.Shard.{tree_of}
 use Rattle.host_shard.proofs.ChainLaws.{frontier_kind, last_kind}
 use Rattle.host_plan.specs.Plan.{Owns, AreLinks, clock_after, value_found}
@@ -30,14 +31,14 @@ answer_of longest request found path whole kind = go request.put found kind
     go : (b : Bool) (v : Value) → IsOf longest path v → (answer : Option (List ℕ)) × (values.Blob answer ≡ (if b then values.Blob request.value else v))
     go true v kind = (request.value, refl)
     go false (values.Blob blob) kind = (blob, refl)
-    go false (values.Node node) kind = absurd (omega (arith, kind.0, whole))
+    go false (values.Node node) kind = absurd (data-no_node path whole kind.0)
 
 -- the links of a content that owns a key lead to it, and to data
 links_lead : (longest : ℕ) (content : Content) (request : Request) → Owns longest content request.key
     → AreLinks content request.key (links_of content request.key)
     × ((answer : Option (List ℕ)) × (values.Blob answer ≡ value_after request (value_found content (links_of content request.key))))
 links_lead longest (cold shard) request own =
-    let key = key_path request.key in
+    let key = key_path false request.key in
     let chain = shard_links_are longest shard key own.0 own.1 in (
       chain,
       answer_of longest request (last_value shard.value (links_of (cold shard) request.key)) key own.1.whole

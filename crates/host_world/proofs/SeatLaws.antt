@@ -4,10 +4,9 @@ use Rattle.std.specs.Prelude.{◌==◌, IfSome}
 use Rattle.std.proofs.lemmas.Bool.{false≢true, and_parts, leb-true, eqb-true}
 use Rattle.std.proofs.lemmas.List.{length-set}
 use Rattle.std.specs.List.{AllByRecursion, list_any}
-use Rattle.tree_keys.specs.Bits.{number_of}
-use Rattle.tree_keys.specs.BitsLaws.{length-bits_of, number_back}
-use Rattle.tree_keys.specs.Path.{side, is_prefix, IsBelow, key_bits, IsData}
+use Rattle.tree_keys.specs.Path.{side, is_prefix, IsBelow, key_bits, IsData, key_path, IsNodePath}
 use Rattle.tree_keys.proofs.SideLaws.{prefix_cases}
+use Rattle.tree_keys.proofs.TreeLaws.{data-no_node, key_path-data, key_path-injective}
 use Rattle.lamport_clocks.specs.Reading.{Reading}
 use Rattle.record_text.specs.declared.request.Request.{Request}
 use Rattle.record_text.specs.Value.{IsBlob}
@@ -16,7 +15,7 @@ use Rattle.host_core.specs.Host.{Done}
 use Rattle.host_shard.specs.declared.link.Link.{Link}
 use Rattle.host_shard.specs.declared.content.HotRecord.{HotRecord}
 use Rattle.host_shard.specs.Shard.{Shard}
-use Rattle.host_shard.specs.Content.{Content, cold, hot, vacant, key_path, pending, pending_hot}
+use Rattle.host_shard.specs.Content.{Content, cold, hot, vacant, pending, pending_hot}
 use Rattle.host_plan.specs.Moments.{renewing}
 use Rattle.host_plan.specs.Plan.{Owns, clock_after, content_after}
 use Rattle.host_laws.specs.Served.{waiting}
@@ -61,28 +60,28 @@ pub record SeatServes (longest : ℕ) (digest : Digest) (hot_keys : List (List B
 
 module _ (longest : ℕ) (digest : Digest) (seats : List Content) (mirrors : SeatsMirror longest digest seats) where
   -- one of the same paths is one of the same keys
-  same_key : (a b : ℕ) → a < 2 ^ key_bits → b < 2 ^ key_bits → key_path a ≡ key_path b → a ≡ b
-  same_key a b small also same = sym (number_back key_bits a small) ∙ (ap number_of same ∙ number_back key_bits b also)
+  same_key : (a b : ℕ) → a < 2 ^ key_bits false → b < 2 ^ key_bits false → key_path false a ≡ key_path false b → a ≡ b
+  same_key a b small also same = key_path-injective false a b small also same
 
   -- the shard
-  shard_serves : (request : Request) → request.key < 2 ^ key_bits → is_place_of longest seats 0 request ≡ true
+  shard_serves : (request : Request) → request.key < 2 ^ key_bits false → is_place_of longest seats 0 request ≡ true
       → SeatServes longest digest (hot_paths mirrors.places) (cold mirrors.shard) request
   shard_serves request small owns = record {
     own = (mirrors.mirrored.fits, record { whole = whole; below = below (prefix_cases mirrors.shard.frontier key parts.0) });
     mirrors = mirrors.mirrored;
     cold_there = λ among.
-        let found = member-one (λ r. key_path r.key) (hot_records mirrors.places) key (among-member _ key among) in
-        let same = same_key request.key found.0.key small (one_of-all (λ r. r.key < 2 ^ key_bits) (hot_records mirrors.places) found.0 mirrors.in_range found.1) found.2 in
+        let found = member-one (λ r. key_path false r.key) (hot_records mirrors.places) key (among-member _ key among) in
+        let same = same_key request.key found.0.key small (one_of-all (λ r. r.key < 2 ^ key_bits false) (hot_records mirrors.places) found.0 mirrors.in_range found.1) found.2 in
         not_so (list_any (is_hot_at request.key) (cold mirrors.shard ∷ mirrors.places)) parts.1
         (ap (λ (k : ℕ). list_any (is_hot_at k) mirrors.places) same ∙ key_found mirrors.places found.0 found.1);
     fits = blob_fits longest request.value place.1;
   }
     where
       key : List Bool
-      key = key_path request.key
+      key = key_path false request.key
 
       whole : IsData key
-      whole = length-bits_of key_bits request.key
+      whole = key_path-data false request.key
 
       place : (serves_key (cold mirrors.shard ∷ mirrors.places) request.key (cold mirrors.shard) ≡ true) × (is_blob longest request.value ≡ true)
       place =
@@ -93,7 +92,7 @@ module _ (longest : ℕ) (digest : Digest) (seats : List Content) (mirrors : Sea
       parts = and_parts (is_prefix mirrors.shard.frontier key) (not (list_any (is_hot_at request.key) (cold mirrors.shard ∷ mirrors.places))) place.0
 
       below : (mirrors.shard.frontier ≡ key) ⊎ ((on : Bool) × (side mirrors.shard.frontier key ≡ Some on)) → IsBelow mirrors.shard.frontier key
-      below (inl same) = absurd (omega (arith, mirrors.mirrored.fits.no_data, whole, ap (λ (p : List Bool). length p) same))
+      below (inl same) = absurd (data-no_node key whole (subst IsNodePath same mirrors.mirrored.fits.no_data))
       below (inr under) = ap (λ (o : Option Bool). is_some o) under.1
 
   -- a hot place
@@ -112,7 +111,7 @@ module _ (longest : ℕ) (digest : Digest) (seats : List Content) (mirrors : Sea
       }
 
   -- What a request's place has can serve it.
-  pub seat_serves : (seat : ℕ) (request : Request) → request.key < 2 ^ key_bits → is_place_of longest seats seat request ≡ true
+  pub seat_serves : (seat : ℕ) (request : Request) → request.key < 2 ^ key_bits false → is_place_of longest seats seat request ≡ true
       → SeatServes longest digest (hot_paths mirrors.places) (get_or seats seat vacant) request
   seat_serves zero request small owns =
       subst (λ (xs : List Content). SeatServes longest digest (hot_paths mirrors.places) (get_or xs 0 vacant) request) (sym mirrors.is)
@@ -172,11 +171,11 @@ module _ (longest : ℕ) (digest : Digest) (seats : List Content) (mirrors : Sea
     is = ap (λ (xs : List Content). set xs (suc k) (hot new)) mirrors.is;
     four = length-set mirrors.places k (hot new) ∙ mirrors.four;
     hot_alone = all-set IsHotPlace mirrors.places k (hot new) tt mirrors.hot_alone;
-    mirrored = subst (IsMirrored longest digest mirrors.shard) (sym (keys-set key_path mirrors.places k old new is same)) mirrors.mirrored;
+    mirrored = subst (IsMirrored longest digest mirrors.shard) (sym (keys-set (key_path false) mirrors.places k old new is same)) mirrors.mirrored;
     blobs = records-set (λ r. IsBlob longest r.value) mirrors.places k new mirrored mirrors.blobs;
-    in_range = records-set (λ r. r.key < 2 ^ key_bits) mirrors.places k new
-        (subst (λ (key : ℕ). key < 2 ^ key_bits) (sym same)
-        (one_of-all (λ r. r.key < 2 ^ key_bits) (hot_records mirrors.places) old mirrors.in_range (hot_there mirrors.places k old is))) mirrors.in_range;
+    in_range = records-set (λ r. r.key < 2 ^ key_bits false) mirrors.places k new
+        (subst (λ (key : ℕ). key < 2 ^ key_bits false) (sym same)
+        (one_of-all (λ r. r.key < 2 ^ key_bits false) (hot_records mirrors.places) old mirrors.in_range (hot_there mirrors.places k old is))) mirrors.in_range;
   }
 
   -- The seats mirror with another content at a seat, which is the same shard or hot record and mirrors.
@@ -219,7 +218,7 @@ pub record ServeKeeps (longest : ℕ) (digest : Digest) (worker : ℕ) (clock : 
   pub same_epoch : SameEpoch clock done.clock
 
 pub serve_keeps : (longest : ℕ) (digest : Digest) (worker : ℕ) (clock : Reading) (seats : List Content) (seat : ℕ) (request : Request) (done : Done Content)
-    → GivesDigests digest → SeatsMirror longest digest seats → request.key < 2 ^ key_bits → is_place_of longest seats seat request ≡ true
+    → GivesDigests digest → SeatsMirror longest digest seats → request.key < 2 ^ key_bits false → is_place_of longest seats seat request ≡ true
     → serve_at digest worker clock (get_or seats seat vacant) request ≡ Some done
     → ServeKeeps longest digest worker clock seats seat done
 serve_keeps longest digest worker clock seats seat request done digests mirrors small owns served =

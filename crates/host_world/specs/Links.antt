@@ -1,12 +1,12 @@
 -- The chain to a key as a function of the records.
-use Rattle.std.specs.Prelude.{ℕ, zero, suc, Bool, List, [], ◌∷◌, if◌then◌else◌}
-use Rattle.tree_keys.specs.Path.{side, same_path, key_bits}
+use Rattle.std.specs.Prelude.{ℕ, zero, suc, Bool, false, List, [], ◌∷◌, if◌then◌else◌}
+use Rattle.tree_keys.specs.Path.{side, same_path, key_path, depth}
 use Rattle.record_text.specs.declared.value.Value.{Value}
 use Rattle.host_shard.specs.declared.link.Link.{Link}
 use Rattle.host_shard.specs.Tree.{Tree}
 use Rattle.host_shard.specs.Chain.{next_link, pointer_toward}
 use Rattle.host_shard.specs.Shard.{Shard, tree_of}
-use Rattle.host_shard.specs.Content.{Content, cold, hot, vacant, key_path}
+use Rattle.host_shard.specs.Content.{Content, cold, hot, vacant}
 
 -- the link that comes behind a path with its value, on the way to a key
 abbrev pub link_behind : Tree → List Bool → List Bool → Value → Link
@@ -20,12 +20,12 @@ links_within (suc steps) tree key at value =
     else link_behind tree key at value
     ∷ links_within steps tree key (link_behind tree key at value).path (link_behind tree key at value).taken
 
--- The links from a shard's frontier to a path: no chain has more than a key has bits.
+-- The links from a shard's frontier to a path: no chain has more than bits lead to the path.
 abbrev pub links_in : Shard → List Bool → List Link
-links_in shard path = links_within key_bits (tree_of shard) path shard.frontier shard.value
+links_in shard path = links_within (depth path) (tree_of shard) path shard.frontier shard.value
 
 -- the links from what a content waits with to a key
 abbrev pub links_of : Content → ℕ → List Link
-links_of (cold shard) key = links_in shard (key_path key)
+links_of (cold shard) key = links_in shard (key_path false key)
 links_of (hot record') key = []
 links_of vacant key = []

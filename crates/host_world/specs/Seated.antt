@@ -1,5 +1,5 @@
 -- Seats that mirror what the verifiers hold of them: a shard, and its hot places.
-use Rattle.std.specs.Prelude.{ℕ, ◌≡◌, ◌^◌, ◌<◌, List, ◌∷◌, length}
+use Rattle.std.specs.Prelude.{ℕ, ◌≡◌, ◌^◌, ◌<◌, false, List, ◌∷◌, length}
 use Rattle.std.specs.List.{AllByRecursion, flat_map}
 use Rattle.tree_keys.specs.Path.{key_bits}
 use Rattle.record_text.specs.declared.element.Element.{Element}
@@ -32,4 +32,4 @@ pub record SeatsMirror (longest : ℕ) (digest : Digest) (seats : List Content) 
   pub hot_alone : AllByRecursion IsHotPlace places
   pub mirrored : IsMirrored longest digest shard (hot_paths places)
   pub blobs : AllByRecursion (λ found. IsBlob longest found.value) (hot_records places)
-  pub in_range : AllByRecursion (λ found. found.key < 2 ^ key_bits) (hot_records places)
+  pub in_range : AllByRecursion (λ found. found.key < 2 ^ key_bits false) (hot_records places)

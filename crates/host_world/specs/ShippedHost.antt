@@ -1,7 +1,7 @@
 -- The host that is shipped.
 use Rattle.std.specs.Prelude.{ℕ, ◌^◌, ◌==◌, ◌&&◌, Bool, false, not, List, [], ◌∷◌, length, map, get_or, replicate, nat_lt, nat_le, Option, Some, None, if◌then◌else◌}
 use Rattle.std.specs.List.{list_any}
-use Rattle.tree_keys.specs.Path.{is_prefix}
+use Rattle.tree_keys.specs.Path.{is_prefix, key_path}
 use Rattle.lamport_clocks.specs.Reading.{Reading}
 use Rattle.lamport_clocks.specs.declared.header.Header.{Header}
 use Rattle.record_hash.specs.Functions.{DigestFunctions}
@@ -11,7 +11,7 @@ use Rattle.merkle_records.specs.Merkle.{Digest}
 use Rattle.merkle_records.specs.Scheme.{scheme_of}
 use Rattle.verifier_cache.specs.Cache.{Held}
 use Rattle.host_core.specs.Host.{Done, Host}
-use Rattle.host_shard.specs.Content.{Content, cold, hot, vacant, key_path, pending}
+use Rattle.host_shard.specs.Content.{Content, cold, hot, vacant, pending}
 use Rattle.host_plan.specs.Plan.{clock_after, commands_of, content_after}
 use Rattle.host_plan.specs.Setup.{setup_commands, setup_contents}
 use Rattle.host_laws.specs.Served.{waiting}
@@ -41,7 +41,7 @@ is_blob longest (Some bytes) = nat_le (length bytes) longest
 -- A content serves a key among the seats of its shard: a shard those below its frontier that are not hot, and a hot record
 -- its own.
 abbrev pub serves_key : List Content → ℕ → Content → Bool
-serves_key seats key (cold shard) = is_prefix shard.frontier (key_path key) && not (list_any (is_hot_at key) seats)
+serves_key seats key (cold shard) = is_prefix shard.frontier (key_path false key) && not (list_any (is_hot_at key) seats)
 serves_key seats key (hot record') = record'.key == key
 serves_key seats key vacant = false
 

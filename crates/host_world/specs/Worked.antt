@@ -1,5 +1,6 @@
 -- Logs that are worked out: what a host of two shards logs for small scripts.
 use Rattle.std.specs.Prelude.{ℕ, Bool, true, false, List, [], ◌∷◌, ◌++◌, Option, Some, None}
+use Rattle.tree_keys.specs.Path.{key_path, root_of}
 use Rattle.lamport_clocks.specs.declared.stamp.Stamp.{Stamp}
 use Rattle.lamport_clocks.specs.Header.{header_by_path}
 use Rattle.record_hash.specs.Functions.{DigestFunctions}
@@ -12,7 +13,6 @@ use Rattle.log_codec.specs.declared.command.Command.TheVariants.{AddM, EvictM, A
 use Rattle.merkle_records.specs.Merkle.{pointer_to}
 use Rattle.host_core.specs.World.{Place, logs_of, set_up}
 use Rattle.host_core.specs.WorldEvent.{WorldEvent, takes, serves, gives, advances, moves, AreEnabled, run_events}
-use Rattle.host_shard.specs.Content.{key_path}
 use Rattle.script_text.specs.declared.task.Task.{Task}
 use Rattle.host_world.specs.declared.fault.ClockEnd.{ClockEnd}
 use Rattle.host_world.specs.declared.settings.Settings.{Settings}
@@ -27,12 +27,15 @@ two_shards workers end = record { header = header_by_path workers 128 0 end; sha
 abbrev pub most : ℕ
 most = 16777215
 
--- the frontiers of the two shards
+-- the root of the host's tree, and the frontiers of the two shards below it
+abbrev pub root : List Bool
+root = root_of false
+
 abbrev pub left : List Bool
-left = false ∷ []
+left = root ++ false ∷ []
 
 abbrev pub right : List Bool
-right = true ∷ []
+right = root ++ true ∷ []
 
 abbrev pub stamp : ℕ → ℕ → Stamp
 stamp epoch counter = record { epoch = epoch; counter = counter }
@@ -40,8 +43,8 @@ stamp epoch counter = record { epoch = epoch; counter = counter }
 -- what worker 0 logs for the setup
 abbrev pub setup_log : List Command
 setup_log =
-    AddM left (values.Node empty_node) [] ∷ EvictBM left [] (stamp 0 1)
-    ∷ AddM right (values.Node empty_node) [] ∷ EvictBM right [] (stamp 0 2) ∷ []
+    AddM left (values.Node empty_node) root ∷ EvictBM left root (stamp 0 1)
+    ∷ AddM right (values.Node empty_node) root ∷ EvictBM right root (stamp 0 2) ∷ []
 
 -- the last close, as events
 abbrev pub last_close : List (WorldEvent Request)
@@ -62,7 +65,7 @@ logs_behind functions settings script events =
 -- ---- a put and a get of one key
 
 abbrev pub five : List Bool
-five = key_path 5
+five = key_path false 5
 
 abbrev pub put_five : Option (List ℕ) → Request
 put_five value = record { put = true; key = 5; value = value }

@@ -1,5 +1,6 @@
 -- More logs that are worked out: workers at two shards, a key that is deleted, keys that part at their last bit, four shards.
 use Rattle.std.specs.Prelude.{ℕ, ◌+◌, Bool, true, false, List, [], ◌∷◌, ◌++◌, replicate, Option, Some, None}
+use Rattle.tree_keys.specs.Path.{key_path}
 use Rattle.lamport_clocks.specs.Header.{header_by_path}
 use Rattle.record_hash.specs.Functions.{DigestFunctions}
 use Rattle.record_text.specs.declared.request.Request.{Request}
@@ -11,9 +12,8 @@ use Rattle.log_codec.specs.declared.command.Command.TheVariants.{AddM, EvictM, A
 use Rattle.merkle_records.specs.Merkle.{pointer_to}
 use Rattle.host_core.specs.World.{Place}
 use Rattle.host_core.specs.WorldEvent.{WorldEvent, takes, serves, gives, advances, moves}
-use Rattle.host_shard.specs.Content.{key_path}
 use Rattle.host_world.specs.declared.settings.Settings.{Settings}
-use Rattle.host_world.specs.Worked.{left, right, stamp, most, bytes, five, put_five, get_five, setup_log, frontier_of, request_at, request_log, left_log, right_log, serving, last_close, close_of_two, first_close, value_a, value_b}
+use Rattle.host_world.specs.Worked.{root, left, right, stamp, most, bytes, five, put_five, get_five, setup_log, frontier_of, request_at, request_log, left_log, right_log, serving, last_close, close_of_two, first_close, value_a, value_b}
 
 -- no value
 abbrev pub nothing : Value
@@ -50,14 +50,14 @@ get key = record { put = false; key = key; value = None }
 -- ---- two workers, each at a shard of its own
 
 abbrev pub seven : List Bool
-seven = key_path 7
+seven = key_path false 7
 
 -- the first key of the right shard
 abbrev pub middle : ℕ
 middle = 9223372036854775808
 
 abbrev pub middle_path : List Bool
-middle_path = key_path middle
+middle_path = key_path false middle
 
 -- Worker 1 puts at the right shard, and worker 0 asks for a key of the left one that has no record.
 abbrev pub apart_events : List (WorldEvent Request)
@@ -91,21 +91,21 @@ deleted_log functions =
 -- ---- keys that part at their last bit
 
 abbrev pub key_0 : List Bool
-key_0 = key_path 0
+key_0 = key_path false 0
 
 abbrev pub key_1 : List Bool
-key_1 = key_path 1
+key_1 = key_path false 1
 
 -- the last key, and its path
 abbrev pub last : ℕ
 last = 18446744073709551615
 
 abbrev pub last_path : List Bool
-last_path = key_path last
+last_path = key_path false last
 
 -- where the keys 0 and 1 part
 abbrev pub fork : List Bool
-fork = replicate 63 false
+fork = root ++ replicate 63 false
 
 abbrev pub fork_value : DigestFunctions → Value
 fork_value functions = node_of functions key_0 value_a key_1 value_b
@@ -150,16 +150,21 @@ parted_log functions =
 abbrev pub four_shards : Settings
 four_shards = record { header = header_by_path 1 128 0 most; shards = 4; hot = None }
 
--- a frontier of two bits, and what is logged as it is set up
+-- a frontier two bits below the root
 abbrev pub at : Bool → Bool → List Bool
-at b c = b ∷ c ∷ []
+at b c = root ++ b ∷ c ∷ []
 
+-- and the path above it
+abbrev pub above : Bool → List Bool
+above b = root ++ b ∷ []
+
+-- what is logged as two frontiers are set up
 abbrev pub set_up_pair : Bool → ℕ → List Command
 set_up_pair b counter =
-    AddM (b ∷ []) (values.Node empty_node) []
-    ∷ AddM (at b false) (values.Node empty_node) (b ∷ []) ∷ EvictBM (at b false) (b ∷ []) (stamp 0 counter)
-    ∷ AddM (at b true) (values.Node empty_node) (b ∷ []) ∷ EvictBM (at b true) (b ∷ []) (stamp 0 (counter + 1))
-    ∷ EvictM (b ∷ []) [] ∷ []
+    AddM (above b) (values.Node empty_node) root
+    ∷ AddM (at b false) (values.Node empty_node) (above b) ∷ EvictBM (at b false) (above b) (stamp 0 counter)
+    ∷ AddM (at b true) (values.Node empty_node) (above b) ∷ EvictBM (at b true) (above b) (stamp 0 (counter + 1))
+    ∷ EvictM (above b) root ∷ []
 
 -- what moving an untouched shard logs
 abbrev pub untouched_log : Bool → Bool → ℕ → ℕ → List Command

@@ -1,12 +1,13 @@
 //! Where a request is served.
 ghost use Rattle.std.specs.Prelude.{◌≡◌, ◌≢◌, ◌<◌, true, false, length, take, get_or, map};
 ghost use Rattle.std.specs.List.{list_any};
-ghost use Rattle.tree_keys.specs.Bits.{number_of};
+ghost use Rattle.tree_keys.specs.Bits.{number_of, bits_of};
+ghost use Rattle.tree_keys.specs.Path.{key_bits};
 ghost use Rattle.record_text.specs.Longest.{longest_blob};
 ghost use Rattle.host_core.specs.World.{shard_at};
 ghost use Rattle.host_core.specs.WorldEvent.{IsPlace};
 ghost use Rattle.host_plan.specs.Setup.{IsShardCount};
-ghost use Rattle.host_shard.specs.Content.{vacant, key_path};
+ghost use Rattle.host_shard.specs.Content.{vacant};
 ghost use Rattle.host_shard.specs.Shown.{shown_content};
 ghost use Rattle.protection_moves.specs.Stage.{is_hot_at};
 ghost use Rattle.host_world.specs.Behind.{host_of, StandsBehind};
@@ -36,7 +37,7 @@ fn fits(value: &Blob) -> bool
 // The number of the shard below whose frontier a key lies: that of the key's first bits, as many as a frontier has.
 fn shard_of(key: u64, shards: u32) -> u32
     requires shards { IsShardCount shards }
-    ensures first_bits { result ≡ number_of (take (frontier_bits shards) (key_path key)) }
+    ensures first_bits { result ≡ number_of (take (frontier_bits shards) (bits_of (key_bits false) key)) }
     ensures there { result < shards }
 {
     let bits = shards.ilog2();

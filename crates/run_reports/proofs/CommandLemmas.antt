@@ -6,6 +6,7 @@ use Rattle.std.proofs.lemmas.Bool.Decides.{nat_tests}
 use Rattle.std.proofs.lemmas.Option.{none-some, same_Some}
 use Rattle.std.proofs.lemmas.Result.{IfOk-at_ok}
 use Rattle.tree_keys.specs.Path.{side, same_path, IsPath, is_data}
+use Rattle.tree_keys.proofs.TreeLaws.{data-path, node-path}
 use Rattle.lamport_clocks.specs.declared.stamp.Stamp.{Stamp}
 use Rattle.lamport_clocks.specs.Clock.{received, sent, advanced}
 use Rattle.base_words.proofs.StepLaws.{test-ok}
@@ -73,8 +74,8 @@ module _ (P : Entry → Type 0) where
 
 -- the path of a value isn't longer than a key's
 length-IsOf : (longest : ℕ) (path : List Bool) (value : Value) → IsOf longest path value → IsPath path
-length-IsOf longest path (values.Blob blob) kind = omega (arith, kind.0)
-length-IsOf longest path (values.Node node) kind = omega (arith, kind.0)
+length-IsOf longest path (values.Blob blob) kind = data-path path kind.0
+length-IsOf longest path (values.Node node) kind = node-path path kind.0
 
 -- a parent is a node above the path
 above_is : (s : Option Bool) (value : Value) (place : Parent) → above_on s (node_of value) ≡ Some place

@@ -1,5 +1,5 @@
 -- What a check makes of the logs of the shipped host.
-use Rattle.std.proofs.Common.{◌≡◌, ℕ, zero, suc, ◌+◌, ◌<◌, ◌≤◌, ◌^◌, ◌==◌, false, List, [], ◌∷◌, ◌++◌, map, length, get_or, take, Some, None, refl, sym, ◌∙◌, ap, subst, arith}
+use Rattle.std.proofs.Common.{◌≡◌, ℕ, zero, suc, ◌+◌, ◌<◌, ◌≤◌, ◌^◌, ◌==◌, false, List, [], ◌∷◌, ◌++◌, map, length, get_or, take, Some, None, refl, sym, ◌∙◌, ap, subst, arith, Bool}
 use Rattle.std.specs.List.{AllByRecursion}
 use Rattle.std.proofs.lemmas.Bool.{cond_both}
 use Rattle.std.proofs.lemmas.Grind.{flat_map-append}
@@ -10,8 +10,10 @@ use Rattle.record_text.specs.declared.exhibit.Exhibit.TheVariants.{Clean}
 use Rattle.record_text.specs.declared.request.Request.{Request}
 use Rattle.record_text.specs.Longest.{longest_blob}
 use Rattle.record_text.specs.Format.{format_of}
-use Rattle.log_codec.specs.Command.{IsPathCommand}
+use Rattle.record_text.specs.Tree.{wide_of}
+use Rattle.log_codec.specs.Command.{IsPathCommand, IsCommandIn}
 use Rattle.log_codec.specs.Log.{read_log}
+use Rattle.log_codec.specs.declared.command.Command.{Command}
 use Rattle.merkle_records.specs.Merkle.{GivesDigests}
 use Rattle.report_text.specs.declared.ending.BundleEnd.TheVariants.{Done}
 use Rattle.script_text.specs.declared.task.Task.{Task}
@@ -21,8 +23,9 @@ use Rattle.soundness.specs.History.{Event}
 use Rattle.soundness.specs.PathHistory.{path_log_events, path_log_refusal, path_histories_from}
 use Rattle.soundness.specs.StateHistory.{rules_under}
 use Rattle.soundness.specs.Certified.{all_events, added_by, certified_count, certified_operations}
-use Rattle.soundness.specs.Typed.{ArePathsTyped}
+use Rattle.soundness.specs.Typed.{ArePathsTyped, IsPathTypedIn, ArePathsTypedIn}
 use Rattle.soundness.specs.Timed.{added_among}
+use Rattle.soundness.proofs.TypedLaws.{paths_typed}
 use Rattle.bundle_report.specs.BundleReport.{histories_at, refused_among, end_of}
 use Rattle.bundle_report.specs.Headline.{certified_exhibit, exhibit_at}
 use Rattle.host_rounds.specs.SoFar.{end_due}
@@ -46,7 +49,7 @@ module _ {C R : Type 0} (host : Host C R) where
   -- a verifier begins with nothing, or with the root
   opening_good : (number : ℕ) → host.header.first < 2 ^ 32 → IsHeader host.header → IsGood longest_blob (opening number host.header)
   opening_good number first is = record {
-    kinds = cond_both (number == 0) (root_entry ∷ []) [] (AllByRecursion (IsKind longest_blob))
+    kinds = cond_both (number == 0) (root_entry (wide_of host.header) ∷ []) [] (AllByRecursion (IsKind longest_blob))
         (λ here. ((omega arith, tt, tt), tt)) (λ here. tt);
     narrow = opening_narrow number host.header first (omega (arith, is.end));
   }
@@ -111,6 +114,17 @@ KeepsPromise =
     → AreEnabled (shipped_host functions settings script) (set_up (shipped_host functions settings script)) events
     → IsPromised (shipped_host functions settings script) (run_events (shipped_host functions settings script) (set_up (shipped_host functions settings script)) events)
 
+-- Commands that are typed within a tree name its paths.
+within_tree : (wide : Bool) (longest : ℕ) (commands : List Command) → AllByRecursion (IsPathTypedIn wide longest) commands
+    → AllByRecursion (IsCommandIn wide) commands
+within_tree wide longest [] typed = tt
+within_tree wide longest (command ∷ commands) typed = (typed.0.0, within_tree wide longest commands typed.1)
+
+all_within : (wide : Bool) (longest : ℕ) (logs : List (List Command)) → ArePathsTypedIn wide longest logs
+    → AllByRecursion (AllByRecursion (IsCommandIn wide)) logs
+all_within wide longest [] typed = tt
+all_within wide longest (log ∷ logs) typed = (within_tree wide longest log typed.0, all_within wide longest logs typed.1)
+
 module _ (keeps : KeepsPromise) (functions : DigestFunctions) (settings : Settings) (script : List (List Task)) (events : List (WorldEvent Request)) where
   abbrev host : Host Content Request
   host = shipped_host functions settings script
@@ -125,21 +139,27 @@ module _ (keeps : KeepsPromise) (functions : DigestFunctions) (settings : Settin
     promise : IsPromised host world
     promise = keeps functions settings script events can enabled
 
+    typed : ArePathsTypedIn (wide_of settings.header) longest_blob (logs_of world)
+    typed = logs_typed functions settings script events can enabled
+
+    within : AllByRecursion (AllByRecursion (IsCommandIn (wide_of settings.header))) (logs_of world)
+    within = all_within (wide_of settings.header) longest_blob (logs_of world) typed
+
     spelled : AllByRecursion (AllByRecursion (IsPathCommand longest_blob)) (logs_of world)
     spelled =
         logs_spelled host 0 world.workers (fresh host.header) can.digests first can.in_range.header
         (λ i within. subst (λ (n : ℕ). IsAccepted (machinery host n) (opening n host.header) (worker_at host world i).log) (omega arith) (promise.accepted i within).0)
-        (logs_typed functions settings script events can enabled)
+        (paths_typed (wide_of settings.header) longest_blob (logs_of world) typed)
         (logs_add (all_events (histories host world)) (pending_in host world)
         (logs_evict (scheme host) host.header 0 (logs_of world) first (omega (arith, can.in_range.header.end)))
         promise.even)
 
     read : histories_at (scheme host) host.header texts ≡ histories host world
-    read = histories_read_back functions host.header (logs_of world) can.in_range.by_path spelled
+    read = histories_read_back functions host.header (logs_of world) can.in_range.by_path within spelled
 
     refused : refused_among (scheme host) host.header 0 (map (read_log (format_of host.header)) texts) ≡ None
     refused =
-        ap (refused_among (scheme host) host.header 0) (read_texts (format_of host.header) (logs_of world) can.in_range.by_path spelled)
+        ap (refused_among (scheme host) host.header 0) (read_texts (format_of host.header) (logs_of world) can.in_range.by_path within spelled)
         ∙ none_among (scheme host) host.header 0 (logs_of world) [] can.in_range.by_path
         (λ i within. log_accepted host world promise.accepted i (subst (λ (n : ℕ). i < n) (length-map world.workers (λ (worker : Worker). worker.log)) within))
 

@@ -10,10 +10,11 @@ use Rattle.lamport_clocks.specs.declared.header.Header.{Header}
 use Rattle.lamport_clocks.specs.Header.{names_paths}
 use Rattle.record_hash.specs.Functions.{DigestFunctions}
 use Rattle.record_text.specs.declared.refusal.Refusal.{Refusal}
+use Rattle.record_text.specs.Tree.{wide_of}
 use Rattle.log_codec.specs.declared.command.Command.{Command}
 use Rattle.log_codec.specs.declared.log_command.LogCommand.{LogCommand}
 use Rattle.log_codec.specs.declared.log_command.LogCommand.TheVariants.{ByPath}
-use Rattle.log_codec.specs.Command.{IsPathCommand}
+use Rattle.log_codec.specs.Command.{IsPathCommand, IsCommandIn}
 use Rattle.log_codec.specs.Log.{Log, whole, read_log}
 use Rattle.log_codec.proofs.LogLaws.{read_log-path_text, read_log-empty}
 use Rattle.merkle_records.specs.Scheme.{Scheme, scheme_of}
@@ -35,12 +36,12 @@ whole_log commands = record { commands = map ByPath commands; end = whole }
 
 -- What is written is read back, where commands name paths.
 pub read_texts : (format : LogFormat) (logs : List (List Command)) → format.by_path ≡ true
-    → AllByRecursion (AllByRecursion (IsPathCommand format.longest)) logs
+    → AllByRecursion (AllByRecursion (IsCommandIn format.wide)) logs → AllByRecursion (AllByRecursion (IsPathCommand format.longest)) logs
     → map (read_log format) (texts_of logs) ≡ map whole_log logs
-read_texts format [] by_path spelled = refl
-read_texts format (log ∷ logs) by_path spelled =
-    ap (λ (l : Log). l ∷ map (read_log format) (texts_of logs)) (read_log-path_text format log by_path spelled.0)
-    ∙ ap (λ (ls : List Log). whole_log log ∷ ls) (read_texts format logs by_path spelled.1)
+read_texts format [] by_path within spelled = refl
+read_texts format (log ∷ logs) by_path within spelled =
+    ap (λ (l : Log). l ∷ map (read_log format) (texts_of logs)) (read_log-path_text format log by_path within.0 spelled.0)
+    ∙ ap (λ (ls : List Log). whole_log log ∷ ls) (read_texts format logs by_path within.1 spelled.1)
 
 commands_of_whole : (logs : List (List Command)) → map (λ (log : Log). log.commands) (map whole_log logs) ≡ map (λ log. map ByPath log) logs
 commands_of_whole [] = refl
@@ -48,10 +49,10 @@ commands_of_whole (log ∷ logs) = ap (λ (ls : List (List LogCommand)). map ByP
 
 -- So the histories of the bytes are those of the commands.
 pub histories_read_back : (functions : DigestFunctions) (header : Header) (logs : List (List Command)) → names_paths header ≡ true
-    → AllByRecursion (AllByRecursion (IsPathCommand longest_blob)) logs
+    → AllByRecursion (AllByRecursion (IsCommandIn (wide_of header))) logs → AllByRecursion (AllByRecursion (IsPathCommand longest_blob)) logs
     → histories_at (scheme_of functions header) header (texts_of logs) ≡ path_histories_of (scheme_of functions header) header logs
-histories_read_back functions header logs by_path spelled =
-    ap (histories_in (scheme_of functions header) header) (read_texts (format_of header) logs by_path spelled)
+histories_read_back functions header logs by_path within spelled =
+    ap (histories_in (scheme_of functions header) header) (read_texts (format_of header) logs by_path within spelled)
     ∙ ap (histories_from (scheme_of functions header) header 0) (commands_of_whole logs)
     ∙ histories-by_path (scheme_of functions header) header 0 logs by_path
 

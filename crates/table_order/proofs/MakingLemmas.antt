@@ -5,6 +5,7 @@ use Rattle.std.proofs.lemmas.List.{length-map, length-append, length-replicate}
 use Rattle.std.proofs.lemmas.List.Concat.{flat_map-append}
 use Rattle.std.proofs.Math.ListN.{get_or-map}
 use Rattle.std.proofs.lemmas.Option.{none-some, same_Some}
+use Rattle.tree_keys.specs.Path.{root_of}
 use Rattle.lamport_clocks.specs.declared.header.Header.{Header}
 use Rattle.record_hash.specs.Functions.{DigestFunctions}
 use Rattle.record_text.specs.declared.element.Element.{Element}
@@ -142,7 +143,7 @@ module _ (functions : DigestFunctions) (settings : Settings) (script : List (Lis
         arith,
         length-map world.shards (λ (seats : Seats Content). frontier_in seats.contents),
         ap (λ (paths : List (List Bool)). length paths) (frontiers_behind functions settings script digests world behind),
-        some_paths (frontier_bits settings.shards) [],
+        some_paths (frontier_bits settings.shards) (root_of false),
       )
 
   some_seats : (s : ℕ) → s < length world.shards → 0 < length (shard_at world s).contents

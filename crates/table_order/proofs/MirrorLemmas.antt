@@ -1,10 +1,11 @@
 -- What a history makes of a content that mirrors, mirrors and is stamped in the phase.
-use Rattle.std.proofs.Common.{◌≡◌, ◌⊎◌, ℕ, zero, suc, ◌+◌, ◌*◌, ◌/◌, ◌^◌, ◌<◌, ◌≤◌, List, [], ◌∷◌, length, map, take, drop, get_or, inl, inr, refl, sym, ◌∙◌, ap, subst, arith}
+use Rattle.std.proofs.Common.{◌≡◌, ◌⊎◌, ℕ, zero, suc, ◌+◌, ◌*◌, ◌/◌, ◌^◌, ◌<◌, ◌≤◌, false, List, [], ◌∷◌, length, map, take, drop, get_or, inl, inr, refl, sym, ◌∙◌, ap, subst, arith}
 use Rattle.std.proofs.lemmas.Bool.{cases_lt}
 use Rattle.std.proofs.lemmas.List.{get_or-drop, get_or-take, length-take}
 use Rattle.std.proofs.lemmas.Option.{none-some, same_Some}
-use Rattle.tree_keys.specs.Bits.{number_of}
 use Rattle.tree_keys.specs.BitsLaws.{number_back}
+use Rattle.tree_keys.specs.Path.{key_path}
+use Rattle.tree_keys.proofs.TreeLaws.{key_path-injective}
 use Rattle.lamport_clocks.specs.Reading.{Reading}
 use Rattle.lamport_clocks.specs.declared.header.Header.{Header}
 use Rattle.record_text.specs.declared.element.Element.{Element}
@@ -15,7 +16,7 @@ use Rattle.host_shard.specs.declared.content.Content as code
 use Rattle.host_shard.specs.declared.content.Content.TheVariants.{Cold, Hot, Vacant}
 use Rattle.host_shard.specs.declared.content.HotRecord.{HotRecord}
 use Rattle.host_shard.specs.declared.link.Link.{Link}
-use Rattle.host_shard.specs.Content.{Content, cold, hot, vacant, key_path}
+use Rattle.host_shard.specs.Content.{Content, cold, hot, vacant}
 use Rattle.host_shard.specs.Shown.{shown_content}
 use Rattle.host_plan.specs.Plan.{clock_after, content_after}
 use Rattle.host_laws.specs.Mirroring.{ContentMirrors, IsCold}
@@ -58,8 +59,8 @@ hot_of_shard terms place found is = (start + here.0, omega (arith, few), there)
     there = sym (get_or-drop start terms.contents here.0 Vacant) ∙ sym (get_or-take 5 (drop start terms.contents) here.0 Vacant few) ∙ here.2
 
 -- keys of one path are one key
-same_key : (a b : ℕ) → a < 2 ^ 64 → b < 2 ^ 64 → key_path a ≡ key_path b → a ≡ b
-same_key a b small also same = sym (number_back 64 a small) ∙ ap number_of same ∙ number_back 64 b also
+same_key : (a b : ℕ) → a < 2 ^ 64 → b < 2 ^ 64 → key_path false a ≡ key_path false b → a ≡ b
+same_key a b small also same = key_path-injective false a b small also same
 
 no_hot : (shard : _) (found : HotRecord) → Cold shard ≡ Hot found → ⊥
 no_hot shard found is = cc
@@ -71,8 +72,8 @@ cold_at terms place key made small at = go (first_at terms place) refl
   where
     go : (content : code.Content) → first_at terms place ≡ content → IsCold (hot_keys_at terms place) (shown_content content) key
     go (Cold shard) is = λ among.
-        let found = member-one (λ (r : HotRecord). key_path r.key) (hot_records (shard_at_making terms place)) (key_path key)
-        (among-member (hot_keys_at terms place) (key_path key) among) in
+        let found = member-one (λ (r : HotRecord). key_path false r.key) (hot_records (shard_at_making terms place)) (key_path false key)
+        (among-member (hot_keys_at terms place) (key_path false key) among) in
         let other = hot_of_shard terms place found.0 found.1 in
         let same = same_key key found.0.key small (made.in_range other.0 found.0 other.2) found.2 in
         let here : other.0 ≡ place = at.cold other.0 found.0 other.1 other.2 (sym same) in

@@ -8,13 +8,13 @@ use Rattle.record_text.specs.declared.request.Request.{Request}
 use Rattle.record_text.specs.Longest.{longest_blob}
 use Rattle.merkle_records.specs.Merkle.{Digest, GivesDigests}
 use Rattle.script_text.specs.declared.task.Task.{Task}
-use Rattle.tree_keys.specs.Path.{IsBelow}
+use Rattle.tree_keys.specs.Path.{IsBelow, key_path}
 use Rattle.host_core.specs.World.{World, worker_at, shard_at}
 use Rattle.host_order.specs.Serving.{IsPlaceChain, content_behind, IsHad}
 use Rattle.host_order.specs.Told.{IsServed}
 use Rattle.host_shard.specs.declared.content.Content as code
 use Rattle.host_shard.specs.declared.link.Link.{Link}
-use Rattle.host_shard.specs.Content.{Content, cold, hot, vacant, key_path}
+use Rattle.host_shard.specs.Content.{Content, cold, hot, vacant}
 use Rattle.host_shard.specs.Shown.{shown_content}
 use Rattle.host_plan.specs.Plan.{Owns, CanServe, IsPlan, clock_after, content_after}
 use Rattle.host_laws.specs.Mirroring.{ContentMirrors, IsCold}
@@ -83,7 +83,7 @@ still vacant = tt
 pub owns_still : (digest : Digest) (hot_keys : List (List Bool)) (old new : Content) (key : ℕ) → IsStill old new
     → ContentMirrors longest_blob digest hot_keys new → Owns longest_blob old key → Owns longest_blob new key
 owns_still digest hot_keys (cold old) (cold new) key same mirrors own =
-    (mirrors.fits, record { whole = own.1.whole; below = subst (λ (path : List Bool). IsBelow path (key_path key)) (sym same) own.1.below })
+    (mirrors.fits, record { whole = own.1.whole; below = subst (λ (path : List Bool). IsBelow path (key_path false key)) (sym same) own.1.below })
 owns_still digest hot_keys (cold old) (hot new) key same mirrors own = absurd same
 owns_still digest hot_keys (cold old) vacant key same mirrors own = absurd same
 owns_still digest hot_keys (hot old) (cold new) key same mirrors own = absurd same
