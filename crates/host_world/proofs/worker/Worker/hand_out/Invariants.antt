@@ -1,4 +1,4 @@
-use Rattle.std.proofs.Common.{◌≡◌, ◌++◌, length, take}
+use Rattle.std.proofs.Common.{◌≡◌, ◌++◌, take}
 use Rattle.std.specs.List.{flat_map}
 use Rattle.log_codec.specs.Log.{path_log_text}
 use Rattle.host_world.proofs.worker.Worker.hand_out.Given as goal
