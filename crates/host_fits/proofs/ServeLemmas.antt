@@ -6,7 +6,6 @@ use Rattle.std.proofs.lemmas.Bool.{ltb-true}
 use Rattle.std.proofs.lemmas.Bool.Decides.{nat_tests}
 use Rattle.soundness.specs.Typed.{IsPathTypedIn}
 use Rattle.tree_keys.specs.Bits.{number_of}
-use Rattle.tree_keys.specs.BitsLaws.{number_back}
 use Rattle.tree_keys.specs.Path.{key_bits, root_of, IsIn}
 use Rattle.tree_keys.proofs.TreeLaws.{key_of-path}
 use Rattle.lamport_clocks.specs.declared.stamp.Stamp.{Stamp}
