@@ -3,7 +3,6 @@ use Rattle.std.proofs.Common.{◌≡◌, ◌⊎◌, ℕ, zero, suc, ◌+◌, ◌
 use Rattle.std.proofs.lemmas.Bool.{cases_lt}
 use Rattle.std.proofs.lemmas.List.{get_or-drop, get_or-take, length-take}
 use Rattle.std.proofs.lemmas.Option.{none-some, same_Some}
-use Rattle.tree_keys.specs.BitsLaws.{number_back}
 use Rattle.tree_keys.specs.Path.{key_path}
 use Rattle.tree_keys.proofs.TreeLaws.{key_path-injective}
 use Rattle.lamport_clocks.specs.Reading.{Reading}
