@@ -1,4 +1,6 @@
 //! Eight texts at once, and digests of which some are known: each answer is that of the one call for the one text.
+ghost use Rattle.std.specs.Prelude.{◌+◌, ◌*◌, ◌≤◌};
+
 use crate::rows::{same, same_bytes};
 use record_hash::{Digests, KnownDigests, ShaDigests, ToyDigests};
 use std::process::Abort;
@@ -64,8 +66,18 @@ fn a_known_text_is_compared(rt: HostRuntime) {
         lanes: Some((b"abc", lanes)),
     };
     for text in [&b"abc"[..], &b"abd"[..], &b"ab"[..], &b""[..]] {
-        same_bytes(&rt, "digest", &known.text_digest(text), &sha.text_digest(text));
-        same(&rt, "lanes", &known.element_lanes(text), &sha.element_lanes(text));
+        same_bytes(
+            &rt,
+            "digest",
+            &known.text_digest(text),
+            &sha.text_digest(text),
+        );
+        same(
+            &rt,
+            "lanes",
+            &known.element_lanes(text),
+            &sha.element_lanes(text),
+        );
         same_bytes(&rt, "tag", &known.tag(text), &sha.tag(text));
     }
     let message = message();
