@@ -1,5 +1,6 @@
 //! Plans, beside the rows that `tools/slow/plans.py` prints for the same requests.
-ghost use Rattle.std.specs.Prelude.{◌≡◌, ◌∷◌, [], true, false};
+ghost use Rattle.std.specs.Prelude.{◌≡◌, ◌∷◌, ◌++◌, [], true, false};
+ghost use Rattle.tree_keys.specs.Path.{root_of};
 ghost use Rattle.lamport_clocks.specs.Header.{IsHeader};
 ghost use Rattle.record_text.specs.Longest.{longest_blob};
 ghost use Rattle.host_shard.specs.Shown.{shown_content};
@@ -248,8 +249,8 @@ fn request_by(number: u64) -> Option<Request> {
 
 // Serves so many requests, and compares each answer with what a plain map has at the key.
 fn serve_many<D: Digests>(rt: &impl Abort, alloc: Global, d: &D, host: &mut Host, count: u32)
-    requires low { OwnsBelow (false ∷ []) (shown_content host.old.low) }
-    requires high { OwnsBelow (true ∷ []) (shown_content host.old.high) }
+    requires low { OwnsBelow (root_of false ++ false ∷ []) (shown_content host.old.low) }
+    requires high { OwnsBelow (root_of false ++ true ∷ []) (shown_content host.old.high) }
 {
     let mut map = PlainMap::new(alloc);
     let mut x = 5;

@@ -1,10 +1,11 @@
-use Rattle.std.proofs.Common.{[], ◌∷◌, true, false}
+use Rattle.std.proofs.Common.{[], ◌∷◌, ◌++◌, true, false}
+use Rattle.tree_keys.specs.Path.{root_of}
 use Rattle.host_shard.specs.Shown.{shown_content}
 use Rattle.host_tests.specs.Owned.{OwnsBelow}
 use Rattle.host_tests.proofs.plans.serve_many.Given as goal
 
 abbrev pub invariant-loop : goal.invariant-loop
 invariant-loop g l = record {
-  low : OwnsBelow (false ∷ []) (shown_content l.host.low);
-  high : OwnsBelow (true ∷ []) (shown_content l.host.high);
+  low : OwnsBelow (root_of false ++ false ∷ []) (shown_content l.host.low);
+  high : OwnsBelow (root_of false ++ true ∷ []) (shown_content l.host.high);
 }
