@@ -16,7 +16,7 @@ pub mod BetweenLaws
 pub mod FrontierLaws
 pub mod RequestLaws
 pub mod NumberLaws
-pub mod ContentsLaws
+mod ContentsLaws
 pub mod SetUpLaws
 mod PartLemmas
 pub mod MirrorLaws
