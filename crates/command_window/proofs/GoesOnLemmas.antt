@@ -1,151 +1,132 @@
--- Commands of a window of which more is known.
-use Rattle.std.proofs.Common.{◌≡◌, ℕ, zero, suc, ◌<◌, ◌≤◌, List, [], ◌∷◌, length, take, drop, slice_set, slice_index_or, Some, refl, sym, ◌∙◌, ap, subst, arith}
+-- Texts of a window of which more is known.
+use Rattle.std.proofs.Common.{◌≡◌, ℕ, zero, suc, ◌<◌, ◌≤◌, List, [], ◌∷◌, length, slice_set, slice_index_or, take, drop, Some, refl, sym, ◌∙◌, ap, arith}
+use Rattle.std.proofs.lemmas.Option.{none-some}
 use Rattle.record_hash.specs.Functions.{DigestFunctions}
-use Rattle.record_text.specs.Format.{LogFormat}
-use Rattle.log_codec.specs.declared.log_command.LogCommand.{LogCommand}
-use Rattle.log_codec.specs.LogCommand.{command_text, IsCommand}
-use Rattle.command_window.specs.declared.read_command.AskedDigest.{AskedDigest}
-use Rattle.command_window.specs.declared.read_command.AskedLanes.{AskedLanes}
-use Rattle.command_window.specs.declared.read_command.ReadCommand.{ReadCommand}
-use Rattle.command_window.specs.Window.{AreReadOf, IsRightOf, text_of_digest, text_of_lanes, digest_text, lanes_text, GoesOn}
+use Rattle.command_window.specs.declared.read_command.Asked.{Asked}
+use Rattle.command_window.specs.Window.{IsUnknown, IsForgotten, AreForgotten, IsRight, AreRight, text_at, GoesOn}
 
 -- nothing more is known
-pub goes_on-same : (functions : DigestFunctions) (reads : List ReadCommand) → GoesOn functions reads reads
-goes_on-same functions reads = record { read = λ format bytes are. are; right = λ are. are; count = refl; digests = λ place. refl; lanes = λ place. refl }
+pub goes_on-same : (functions : DigestFunctions) (asked : List Asked) → GoesOn functions asked asked
+goes_on-same functions asked = record { right = λ are. are; count = refl; texts = λ place. refl }
 
 -- more and then more
-pub goes_on-then : (functions : DigestFunctions) (first second third : List ReadCommand) → GoesOn functions first second → GoesOn functions second third → GoesOn functions first third
+pub goes_on-then : (functions : DigestFunctions) (first second third : List Asked) → GoesOn functions first second → GoesOn functions second third → GoesOn functions first third
 goes_on-then functions first second third one two = record {
-  read = λ format bytes are. two.read format bytes (one.read format bytes are);
   right = λ are. two.right (one.right are);
   count = two.count ∙ one.count;
-  digests = λ place. two.digests place ∙ one.digests place;
-  lanes = λ place. two.lanes place ∙ one.lanes place;
+  texts = λ place. two.texts place ∙ one.texts place;
 }
 
--- a command and more, of which more is known
-goes_on-behind : (functions : DigestFunctions) (first : ReadCommand) (old new : List ReadCommand) → GoesOn functions old new → GoesOn functions (first ∷ old) (first ∷ new)
-goes_on-behind functions first old new more = record {
-  read = λ format bytes are. (are.0, more.read format (drop first.len bytes) are.1);
+-- the same text, of which more is known
+pub record KnowsMore (functions : DigestFunctions) (old new : Asked) : Type 0 where
+  pub text : new.text.items ≡ old.text.items
+  pub right : IsRight functions old → IsRight functions new
+
+-- one that is as it was, and others of which more is known
+goes_on-behind : (functions : DigestFunctions) (one : Asked) (old new : List Asked) → GoesOn functions old new → GoesOn functions (one ∷ old) (one ∷ new)
+goes_on-behind functions one old new more = record {
   right = λ are. (are.0, more.right are.1);
   count = ap (λ (n : ℕ). suc n) more.count;
-  digests = digests;
-  lanes = lanes;
+  texts = texts;
 }
   where
-    digests : (place : ℕ) → digest_text (first ∷ new) place ≡ digest_text (first ∷ old) place
-    digests zero = refl
-    digests (suc place) = more.digests place
+    texts : (place : ℕ) → text_at (one ∷ new) place ≡ text_at (one ∷ old) place
+    texts zero = refl
+    texts (suc place) = more.texts place
 
-    lanes : (place : ℕ) → lanes_text (first ∷ new) place ≡ lanes_text (first ∷ old) place
-    lanes zero = refl
-    lanes (suc place) = more.lanes place
-
--- the same command, of which more is known
-pub record KnowsMore (functions : DigestFunctions) (old new : ReadCommand) : Type 0 where
-  pub command : new.command ≡ old.command
-  pub len : new.len ≡ old.len
-  pub digest : text_of_digest new.digest ≡ text_of_digest old.digest
-  pub lanes : text_of_lanes new.lanes ≡ text_of_lanes old.lanes
-  pub right : IsRightOf functions old → IsRightOf functions new
-
-goes_on-first : (functions : DigestFunctions) (old new : ReadCommand) (reads : List ReadCommand) → KnowsMore functions old new → GoesOn functions (old ∷ reads) (new ∷ reads)
-goes_on-first functions old new reads more = record {
-  read = read;
+-- one of which more is known, in its place
+pub goes_on-at : (functions : DigestFunctions) (asked : List Asked) (place : ℕ) (new other : Asked)
+    → place < length asked → KnowsMore functions (slice_index_or asked place other) new → GoesOn functions asked (slice_set asked place new)
+goes_on-at functions [] place new other there more = absurd (omega arith)
+goes_on-at functions (one ∷ asked) zero new other there more = record {
   right = λ are. (more.right are.0, are.1);
   count = refl;
-  digests = digests;
-  lanes = lanes;
+  texts = texts;
 }
   where
-    read : (format : LogFormat) (bytes : List ℕ) → AreReadOf format bytes (old ∷ reads) → AreReadOf format bytes (new ∷ reads)
-    read format bytes are = (
-      record {
-        kind = subst (λ (c : LogCommand). IsCommand format c) (sym more.command) are.0.kind;
-        text = ap (λ (n : ℕ). take n bytes) more.len ∙ (are.0.text ∙ ap command_text (sym more.command));
-        some = subst (λ (n : ℕ). 0 < n) (sym more.len) are.0.some;
-        within = subst (λ (n : ℕ). n ≤ length bytes) (sym more.len) are.0.within;
-      },
-      subst (λ (n : ℕ). AreReadOf format (drop n bytes) reads) (sym more.len) are.1,
-    )
+    texts : (place : ℕ) → text_at (new ∷ asked) place ≡ text_at (one ∷ asked) place
+    texts zero = more.text
+    texts (suc place) = refl
+goes_on-at functions (one ∷ asked) (suc place) new other there more =
+    goes_on-behind functions one asked (slice_set asked place new) (goes_on-at functions asked place new other (omega arith) more)
 
-    digests : (place : ℕ) → digest_text (new ∷ reads) place ≡ digest_text (old ∷ reads) place
-    digests zero = more.digest
-    digests (suc place) = refl
+-- ---- the text at a place
 
-    lanes : (place : ℕ) → lanes_text (new ∷ reads) place ≡ lanes_text (old ∷ reads) place
-    lanes zero = more.lanes
-    lanes (suc place) = refl
+pub text-at : (asked : List Asked) (place : ℕ) (other : Asked) → place < length asked → text_at asked place ≡ (slice_index_or asked place other).text.items
+text-at [] place other there = absurd (omega arith)
+text-at (one ∷ asked) zero other there = refl
+text-at (one ∷ asked) (suc place) other there = text-at asked place other (omega arith)
 
--- one command of which more is known, in its place
-pub goes_on-at : (functions : DigestFunctions) (reads : List ReadCommand) (place : ℕ) (old new other : ReadCommand)
-    → place < length reads → slice_index_or reads place other ≡ old → KnowsMore functions old new → GoesOn functions reads (slice_set reads place new)
-goes_on-at functions [] place old new other there is more = absurd (omega arith)
-goes_on-at functions (read ∷ reads) zero old new other there is more =
-    subst (λ (r : ReadCommand). GoesOn functions (r ∷ reads) (new ∷ reads)) (sym is) (goes_on-first functions old new reads more)
-goes_on-at functions (read ∷ reads) (suc place) old new other there is more =
-    goes_on-behind functions read reads (slice_set reads place new) (goes_on-at functions reads place old new other (omega arith) is more)
-
--- ---- the text that the command at a place asks for
-
-pub digest_text-at : (reads : List ReadCommand) (place : ℕ) (read other : ReadCommand) → place < length reads → slice_index_or reads place other ≡ read
-    → digest_text reads place ≡ text_of_digest read.digest
-digest_text-at [] place read other there is = absurd (omega arith)
-digest_text-at (first ∷ reads) zero read other there is = ap (λ (r : ReadCommand). text_of_digest r.digest) is
-digest_text-at (first ∷ reads) (suc place) read other there is = digest_text-at reads place read other (omega arith) is
-
-pub lanes_text-at : (reads : List ReadCommand) (place : ℕ) (read other : ReadCommand) → place < length reads → slice_index_or reads place other ≡ read
-    → lanes_text reads place ≡ text_of_lanes read.lanes
-lanes_text-at [] place read other there is = absurd (omega arith)
-lanes_text-at (first ∷ reads) zero read other there is = ap (λ (r : ReadCommand). text_of_lanes r.lanes) is
-lanes_text-at (first ∷ reads) (suc place) read other there is = lanes_text-at reads place read other (omega arith) is
-
-pub digest_text-past : (reads : List ReadCommand) (place : ℕ) → length reads ≤ place → digest_text reads place ≡ []
-digest_text-past [] place past = refl
-digest_text-past (first ∷ reads) zero past = absurd (omega arith)
-digest_text-past (first ∷ reads) (suc place) past = digest_text-past reads place (omega arith)
-
-pub lanes_text-past : (reads : List ReadCommand) (place : ℕ) → length reads ≤ place → lanes_text reads place ≡ []
-lanes_text-past [] place past = refl
-lanes_text-past (first ∷ reads) zero past = absurd (omega arith)
-lanes_text-past (first ∷ reads) (suc place) past = lanes_text-past reads place (omega arith)
+pub text-past : (asked : List Asked) (place : ℕ) → length asked ≤ place → text_at asked place ≡ []
+text-past [] place past = refl
+text-past (one ∷ asked) zero past = absurd (omega arith)
+text-past (one ∷ asked) (suc place) past = text-past asked place (omega arith)
 
 -- ---- what is noted
 
--- the digest of a text, noted where it is asked for
-pub digest_noted : (functions : DigestFunctions) (reads : List ReadCommand) (place : ℕ) (read other : ReadCommand) (asked : AskedDigest) (digest : List ℕ)
-    → place < length reads → slice_index_or reads place other ≡ read → read.digest ≡ Some asked → digest ≡ functions.digest (digest_text reads place)
-    → GoesOn functions reads (slice_set reads place (record read { digest = Some (record asked { digest = Some digest }) }))
-digest_noted functions reads place read other asked digest there is asks value =
-    goes_on-at functions reads place read _ other there is (record {
-      command = refl;
-      len = refl;
-      digest = ap text_of_digest (sym asks);
-      lanes = refl;
-      right = λ right. ((λ found same. some_same found digest same ∙ known), right.1);
+some_same : {A : Type 0} (found noted : A) → Some noted ≡ Some found → found ≡ noted
+some_same found noted same = cc
+
+-- the digest of a text, noted
+pub digest_noted : (functions : DigestFunctions) (asked : List Asked) (place : ℕ) (other : Asked) (digest : List ℕ)
+    → place < length asked → digest ≡ functions.digest (text_at asked place)
+    → GoesOn functions asked (slice_set asked place (record (slice_index_or asked place other) { digest = Some digest }))
+digest_noted functions asked place other digest there value =
+    goes_on-at functions asked place _ other there (record {
+      text = refl;
+      right = λ right. record {
+        digest = λ found same. some_same found digest same ∙ (value ∙ ap functions.digest (text-at asked place other there));
+        lanes = right.lanes;
+      };
     })
-  where
-    known : digest ≡ functions.digest asked.text.items
-    known = value ∙ ap functions.digest (digest_text-at reads place read other there is ∙ ap text_of_digest asks)
 
-    some_same : (found digest : List ℕ) → Some digest ≡ Some found → found ≡ digest
-    some_same found digest same = cc
-
--- the lanes of a text, noted where they are asked for
-pub lanes_noted : (functions : DigestFunctions) (reads : List ReadCommand) (place : ℕ) (read other : ReadCommand) (asked : AskedLanes) (lanes : List ℕ)
-    → place < length reads → slice_index_or reads place other ≡ read → read.lanes ≡ Some asked → lanes ≡ functions.lanes (lanes_text reads place)
-    → GoesOn functions reads (slice_set reads place (record read { lanes = Some (record asked { lanes = Some lanes }) }))
-lanes_noted functions reads place read other asked lanes there is asks value =
-    goes_on-at functions reads place read _ other there is (record {
-      command = refl;
-      len = refl;
-      digest = refl;
-      lanes = ap text_of_lanes (sym asks);
-      right = λ right. (right.0, (λ found same. some_same found lanes same ∙ known));
+-- its lanes
+pub lanes_noted : (functions : DigestFunctions) (asked : List Asked) (place : ℕ) (other : Asked) (lanes : List ℕ)
+    → place < length asked → lanes ≡ functions.lanes (text_at asked place)
+    → GoesOn functions asked (slice_set asked place (record (slice_index_or asked place other) { lanes = Some lanes }))
+lanes_noted functions asked place other lanes there value =
+    goes_on-at functions asked place _ other there (record {
+      text = refl;
+      right = λ right. record {
+        digest = right.digest;
+        lanes = λ found same. some_same found lanes same ∙ (value ∙ ap functions.lanes (text-at asked place other there));
+      };
     })
-  where
-    known : lanes ≡ functions.lanes asked.text.items
-    known = value ∙ ap functions.lanes (lanes_text-at reads place read other there is ∙ ap text_of_lanes asks)
 
-    some_same : (found lanes : List ℕ) → Some lanes ≡ Some found → found ≡ lanes
-    some_same found lanes same = cc
+-- ---- what is not known is right
+
+pub right-unknown : (functions : DigestFunctions) (asked : Asked) → IsUnknown asked → IsRight functions asked
+right-unknown functions asked unknown = record {
+  digest = λ digest is. absurd (none-some digest (sym unknown.digest ∙ is));
+  lanes = λ lanes is. absurd (none-some lanes (sym unknown.lanes ∙ is));
+}
+
+-- what is forgotten is right
+pub right-forgotten : (functions : DigestFunctions) (asked : List Asked) → AreForgotten asked → AreRight functions asked
+right-forgotten functions [] are = tt
+right-forgotten functions (one ∷ asked) are = (right-unknown functions one are.0.unknown, right-forgotten functions asked are.1)
+
+-- the first that is forgotten
+pub forgotten-at : (asked : List Asked) (place : ℕ) (other : Asked) → place < length asked → AreForgotten (drop place asked) → IsForgotten (slice_index_or asked place other)
+forgotten-at [] place other there are = absurd (omega arith)
+forgotten-at (one ∷ asked) zero other there are = are.0
+forgotten-at (one ∷ asked) (suc place) other there are = forgotten-at asked place other (omega arith) are
+
+-- those behind it are as they were
+pub forgotten-behind : (asked : List Asked) (place : ℕ) (new : Asked) → AreForgotten (drop place asked) → AreForgotten (drop (suc place) (slice_set asked place new))
+forgotten-behind [] place new are = tt
+forgotten-behind (one ∷ asked) zero new are = are.1
+forgotten-behind (one ∷ asked) (suc place) new are = forgotten-behind asked place new are
+
+-- what is right stays so with one of which nothing is known
+pub right-asked : (functions : DigestFunctions) (asked : List Asked) (place : ℕ) (new : Asked) → AreRight functions asked → IsUnknown new → AreRight functions (slice_set asked place new)
+right-asked functions [] place new are unknown = tt
+right-asked functions (one ∷ asked) zero new are unknown = (right-unknown functions new unknown, are.1)
+right-asked functions (one ∷ asked) (suc place) new are unknown = (are.0, right-asked functions asked place new are.1 unknown)
+
+-- one more is forgotten
+pub forgotten-more : (asked : List Asked) (place : ℕ) (new : Asked) → place < length asked → AreForgotten (take place asked) → IsForgotten new
+    → AreForgotten (take (suc place) (slice_set asked place new))
+forgotten-more [] place new there are is = absurd (omega arith)
+forgotten-more (one ∷ asked) zero new there are is = (is, tt)
+forgotten-more (one ∷ asked) (suc place) new there are is = (are.0, forgotten-more asked place new (omega arith) are.1 is)

@@ -1,15 +1,11 @@
 -- Commands that bytes begin with, one behind another.
-use Rattle.std.proofs.Common.{◌≡◌, ℕ, zero, suc, ◌+◌, ◌<◌, List, [], ◌∷◌, ◌++◌, drop, slice_index, Option, Some, None, IfSome, sym, ◌∙◌, subst, arith}
+use Rattle.std.proofs.Common.{◌≡◌, ℕ, zero, suc, ◌+◌, ◌<◌, List, [], ◌∷◌, ◌++◌, drop, slice_index, sym, subst, arith}
 use Rattle.std.specs.Borrow.{Bor}
 use Rattle.lane_sha.specs.Texts.{text}
 use Rattle.std.proofs.lemmas.List.{drop-drop}
-use Rattle.std.proofs.lemmas.Option.{none-some}
-use Rattle.record_hash.specs.Functions.{DigestFunctions}
 use Rattle.record_text.specs.Format.{LogFormat}
-use Rattle.command_window.specs.declared.read_command.AskedDigest.{AskedDigest}
-use Rattle.command_window.specs.declared.read_command.AskedLanes.{AskedLanes}
 use Rattle.command_window.specs.declared.read_command.ReadCommand.{ReadCommand}
-use Rattle.command_window.specs.Window.{IsReadOf, AreReadOf, IsDigestOfText, AreLanesOfText, IsRightOf, AreRight}
+use Rattle.command_window.specs.Window.{IsReadOf, AreReadOf}
 
 -- how many bytes commands take
 abbrev pub taken_by : List ReadCommand → ℕ
@@ -26,10 +22,6 @@ read-more format bytes (first ∷ reads) read are is =
 pub taken-more : (reads : List ReadCommand) (read : ReadCommand) → taken_by (reads ++ read ∷ []) ≡ taken_by reads + read.len
 taken-more [] read = omega arith
 taken-more (first ∷ reads) read = omega (arith, taken-more reads read)
-
-pub right-more : (functions : DigestFunctions) (reads : List ReadCommand) (read : ReadCommand) → AreRight functions reads → IsRightOf functions read → AreRight functions (reads ++ read ∷ [])
-right-more functions [] read are is = (is, tt)
-right-more functions (first ∷ reads) read are is = (are.0, right-more functions reads read are.1 is)
 
 -- ---- eight texts, and what is asked of each
 
@@ -50,13 +42,3 @@ eight_texts f places t0 t1 t2 t3 t4 t5 t6 t7 e0 e1 e2 e3 e4 e5 e6 e7 = go
     go (suc (suc (suc (suc (suc (suc zero)))))) below = e6
     go (suc (suc (suc (suc (suc (suc (suc zero))))))) below = e7
     go (suc (suc (suc (suc (suc (suc (suc (suc j)))))))) below = absurd (omega arith)
-
--- ---- what is not known yet is right
-
-pub digest_unknown : (functions : DigestFunctions) (asked : Option AskedDigest) → IfSome asked (λ asked. asked.digest ≡ None) → IsDigestOfText functions asked
-digest_unknown functions None unknown = tt
-digest_unknown functions (Some asked) unknown = λ digest is. absurd (none-some digest (sym unknown ∙ is))
-
-pub lanes_unknown : (functions : DigestFunctions) (asked : Option AskedLanes) → IfSome asked (λ asked. asked.lanes ≡ None) → AreLanesOfText functions asked
-lanes_unknown functions None unknown = tt
-lanes_unknown functions (Some asked) unknown = λ lanes is. absurd (none-some lanes (sym unknown ∙ is))

@@ -1,5 +1,5 @@
 -- The command at a place of a window.
-use Rattle.std.proofs.Common.{◌≡◌, ℕ, zero, suc, ◌<◌, List, [], ◌∷◌, length, drop, slice_index_or, arith}
+use Rattle.std.proofs.Common.{ℕ, zero, suc, ◌<◌, List, [], ◌∷◌, length, drop, slice_index_or, arith}
 use Rattle.record_text.specs.Format.{LogFormat}
 use Rattle.command_window.specs.declared.read_command.ReadCommand.{ReadCommand}
 use Rattle.command_window.specs.Window.{IsReadOf, AreReadOf}

@@ -1,48 +1,122 @@
 //! What a command will ask for, as far as the commands before it tell.
-ghost use Rattle.std.specs.Prelude.{◌≡◌, IfSome, None};
+ghost use Rattle.std.specs.Prelude.{◌≡◌, ◌+◌, ◌≤◌, None};
+ghost use Rattle.arrayvec.specs.ArrayVec.{array_vec_len};
+ghost use Rattle.command_window.specs.Window.{IsForgotten, IsUnknown};
 
-use crate::read_command::{AskedDigest, AskedLanes, ReadCommand};
+use crate::read_command::{Asked, AskedKind, ReadCommand};
+use arrayvec::ArrayVec;
 use lamport_clocks::Stamp;
 use log_codec::{Command, LogCommand, SlotCommand};
-use record_text::{Element, Value, element_text, value_text};
+use record_text::{
+    Blob, LONGEST_ELEMENT_TEXT, Value, push_blob, push_path, push_stamp, push_u16, push_value,
+};
 use tree_keys::Path;
 
 // How a command names a record.
 #[derive(Clone, Copy)]
-pub(crate) enum Name {
+enum Name {
     ByPath(Path),
     BySlot(u16),
 }
 
-/// The text of the value that an add brings: its digest is compared with the parent's.
-pub(crate) fn asked_digest(command: &LogCommand) -> Option<AskedDigest>
-    ensures unknown { IfSome result (λ asked. asked.digest ≡ None) }
-{
-    let value = match command {
-        LogCommand::ByPath(Command::AddM { value, .. }) => value,
-        LogCommand::BySlot(SlotCommand::AddM { value, .. }) => value,
-        _ => return None,
-    };
-    Some(AskedDigest {
-        text: value_text(value),
-        digest: None,
-    })
+// A value that a command tells.
+#[derive(Clone, Copy)]
+enum Told<'a> {
+    Value(&'a Value),
+    Data(&'a Blob),
 }
 
-/// The place of the add that brought the record which an evict by digest takes out, if it is among these commands.
-pub(crate) fn brought_by(reads: &[ReadCommand], command: &LogCommand) -> Option<usize> {
-    let name = match command {
-        LogCommand::ByPath(Command::EvictM { path, .. }) => Name::ByPath(*path),
-        LogCommand::BySlot(SlotCommand::EvictM { slot, .. }) => Name::BySlot(*slot),
-        _ => return None,
+/// Notes what a command will ask for that stands behind these commands, in the log of the verifier of this number: the digest of
+/// the value that an add brings, which is compared with the parent's; that of the value which an evict by digest takes out, if it
+/// is as it came in; and the lanes of the element that an add takes in, or that an evict sends out.
+pub(crate) fn ask(asked: &mut Asked, reads: &[ReadCommand], command: &LogCommand, number: u16)
+    requires forgotten { IsForgotten asked.old }
+    ensures unknown { IsUnknown asked.new }
+{
+    asked.kind = match command {
+        LogCommand::ByPath(command) => ask_by_path(&mut asked.text, reads, command, number),
+        LogCommand::BySlot(command) => ask_by_slot(&mut asked.text, reads, command, number),
     };
+}
+
+// The same of a command that names paths. The text is empty before.
+fn ask_by_path(
+    text: &mut ArrayVec<u8, LONGEST_ELEMENT_TEXT>,
+    reads: &[ReadCommand],
+    command: &Command,
+    number: u16,
+) -> AskedKind
+    requires empty { array_vec_len text.old ≡ 0 }
+{
+    match command {
+        Command::AddM { value, .. } => {
+            push_value(text, value);
+            AskedKind::Digest
+        }
+        Command::EvictM { path, .. } => brought_by(reads, &Name::ByPath(*path)),
+        Command::AddB {
+            path,
+            value,
+            stamp,
+            verifier,
+        } => {
+            push_element(text, path, &Told::Value(value), *stamp, *verifier);
+            AskedKind::Lanes
+        }
+        Command::EvictB { path, stamp } => {
+            ask_evicted(text, reads, &Name::ByPath(*path), *stamp, number)
+        }
+        Command::EvictBM { path, stamp, .. } => {
+            ask_evicted(text, reads, &Name::ByPath(*path), *stamp, number)
+        }
+        _ => AskedKind::Nothing,
+    }
+}
+
+// The same of a command that names slots.
+fn ask_by_slot(
+    text: &mut ArrayVec<u8, LONGEST_ELEMENT_TEXT>,
+    reads: &[ReadCommand],
+    command: &SlotCommand,
+    number: u16,
+) -> AskedKind
+    requires empty { array_vec_len text.old ≡ 0 }
+{
+    match command {
+        SlotCommand::AddM { value, .. } => {
+            push_value(text, value);
+            AskedKind::Digest
+        }
+        SlotCommand::EvictM { slot, .. } => brought_by(reads, &Name::BySlot(*slot)),
+        SlotCommand::AddB {
+            path,
+            value,
+            stamp,
+            verifier,
+            ..
+        } => {
+            push_element(text, path, &Told::Value(value), *stamp, *verifier);
+            AskedKind::Lanes
+        }
+        SlotCommand::EvictB { slot, stamp } => {
+            ask_evicted(text, reads, &Name::BySlot(*slot), *stamp, number)
+        }
+        SlotCommand::EvictBM { slot, stamp, .. } => {
+            ask_evicted(text, reads, &Name::BySlot(*slot), *stamp, number)
+        }
+        _ => AskedKind::Nothing,
+    }
+}
+
+// The digest of the value with which the record came in, where one of these commands added it by its digest.
+fn brought_by(reads: &[ReadCommand], name: &Name) -> AskedKind {
     for back in 0..reads.len() {
         let place = reads.len() - 1 - back;
-        if adds(&reads[place].command, &name) {
-            return Some(place);
+        if adds(&reads[place].command, name) {
+            return AskedKind::DigestOf(place);
         }
     }
-    None
+    AskedKind::Nothing
 }
 
 // Whether a command adds this record by its digest.
@@ -57,64 +131,55 @@ fn adds(command: &LogCommand, name: &Name) -> bool {
     }
 }
 
-/// The text of the element that an add takes in, or that an evict by a verifier of this number sends out, where the commands
-/// before it tell its path and value.
-pub(crate) fn asked_lanes(
+// The lanes of an element that is evicted, where these commands tell its path and value.
+fn ask_evicted(
+    text: &mut ArrayVec<u8, LONGEST_ELEMENT_TEXT>,
     reads: &[ReadCommand],
-    command: &LogCommand,
+    name: &Name,
+    stamp: Stamp,
     number: u16,
-) -> Option<AskedLanes>
-    ensures unknown { IfSome result (λ asked. asked.lanes ≡ None) }
+) -> AskedKind
+    requires empty { array_vec_len text.old ≡ 0 }
 {
-    let (name, stamp) = match command {
-        LogCommand::ByPath(
-            Command::AddB {
-                path,
-                value,
-                stamp,
-                verifier,
-            },
-        ) => return Some(unknown_lanes(path, value, *stamp, *verifier)),
-        LogCommand::BySlot(
-            SlotCommand::AddB {
-                path,
-                value,
-                stamp,
-                verifier,
-                ..
-            },
-        ) => return Some(unknown_lanes(path, value, *stamp, *verifier)),
-        LogCommand::ByPath(Command::EvictB { path, stamp }) => (Name::ByPath(*path), *stamp),
-        LogCommand::ByPath(Command::EvictBM { path, stamp, .. }) => (Name::ByPath(*path), *stamp),
-        LogCommand::BySlot(SlotCommand::EvictB { slot, stamp }) => (Name::BySlot(*slot), *stamp),
-        LogCommand::BySlot(SlotCommand::EvictBM { slot, stamp, .. }) => {
-            (Name::BySlot(*slot), *stamp)
-        }
-        _ => return None,
+    let Some(path) = told_path(reads, name) else {
+        return AskedKind::Nothing;
     };
-    let path = told_path(reads, &name)?;
-    let value = told_value(reads, &name)?;
-    Some(unknown_lanes(&path, &value, stamp, number))
+    let Some(value) = told_value(reads, name) else {
+        return AskedKind::Nothing;
+    };
+    push_element(text, &path, &value, stamp, number);
+    AskedKind::Lanes
 }
 
-// The text of an element whose lanes aren't known yet.
-fn unknown_lanes(path: &Path, value: &Value, stamp: Stamp, verifier: u16) -> AskedLanes
-    ensures unknown { result.lanes ≡ None }
+// The text of an element, where there is none yet.
+fn push_element(
+    text: &mut ArrayVec<u8, LONGEST_ELEMENT_TEXT>,
+    path: &Path,
+    value: &Told<'_>,
+    stamp: Stamp,
+    verifier: u16,
+)
+    requires empty { array_vec_len text.old ≡ 0 }
 {
-    let element = Element {
-        path: *path,
-        value: value.copy(),
-        stamp,
-        verifier,
-    };
-    AskedLanes {
-        text: element_text(&element),
-        lanes: None,
+    push_path(text, path);
+    push_told(text, value);
+    push_stamp(text, stamp);
+    push_u16(text, verifier);
+}
+
+// The text of a value that was told.
+fn push_told(text: &mut ArrayVec<u8, LONGEST_ELEMENT_TEXT>, value: &Told<'_>)
+    requires room { array_vec_len text.old + 84 ≤ LONGEST_ELEMENT_TEXT }
+    ensures len { array_vec_len text.new ≤ array_vec_len text.old + 84 }
+{
+    match value {
+        Told::Value(value) => push_value(text, value),
+        Told::Data(blob) => push_blob(text, blob),
     }
 }
 
 // The value of a record, as the last of these commands tells that names it with a value.
-fn told_value(reads: &[ReadCommand], name: &Name) -> Option<Value> {
+fn told_value<'a>(reads: &'a [ReadCommand], name: &Name) -> Option<Told<'a>> {
     for back in 0..reads.len() {
         let value = value_told(&reads[reads.len() - 1 - back].command, name);
         if value.is_some() {
@@ -140,7 +205,7 @@ fn told_path(reads: &[ReadCommand], name: &Name) -> Option<Path> {
 }
 
 // The value that a command tells of a record.
-fn value_told(command: &LogCommand, name: &Name) -> Option<Value> {
+fn value_told<'a>(command: &'a LogCommand, name: &Name) -> Option<Told<'a>> {
     match (command, name) {
         (LogCommand::ByPath(command), Name::ByPath(path)) => value_told_by_path(command, path),
         (LogCommand::BySlot(command), Name::BySlot(slot)) => value_told_by_slot(command, *slot),
@@ -148,7 +213,7 @@ fn value_told(command: &LogCommand, name: &Name) -> Option<Value> {
     }
 }
 
-fn value_told_by_path(command: &Command, named: &Path) -> Option<Value> {
+fn value_told_by_path<'a>(command: &'a Command, named: &Path) -> Option<Told<'a>> {
     let (path, value) = match command {
         Command::AddM { path, value, .. } => (path, value),
         Command::AddB { path, value, .. } => (path, value),
@@ -157,18 +222,18 @@ fn value_told_by_path(command: &Command, named: &Path) -> Option<Value> {
         _ => return None,
     };
     if path.is_same(named) {
-        Some(value.copy())
+        Some(Told::Value(value))
     } else {
         None
     }
 }
 
-fn value_told_by_slot(command: &SlotCommand, named: u16) -> Option<Value> {
+fn value_told_by_slot(command: &SlotCommand, named: u16) -> Option<Told<'_>> {
     match command {
-        SlotCommand::AddM { slot, value, .. } if *slot == named => Some(value.copy()),
-        SlotCommand::AddB { slot, value, .. } if *slot == named => Some(value.copy()),
-        SlotCommand::Get { slot, value } if *slot == named => Some(Value::Blob(value.copy())),
-        SlotCommand::Put { slot, value } if *slot == named => Some(Value::Blob(value.copy())),
+        SlotCommand::AddM { slot, value, .. } if *slot == named => Some(Told::Value(value)),
+        SlotCommand::AddB { slot, value, .. } if *slot == named => Some(Told::Value(value)),
+        SlotCommand::Get { slot, value } if *slot == named => Some(Told::Data(value)),
+        SlotCommand::Put { slot, value } if *slot == named => Some(Told::Data(value)),
         _ => None,
     }
 }

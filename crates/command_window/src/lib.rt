@@ -13,5 +13,5 @@ mod hashing;
 mod read_command;
 mod window;
 
-pub use read_command::{AskedDigest, AskedLanes, ReadCommand};
+pub use read_command::{Asked, AskedKind, ReadCommand};
 pub use window::CommandWindow;

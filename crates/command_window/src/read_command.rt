@@ -1,29 +1,60 @@
-//! A command that was read ahead.
+//! A command that was read ahead, and what it will ask for.
 use arrayvec::ArrayVec;
 use log_codec::LogCommand;
-use record_text::{LONGEST_ELEMENT_TEXT, LONGEST_VALUE_TEXT};
+use record_text::LONGEST_ELEMENT_TEXT;
 
-/// The text of a value, and its digest once that is known.
-#[derive(Drop)]
-pub struct AskedDigest {
-    pub text: ArrayVec<u8, LONGEST_VALUE_TEXT>,
-    pub digest: Option<[u8; 32]>,
-}
-
-/// The text of an element, and its lanes once they are known.
-#[derive(Drop)]
-pub struct AskedLanes {
-    pub text: ArrayVec<u8, LONGEST_ELEMENT_TEXT>,
-    pub lanes: Option<[u32; 8]>,
-}
-
-/// A command, how many bytes of the log it takes, and what it will ask for, as far as the log tells. Where it asks for the
-/// digest of a value that came in with a command before it, `same_as` is that one's place.
+/// A command, and how many bytes of the log it takes.
 #[derive(Drop)]
 pub struct ReadCommand {
     pub command: LogCommand,
     pub len: usize,
-    pub digest: Option<AskedDigest>,
-    pub same_as: Option<usize>,
-    pub lanes: Option<AskedLanes>,
+}
+
+/// What a command will ask for, as far as the log tells.
+#[derive(Clone, Copy, Debug, PartialEq, Eq)]
+pub enum AskedKind {
+    /// Nothing that is known ahead.
+    Nothing,
+    /// The digest of a value.
+    Digest,
+    /// The digest of the value that the command at this place brought in.
+    DigestOf(usize),
+    /// The lanes of an element.
+    Lanes,
+}
+
+/// What the command at a place of a window will ask for: of which text, and what of it is known.
+#[derive(Drop)]
+pub struct Asked {
+    pub kind: AskedKind,
+    pub text: ArrayVec<u8, LONGEST_ELEMENT_TEXT>,
+    pub digest: Option<[u8; 32]>,
+    pub lanes: Option<[u32; 8]>,
+}
+
+impl Asked {
+    ghost use Rattle.std.specs.Prelude.{◌≡◌, [], None};
+    ghost use Rattle.command_window.specs.Window.{IsForgotten};
+
+    /// Nothing.
+    pub(crate) fn nothing() -> Self
+        ensures forgotten { IsForgotten result }
+    {
+        Asked {
+            kind: AskedKind::Nothing,
+            text: ArrayVec::new(),
+            digest: None,
+            lanes: None,
+        }
+    }
+
+    /// It asks for nothing then.
+    pub(crate) fn forget(&mut self)
+        ensures forgotten { IsForgotten self.new }
+    {
+        self.kind = AskedKind::Nothing;
+        self.text.clear();
+        self.digest = None;
+        self.lanes = None;
+    }
 }

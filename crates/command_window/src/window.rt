@@ -3,11 +3,12 @@ ghost use Rattle.std.specs.Prelude.{◌≡◌, ◌<◌, ◌≤◌, ℕ, List, []
 ghost use Rattle.std.specs.Option.{ForSome};
 ghost use Rattle.record_hash.specs.Functions.{DigestFunctions};
 ghost use Rattle.record_text.specs.Format.{LogFormat, format_of};
-ghost use Rattle.command_window.specs.Window.{AreReadOf, AreRight, IsDigestOfText, AreLanesOfText};
+ghost use Rattle.command_window.specs.Window.{AreReadOf, AreRight, IsRight, AreForgotten};
 
-use crate::asking::{asked_digest, asked_lanes, brought_by};
+use crate::asking::ask;
 use crate::hashing::hash_all;
-use crate::read_command::{AskedDigest, AskedLanes, ReadCommand};
+use crate::read_command::{Asked, AskedKind, ReadCommand};
+use base_words::Memory;
 use lamport_clocks::Header;
 use log_codec::{Decoded, read_command};
 use record_hash::{Digests, KnownDigests};
@@ -17,66 +18,75 @@ use std::marker::Model;
 // A window has at most so many commands.
 const MOST_COMMANDS: usize = 64;
 
-/// The next commands of the log of a verifier. Contracts see it as the list of them.
+/// The next commands of the log of a verifier, and what each will ask for.
 ///
 /// It takes its memory once; where that is wanting it has room for no command.
 #[derive(Drop)]
 pub struct CommandWindow {
     number: u16,
     reads: Vec<ReadCommand>,
+    // What the command at each place asks for: as many as there is room for commands, used again by each reading.
+    asked: Vec<Asked>,
 }
 
 impl Model for CommandWindow {
-    ghost use Rattle.std.specs.Prelude.{List};
-    ghost use Rattle.command_window.specs.declared.read_command.ReadCommand.{ReadCommand};
+    ghost use Rattle.command_window.specs.Window.{Window};
 
-    ghost Value = { List ReadCommand };
+    ghost Value = { Window };
 
-    ghost view = { λ w. w.reads.items };
+    ghost view = { λ w. record { commands = w.reads.items; asked = w.asked.items } };
 }
 
 impl CommandWindow {
     /// A window over the log of the verifier of this number, with no command in it.
     pub fn new(alloc: Global, number: u16) -> Self
-        ensures empty { result ≡ [] }
+        ensures empty { result.commands ≡ [] }
     {
         let reads = match Vec::with_capacity(alloc, MOST_COMMANDS) {
             Ok(reads) => reads,
             Err(_) => Vec::new(alloc),
         };
-        CommandWindow { number, reads }
+        let asked = match nothing_asked(alloc) {
+            Ok(asked) => asked,
+            Err(_) => Vec::new(alloc),
+        };
+        CommandWindow {
+            number,
+            reads,
+            asked,
+        }
     }
 
     /// Reads the commands that bytes begin with, as many as there is room for, up to the first that isn't whole, and hashes
     /// what they will ask for.
     pub fn read<D: Digests>(&mut self, d: &D, header: &Header, bytes: &[u8])
-        ensures read { AreReadOf (format_of header.now) bytes.now self.new }
-        ensures right { AreRight (D.functions d.now) self.new }
+        ensures read { AreReadOf (format_of header.now) bytes.now self.new.commands }
+        ensures right { AreRight (D.functions d.now) self.new.asked }
     {
         self.read_ahead(header, bytes);
-        hash_all(self.reads.as_mut_slice(), d);
+        hash_all(self.asked.as_mut_slice(), d);
     }
 
-    // Reads the commands that bytes begin with.
+    // Reads the commands that bytes begin with, and notes what each will ask for.
     fn read_ahead(&mut self, header: &Header, bytes: &[u8])
-        ensures read { AreReadOf (format_of header.now) bytes.now self.new }
-        ensures right { (functions : DigestFunctions) → AreRight functions self.new }
+        ensures read { AreReadOf (format_of header.now) bytes.now self.new.commands }
+        ensures right { (functions : DigestFunctions) → AreRight functions self.new.asked }
     {
         self.reads.clear();
+        forget_all(self.asked.as_mut_slice());
+        let room = self.reads.capacity().min(self.asked.len());
         let mut taken = 0;
-        while self.reads.len() < self.reads.capacity() {
+        while self.reads.len() < room {
             match read_command(header, behind(bytes, taken)) {
                 Decoded::Read(command, len) => {
-                    let digest = asked_digest(&command);
-                    let same_as = brought_by(self.reads.as_slice(), &command);
-                    let lanes = asked_lanes(self.reads.as_slice(), &command, self.number);
-                    self.reads.push_reserved(ReadCommand {
-                        command,
-                        len,
-                        digest,
-                        same_as,
-                        lanes,
-                    });
+                    let place = self.reads.len();
+                    ask(
+                        &mut self.asked[place],
+                        self.reads.as_slice(),
+                        &command,
+                        self.number,
+                    );
+                    self.reads.push_reserved(ReadCommand { command, len });
                     taken += len;
                 }
                 Decoded::Malformed | Decoded::Truncated => return,
@@ -86,14 +96,14 @@ impl CommandWindow {
 
     /// Its commands, in order.
     pub fn commands(&self) -> &[ReadCommand]
-        ensures value { result.now ≡ self.now }
+        ensures value { result.now ≡ self.now.commands }
     {
         self.reads.as_slice()
     }
 
     /// Digests that know what the command at this place will ask for, as far as that was hashed, and ask others for all else.
     pub fn known<'a, D: Digests>(&'a self, d: &'a D, place: usize) -> KnownDigests<'a, D>
-        requires right { AreRight (D.functions d.now) self.now }
+        requires right { AreRight (D.functions d.now) self.now.asked }
         ensures others { result.digests.now ≡ d.now }
     {
         KnownDigests {
@@ -105,20 +115,39 @@ impl CommandWindow {
 
     // The digest that the command at a place will ask for, with its text: its own, or that of the command that brought the record.
     fn known_digest(&self, place: usize) -> Option<(&[u8], [u8; 32])>
-        ensures right { (functions : DigestFunctions) → AreRight functions self.now → ForSome result (λ known. known.1 ≡ functions.digest known.0.now) }
+        ensures right { (functions : DigestFunctions) → AreRight functions self.now.asked → ForSome result (λ known. known.1 ≡ functions.digest known.0.now) }
     {
-        let read = self.reads.get(place)?;
-        match read.same_as {
-            Some(other) => known_digest_of(&self.reads.get(other)?.digest),
-            None => known_digest_of(&read.digest),
+        let asked = self.asked.get(place)?;
+        match asked.kind {
+            AskedKind::DigestOf(other) => known_digest_of(self.asked.get(other)?),
+            _ => known_digest_of(asked),
         }
     }
 
     // The lanes that it will ask for, with their text.
     fn known_lanes(&self, place: usize) -> Option<(&[u8], [u32; 8])>
-        ensures right { (functions : DigestFunctions) → AreRight functions self.now → ForSome result (λ known. known.1 ≡ functions.lanes known.0.now) }
+        ensures right { (functions : DigestFunctions) → AreRight functions self.now.asked → ForSome result (λ known. known.1 ≡ functions.lanes known.0.now) }
     {
-        known_lanes_of(&self.reads.get(place)?.lanes)
+        known_lanes_of(self.asked.get(place)?)
+    }
+}
+
+// As many that ask for nothing as a window has commands.
+fn nothing_asked(alloc: Global) -> Result<Vec<Asked>, Memory> {
+    let mut asked = Vec::with_capacity(alloc, MOST_COMMANDS)?;
+    for _ in 0..MOST_COMMANDS {
+        asked.push(Asked::nothing())?;
+    }
+    Ok(asked)
+}
+
+// Each asks for nothing then.
+fn forget_all(asked: &mut [Asked])
+    ensures forgotten { AreForgotten asked.new }
+    ensures len { length asked.new ≡ length asked.old }
+{
+    for one in asked.iter_mut() {
+        one.forget();
     }
 }
 
@@ -131,19 +160,17 @@ fn behind(bytes: &[u8], taken: usize) -> &[u8]
 }
 
 // A digest with its text, if it is known.
-fn known_digest_of(asked: &Option<AskedDigest>) -> Option<(&[u8], [u8; 32])>
-    ensures right { (functions : DigestFunctions) → IsDigestOfText functions asked.now → ForSome result (λ known. known.1 ≡ functions.digest known.0.now) }
+fn known_digest_of(asked: &Asked) -> Option<(&[u8], [u8; 32])>
+    ensures right { (functions : DigestFunctions) → IsRight functions asked.now → ForSome result (λ known. known.1 ≡ functions.digest known.0.now) }
 {
-    let asked = asked.as_ref()?;
     let digest = asked.digest?;
     Some((asked.text.as_slice(), digest))
 }
 
 // Lanes with their text, if they are known.
-fn known_lanes_of(asked: &Option<AskedLanes>) -> Option<(&[u8], [u32; 8])>
-    ensures right { (functions : DigestFunctions) → AreLanesOfText functions asked.now → ForSome result (λ known. known.1 ≡ functions.lanes known.0.now) }
+fn known_lanes_of(asked: &Asked) -> Option<(&[u8], [u32; 8])>
+    ensures right { (functions : DigestFunctions) → IsRight functions asked.now → ForSome result (λ known. known.1 ≡ functions.lanes known.0.now) }
 {
-    let asked = asked.as_ref()?;
     let lanes = asked.lanes?;
     Some((asked.text.as_slice(), lanes))
 }

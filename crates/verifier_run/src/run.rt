@@ -279,9 +279,9 @@ fn follow_window<T: Kept, D: Digests>(
     bytes: &[u8],
 ) -> Result<usize, FeedStop>
     requires room { tracer.old.machine.accepted + length bytes.now < 2 ^ 63 }
-    requires read { AreReadOf (format_of tracer.old.machine.header) bytes.now window.now }
-    requires right { AreRight (D.functions d.now) window.now }
-    requires some { 0 < length window.now }
+    requires read { AreReadOf (format_of tracer.old.machine.header) bytes.now window.now.commands }
+    requires right { AreRight (D.functions d.now) window.now.asked }
+    requires some { 0 < length window.now.commands }
     requires going { tracer.old.refused ≡ None }
     ensures ok { IfOk result (λ taken.
         progress_over T.keeps (scheme_of (D.functions d.now) tracer.old.machine.header) tracer.old (take taken bytes.now)

@@ -1,10 +1,7 @@
-use Rattle.std.proofs.Common.{refl, slice_index_or}
 use Rattle.command_window.proofs.GoesOnLemmas.{lanes_noted}
 use Rattle.command_window.proofs.hashing.note_lanes.Goals as goal
 
-pub returns-in-Some : goal.returns-in-Some
-returns-in-Some c = record {
-  goes_on = λ functions value.
-      let read = slice_index_or c.args.reads.now c.args.place c.index-reads-place.result in
-      lanes_noted functions c.args.reads.now c.args.place read c.index-reads-place.result c.in-Some.asked c.args.lanes c.if-place-reads.true refl c.in-Some.is value;
+pub returns-then-place-asked : goal.returns-then-place-asked
+returns-then-place-asked c = record {
+  goes_on = λ functions value. lanes_noted functions c.args.asked.now c.args.place c.index-asked-place.result c.args.lanes c.if-place-asked.true value;
 }

@@ -28,9 +28,9 @@ loop-place-preserved g c =
     let none = none_told c.loop-place.tracer.refused c.refused.result c.is_some.result c.refused.ensures.value c.is_some.ensures c.if-is_some.false in
     let commands = c.commands.ensures.value in
     let ends = ap length c.commands-place-end.ensures.value in
-    let there = read_at (format_of start.machine.header) (drop c.loop-place.taken c.args.bytes.now) c.args.window.now c.loop-place.place read
+    let there = read_at (format_of start.machine.header) (drop c.loop-place.taken c.args.bytes.now) c.args.window.now.commands c.loop-place.place read
     (omega (arith, c.loop-place-test.true, c.loop-place.auto.place-end, ends)) c.loop-place.invariant.read in
-    let is_read : slice_index_or c.args.window.now c.loop-place.place read ≡ read =
+    let is_read : slice_index_or c.args.window.now.commands c.loop-place.place read ≡ read =
     sym (c.index-commands-place.is ∙ ap (λ (reads : List ReadCommand). slice_index_or reads c.loop-place.place read) commands) in
     let next : suc c.loop-place.place ≡ c.loop-place.place + 1 = omega arith in
     let some = subst (λ (r : ReadCommand). IsReadOf (format_of start.machine.header) (drop c.loop-place.taken c.args.bytes.now) r) is_read there.0 in
@@ -40,9 +40,9 @@ loop-place-preserved g c =
           (c.in-Ok.ensures.ok
           ∙ (ap (λ d. after_command g.T.Kept.keeps (scheme_of (g.D.Digests.functions d) c.loop-place.tracer.machine.header) c.loop-place.tracer read.command) c.known.ensures.others
           ∙ ap (λ (h : Header). after_command g.T.Kept.keeps (scheme_of functions h) c.loop-place.tracer read.command) so_far.header)) c.in-Ok.ensures.count;
-      read = subst (λ (rest : List ℕ). AreReadOf (format_of start.machine.header) rest (drop (c.loop-place.place + 1) c.args.window.now)) (drop-drop read.len c.loop-place.taken c.args.bytes.now)
-          (subst (λ (n : ℕ). AreReadOf (format_of start.machine.header) (drop read.len (drop c.loop-place.taken c.args.bytes.now)) (drop n c.args.window.now)) next
-          (subst (λ (r : ReadCommand). AreReadOf (format_of start.machine.header) (drop r.len (drop c.loop-place.taken c.args.bytes.now)) (drop (suc c.loop-place.place) c.args.window.now)) is_read there.1));
+      read = subst (λ (rest : List ℕ). AreReadOf (format_of start.machine.header) rest (drop (c.loop-place.place + 1) c.args.window.now.commands)) (drop-drop read.len c.loop-place.taken c.args.bytes.now)
+          (subst (λ (n : ℕ). AreReadOf (format_of start.machine.header) (drop read.len (drop c.loop-place.taken c.args.bytes.now)) (drop n c.args.window.now.commands)) next
+          (subst (λ (r : ReadCommand). AreReadOf (format_of start.machine.header) (drop r.len (drop c.loop-place.taken c.args.bytes.now)) (drop (suc c.loop-place.place) c.args.window.now.commands)) is_read there.1));
       some = λ first. omega (arith, some.some);
       going = λ first. absurd (omega (arith, first));
     }

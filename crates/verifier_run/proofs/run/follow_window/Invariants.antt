@@ -9,7 +9,7 @@ use Rattle.verifier_run.proofs.run.follow_window.Given as goal
 abbrev pub invariant-loop-place : goal.invariant-loop-place
 invariant-loop-place g l = record {
   so_far : HasRead g.T.Kept.keeps (scheme_of (g.D.Digests.functions l.d) l.fn.tracer.machine.header) l.fn.tracer l.bytes l.taken l.tracer;
-  read : AreReadOf (format_of l.fn.tracer.machine.header) (drop l.taken l.bytes) (drop l.place l.window);
+  read : AreReadOf (format_of l.fn.tracer.machine.header) (drop l.taken l.bytes) (drop l.place l.window.commands);
   some : 0 < l.place → 0 < l.taken;
   going : l.place ≡ 0 → l.tracer.refused ≡ None;
 }
