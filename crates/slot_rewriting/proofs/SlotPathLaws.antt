@@ -1,7 +1,7 @@
 -- Which path stands in which slot.
-use Rattle.std.proofs.Common.{◌≡◌, ℕ, zero, suc, ◌+◌, ◌-◌, ◌<◌, ◌≤◌, Bool, true, false, List, [], ◌∷◌, length, map, set, replicate, Some, None, option_map, if◌then◌else◌, refl, sym, ap, subst, arith}
+use Rattle.std.proofs.Common.{◌≡◌, ℕ, zero, suc, ◌+◌, ◌-◌, ◌<◌, ◌≤◌, Bool, true, false, nat_lt, List, [], ◌∷◌, length, map, set, replicate, Some, None, option_map, if◌then◌else◌, refl, sym, ap, subst, arith}
 use Rattle.std.proofs.lemmas.Option.{none-some, same_Some}
-use Rattle.std.proofs.lemmas.Bool.{eq-eqb, ne_eqb}
+use Rattle.std.proofs.lemmas.Bool.{eq-eqb, ne_eqb, ltb_from_iff}
 use Rattle.tree_keys.specs.Path.{root_of, same_path}
 use Rattle.tree_keys.proofs.PathLaws.{same_path-true, same_path-self}
 use Rattle.free_numbers.specs.Free.{lowest_free}
@@ -9,6 +9,11 @@ use Rattle.lamport_clocks.specs.declared.header.Header.{Header}
 use Rattle.record_text.specs.Tree.{wide_of}
 use Rattle.slot_rewriting.specs.Rewriting.{SlotPaths, slot_of, lowest_empty, HasSlot, HasNoSlot, HasEmpty, opening_paths}
 use Rattle.slot_rewriting.specs.Indexed.{path_in, is_empty, taken}
+
+-- what is true just where one number is below another
+pub tested_below : (b : Bool) (m n : ℕ) → (b ≡ true → m < n) → (b ≡ false → n ≤ m) → b ≡ nat_lt m n
+tested_below true m n below above = ltb_from_iff (below, λ is. refl)
+tested_below false m n below above = ltb_from_iff (below, λ is. absurd (omega (arith, is, above refl)))
 
 -- a slot that isn't empty is one of those that there are
 pub path_in-within : (paths : SlotPaths) (slot : ℕ) (path : List Bool) → path_in paths slot ≡ Some path → slot < length paths
