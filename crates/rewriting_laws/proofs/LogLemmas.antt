@@ -12,7 +12,7 @@ use Rattle.log_codec.specs.declared.command.Command.TheVariants.{AddM, EvictM, A
 use Rattle.log_codec.specs.declared.slot_command.SlotCommand.{SlotCommand}
 use Rattle.log_codec.specs.declared.log_command.LogCommand.TheVariants.{BySlot}
 use Rattle.merkle_records.specs.Scheme.{Scheme}
-use Rattle.slot_rewriting.specs.Rewriting.{SlotPaths, rewritten, paths_after, opening_paths, rewritten_from}
+use Rattle.slot_rewriting.specs.Rewriting.{SlotPaths, rewritten, paths_after, opening_paths, rewritten_from, CanRewriteFrom}
 use Rattle.slot_rewriting.specs.Indexed.{taken}
 use Rattle.slot_rewriting.proofs.SlotPathLaws.{taken-none}
 use Rattle.verifier_cache.specs.declared.entry.Entry.{Entry}
@@ -32,7 +32,7 @@ use Rattle.soundness.specs.Showing.{shown_by}
 use Rattle.soundness.specs.Typed.{IsPathTyped, IsSlotTyped}
 use Rattle.soundness.proofs.StepShownLaws.{path_leaves, slot_leaves, same_after, fresh_in_both}
 use Rattle.rewriting_laws.specs.Alike.{paths_in, AreAlike}
-use Rattle.rewriting_laws.specs.RewrittenLog.{IsOfKind, CanRewriteFrom, rewritten_log, rewritten_logs, AreAccepted}
+use Rattle.rewriting_laws.specs.RewrittenLog.{IsOfKind, rewritten_log, rewritten_logs, AreAccepted}
 use Rattle.rewriting_laws.proofs.FollowedLemmas.{IsFollowed, followed}
 
 -- ---- one command

@@ -6,7 +6,7 @@ use Rattle.log_codec.specs.declared.command.Command.{Command}
 use Rattle.log_codec.specs.declared.command.Command.TheVariants.{AddM, EvictM, AddB, EvictB, EvictBM, Get, Put, NextEpoch}
 use Rattle.log_codec.specs.declared.slot_command.SlotCommand.{SlotCommand}
 use Rattle.merkle_records.specs.Scheme.{Scheme}
-use Rattle.slot_rewriting.specs.Rewriting.{SlotPaths, paths_after, opening_paths, rewritten_from, CanRewrite}
+use Rattle.slot_rewriting.specs.Rewriting.{opening_paths, rewritten_from}
 use Rattle.soundness.specs.PathHistory.{path_log_refusal}
 
 -- the value of a command, if it has one, is of its path's kind
@@ -19,11 +19,6 @@ IsOfKind longest (EvictBM path parent stamp) = Unit {0}
 IsOfKind longest (Get path value) = IsOf longest path value
 IsOfKind longest (Put path value) = IsOf longest path value
 IsOfKind longest NextEpoch = Unit {0}
-
--- each command can be rewritten where those before it were
-abbrev pub CanRewriteFrom : SlotPaths → List Command → Type 0
-CanRewriteFrom paths [] = Unit {0}
-CanRewriteFrom paths (command ∷ commands) = CanRewrite paths command × CanRewriteFrom (paths_after paths command) commands
 
 -- a log of the verifier of this number, by slots
 abbrev pub rewritten_log : Header → ℕ → List Command → List SlotCommand

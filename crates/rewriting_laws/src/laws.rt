@@ -6,11 +6,11 @@ ghost use Rattle.lamport_clocks.specs.Header.{IsHeader, names_paths};
 ghost use Rattle.log_codec.specs.declared.command.Command.{Command};
 ghost use Rattle.log_codec.specs.declared.log_command.LogCommand.TheVariants.{BySlot};
 ghost use Rattle.merkle_records.specs.Scheme.{Scheme};
-ghost use Rattle.slot_rewriting.specs.Rewriting.{opening_paths};
+ghost use Rattle.slot_rewriting.specs.Rewriting.{opening_paths, CanRewriteFrom};
 ghost use Rattle.soundness.specs.History.{histories_of};
 ghost use Rattle.soundness.specs.PathHistory.{path_log_events, path_log_refusal, path_histories_of};
 ghost use Rattle.soundness.specs.SlotHistory.{slot_log_events, slot_log_refusal};
-ghost use Rattle.rewriting_laws.specs.RewrittenLog.{IsOfKind, CanRewriteFrom, rewritten_log, rewritten_logs, AreAccepted};
+ghost use Rattle.rewriting_laws.specs.RewrittenLog.{IsOfKind, rewritten_log, rewritten_logs, AreAccepted};
 
 use soundness::versions_name_paths_or_slots;
 
