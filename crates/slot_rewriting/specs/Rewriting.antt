@@ -1,6 +1,6 @@
 -- What commands that name paths become where they name slots: each add takes the lowest empty slot, and what was in a slot
 -- that is left is gone from it.
-use Rattle.std.specs.Prelude.{ℕ, suc, ◌-◌, ◌==◌, ◌<◌, ◌≤◌, Bool, List, [], ◌∷◌, length, set, replicate, Option, Some, None, if◌then◌else◌}
+use Rattle.std.specs.Prelude.{ℕ, suc, ◌-◌, ◌==◌, ◌<◌, ◌≤◌, nat_lt, not, ◌&&◌, Bool, true, List, [], ◌∷◌, length, set, replicate, Option, Some, None, if◌then◌else◌}
 use Rattle.tree_keys.specs.Path.{root_of, same_path}
 use Rattle.lamport_clocks.specs.declared.header.Header.{Header}
 use Rattle.record_text.specs.Tree.{wide_of}
@@ -80,6 +80,24 @@ CanRewrite paths (Get path value) = HasSlot path paths
 CanRewrite paths (Put path value) = HasSlot path paths
 CanRewrite paths NextEpoch = Unit {0}
 
+-- the path stands in a slot, and a slot is empty, as tests
+abbrev pub has_slot : List Bool → SlotPaths → Bool
+has_slot path paths = nat_lt (slot_of path paths) (length paths)
+
+abbrev pub has_empty : SlotPaths → Bool
+has_empty paths = nat_lt (lowest_empty paths) (length paths)
+
+-- the command can be rewritten, as a test
+abbrev pub can_rewrite : SlotPaths → Command → Bool
+can_rewrite paths (AddM path value parent) = not (has_slot path paths) && has_empty paths && has_slot parent paths
+can_rewrite paths (EvictM path parent) = has_slot path paths && has_slot parent paths
+can_rewrite paths (AddB path value stamp verifier) = not (has_slot path paths) && has_empty paths
+can_rewrite paths (EvictB path stamp) = has_slot path paths
+can_rewrite paths (EvictBM path parent stamp) = has_slot path paths && has_slot parent paths
+can_rewrite paths (Get path value) = has_slot path paths
+can_rewrite paths (Put path value) = has_slot path paths
+can_rewrite paths NextEpoch = true
+
 -- at the start the root of the bundle's tree stands in slot 0 of verifier 0
 abbrev pub opening_paths : ℕ → Header → SlotPaths
 opening_paths number header = if number == 0 then Some (root_of (wide_of header)) ∷ replicate (header.cache - 1) None else replicate header.cache None
@@ -88,3 +106,13 @@ opening_paths number header = if number == 0 then Some (root_of (wide_of header)
 abbrev pub rewritten_from : SlotPaths → List Command → List SlotCommand
 rewritten_from paths [] = []
 rewritten_from paths (command ∷ commands) = rewritten paths command ∷ rewritten_from (paths_after paths command) commands
+
+-- each command can be rewritten where those before it were
+abbrev pub CanRewriteFrom : SlotPaths → List Command → Type 0
+CanRewriteFrom paths [] = Unit {0}
+CanRewriteFrom paths (command ∷ commands) = CanRewrite paths command × CanRewriteFrom (paths_after paths command) commands
+
+-- which path stands in each slot behind the commands of a log
+abbrev pub paths_behind : SlotPaths → List Command → SlotPaths
+paths_behind paths [] = paths
+paths_behind paths (command ∷ commands) = paths_behind (paths_after paths command) commands

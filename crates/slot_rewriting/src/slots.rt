@@ -1,11 +1,12 @@
 //! Which path stands in each slot of a verifier's cache, and commands by slots.
 ghost use Rattle.std.specs.Prelude.{◌≡◌, ◌↔◌, ◌<◌, ◌≤◌, replicate, length, Some, None, IsTrue, IsFalse, IfOk};
 ghost use Rattle.lamport_clocks.specs.Header.{IsHeader};
-ghost use Rattle.slot_rewriting.specs.Rewriting.{slot_of, lowest_empty, with_path_at, data_of, rewritten, paths_after, opening_paths, HasSlot, HasNoSlot, HasEmpty, CanRewrite};
+ghost use Rattle.log_codec.specs.declared.command.Command.TheVariants as commands;
+ghost use Rattle.slot_rewriting.specs.Rewriting.{slot_of, lowest_empty, with_path_at, data_of, has_slot, has_empty, can_rewrite, rewritten, paths_after, opening_paths, HasSlot, HasNoSlot, HasEmpty, CanRewrite};
 
 use base_words::Memory;
 use free_numbers::FreeNumbers;
-use lamport_clocks::Header;
+use lamport_clocks::{Header, Stamp};
 use log_codec::{Command, SlotCommand};
 use path_index::{Index, Mark, search_uncounted};
 use record_text::{Blob, Value};
@@ -75,13 +76,15 @@ impl Slots {
     fn has_slot(&self, k: &Path) -> bool
         ensures there { IsTrue result → HasSlot k.now self.now }
         ensures absent { IsFalse result → HasNoSlot k.now self.now }
+        ensures value { result ≡ has_slot k.now self.now }
     {
         search_uncounted(&self.index, k).is_ok()
     }
 
     // Whether a slot is empty.
     fn has_empty(&self) -> bool
-        ensures value { IsTrue result ↔ HasEmpty self.now }
+        ensures there { IsTrue result ↔ HasEmpty self.now }
+        ensures value { result ≡ has_empty self.now }
     {
         self.free.lowest().is_some()
     }
@@ -89,6 +92,7 @@ impl Slots {
     /// Whether a command can be rewritten.
     pub fn can_rewrite(&self, command: &Command) -> bool
         ensures fits { IsTrue result ↔ CanRewrite self.now command.now }
+        ensures value { result ≡ can_rewrite self.now command.now }
     {
         match command {
             Command::AddM { path, parent, .. } => {
@@ -137,6 +141,49 @@ impl Slots {
         slot as u16
     }
 
+    // An add by its digest, by slots.
+    fn add_m(&mut self, path: &Path, value: &Value, parent: &Path) -> SlotCommand
+        requires fits { CanRewrite self.old (commands.AddM path.now value.now parent.now) }
+        ensures value { result ≡ rewritten self.old (commands.AddM path.now value.now parent.now) }
+        ensures paths { self.new ≡ paths_after self.old (commands.AddM path.now value.now parent.now) }
+    {
+        let parent = self.slot(parent);
+        let slot = self.take(path);
+        SlotCommand::AddM {
+            slot,
+            path: *path,
+            value: value.copy(),
+            parent,
+        }
+    }
+
+    // An add by its stamp, by slots.
+    fn add_b(&mut self, path: &Path, value: &Value, stamp: Stamp, verifier: u16) -> SlotCommand
+        requires fits { CanRewrite self.old (commands.AddB path.now value.now stamp verifier) }
+        ensures value { result ≡ rewritten self.old (commands.AddB path.now value.now stamp verifier) }
+        ensures paths { self.new ≡ paths_after self.old (commands.AddB path.now value.now stamp verifier) }
+    {
+        let slot = self.take(path);
+        SlotCommand::AddB {
+            slot,
+            path: *path,
+            value: value.copy(),
+            stamp,
+            verifier,
+        }
+    }
+
+    // The slots of a path that leaves its own, and of its parent.
+    fn leave_below(&mut self, path: &Path, parent: &Path) -> (u16, u16)
+        requires there { HasSlot path.now self.old }
+        requires parent_there { HasSlot parent.now self.old }
+        ensures slots { result ≡ (slot_of path.now self.old, slot_of parent.now self.old) }
+        ensures paths { self.new ≡ with_path_at self.old (slot_of path.now self.old) None }
+    {
+        let parent = self.slot(parent);
+        (self.leave(path), parent)
+    }
+
     /// A command by slots. What it adds stands in the lowest empty slot then, and the slot of what it evicts is empty.
     pub fn rewrite(&mut self, command: &Command) -> SlotCommand
         requires fits { CanRewrite self.old command.now }
@@ -148,19 +195,9 @@ impl Slots {
                 path,
                 value,
                 parent,
-            } => {
-                let parent = self.slot(parent);
-                let slot = self.take(path);
-                SlotCommand::AddM {
-                    slot,
-                    path: *path,
-                    value: value.copy(),
-                    parent,
-                }
-            }
+            } => self.add_m(path, value, parent),
             Command::EvictM { path, parent } => {
-                let parent = self.slot(parent);
-                let slot = self.leave(path);
+                let (slot, parent) = self.leave_below(path, parent);
                 SlotCommand::EvictM { slot, parent }
             }
             Command::AddB {
@@ -168,30 +205,17 @@ impl Slots {
                 value,
                 stamp,
                 verifier,
-            } => {
-                let slot = self.take(path);
-                SlotCommand::AddB {
-                    slot,
-                    path: *path,
-                    value: value.copy(),
-                    stamp: *stamp,
-                    verifier: *verifier,
-                }
-            }
-            Command::EvictB { path, stamp } => {
-                let slot = self.leave(path);
-                SlotCommand::EvictB {
-                    slot,
-                    stamp: *stamp,
-                }
-            }
+            } => self.add_b(path, value, *stamp, *verifier),
+            Command::EvictB { path, stamp } => SlotCommand::EvictB {
+                slot: self.leave(path),
+                stamp: *stamp,
+            },
             Command::EvictBM {
                 path,
                 parent,
                 stamp,
             } => {
-                let parent = self.slot(parent);
-                let slot = self.leave(path);
+                let (slot, parent) = self.leave_below(path, parent);
                 SlotCommand::EvictBM {
                     slot,
                     parent,
