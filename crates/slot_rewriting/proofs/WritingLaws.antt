@@ -1,5 +1,5 @@
 -- What is written of logs, part by part, by path and by slot.
-use Rattle.std.proofs.Common.{◌≡◌, ℕ, zero, suc, ◌+◌, ◌<◌, Bool, true, false, not, ◌&&◌, List, [], ◌∷◌, ◌++◌, length, get_or, if◌then◌else◌, refl, sym, ◌∙◌, ap, arith}
+use Rattle.std.proofs.Common.{◌≡◌, ℕ, zero, suc, ◌+◌, ◌<◌, Bool, true, false, not, ◌&&◌, List, [], ◌∷◌, ◌++◌, length, take, get_or, if◌then◌else◌, append-nil, take-suc, refl, sym, ◌∙◌, ap, arith}
 use Rattle.std.specs.List.{flat_map}
 use Rattle.std.proofs.lemmas.List.{append_assoc}
 use Rattle.std.proofs.lemmas.Bool.{and_from}
@@ -30,6 +30,24 @@ pub writer_behind-append : (writer : CommandWriter) (commands more : List Comman
     → writer_behind writer (commands ++ more) ≡ writer_behind (writer_behind writer commands) more
 writer_behind-append writer [] more = refl
 writer_behind-append writer (command ∷ commands) more = writer_behind-append (writer_after writer command) commands more
+
+-- the front of commands with one more
+next_front : (commands : List Command) (k n : ℕ) (command : Command) → n ≡ suc k → k < length commands → command ≡ get_or commands k command
+    → take n commands ≡ take k commands ++ command ∷ []
+next_front commands k n command next there is =
+    ap (λ (m : ℕ). take m commands) next ∙ take-suc commands k command there ∙ ap (λ (c : Command). take k commands ++ c ∷ []) (sym is)
+
+pub text_from-next : (writer : CommandWriter) (commands : List Command) (k n : ℕ) (command : Command) → n ≡ suc k → k < length commands → command ≡ get_or commands k command
+    → text_from writer (take n commands) ≡ text_from writer (take k commands) ++ text_by (writer_behind writer (take k commands)) command
+text_from-next writer commands k n command next there is =
+    ap (text_from writer) (next_front commands k n command next there is)
+    ∙ text_from-append writer (take k commands) (command ∷ [])
+    ∙ ap (λ (text : List ℕ). text_from writer (take k commands) ++ text) (append-nil (text_by (writer_behind writer (take k commands)) command))
+
+pub writer_behind-next : (writer : CommandWriter) (commands : List Command) (k n : ℕ) (command : Command) → n ≡ suc k → k < length commands → command ≡ get_or commands k command
+    → writer_behind writer (take n commands) ≡ writer_after (writer_behind writer (take k commands)) command
+writer_behind-next writer commands k n command next there is =
+    ap (writer_behind writer) (next_front commands k n command next there is) ∙ writer_behind-append writer (take k commands) (command ∷ [])
 
 -- behind a log that comes to rest a log goes on as one of its own
 pub written_log-append : (header : Header) (number : ℕ) (commands more : List Command) → ComesToRest header number commands
