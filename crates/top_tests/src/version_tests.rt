@@ -73,6 +73,16 @@ version 2
 addM s4 5 none s0
 -> 8
 refused v0 command 0 CacheFull
+== the last slot of the greatest cache
+version 2 cache 65536
+addM s65535 5 none s0
+put s65535 6162
+evictM s65535 s0
+addM s65534 5 6162 s0
+get s65534 6162
+get s65535 6162
+-> 8
+refused v0 command 5 SlotEmpty
 == a record goes from one verifier to another
 version 2 verifiers 2
 addM s1 5 none s0
@@ -99,7 +109,7 @@ done 1
 
 #[test]
 fn bundles_of_slots_have_their_reports(rt: HostRuntime) {
-    assert_cases(&rt, rt.alloc(), SLOTS, 8);
+    assert_cases(&rt, rt.alloc(), SLOTS, 9);
 }
 
 // A log of one version in a bundle of the other, and a version that there is not.
