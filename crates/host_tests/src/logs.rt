@@ -1,10 +1,13 @@
-//! A host's log: its bytes and its frames.
+//! A host's log: its bytes, in either version, and its frames.
+ghost use Rattle.lamport_clocks.specs.Header.{IsHeader};
+
 use crate::rows::{bytes_of, field, number, same, same_bytes};
 use bundle_frames::write_header;
-use bundle_rows::command_of;
+use bundle_rows::{command_of, log_of};
 use fv_outside::{Failed, MemorySink};
 use host_log::{LogBuffer, frames};
 use lamport_clocks::Header;
+use slot_rewriting::CommandWriter;
 use std::alloc::Global;
 use std::process::Abort;
 
@@ -47,12 +50,32 @@ evictB /1 1.4
 next
 ";
 
-// Adds the commands of rows.
-fn push_rows(rt: &impl Abort, log: &mut LogBuffer, rows: &str) {
+// The commands of both, by slots.
+const BY_SLOTS: &str = "
+addM s1 /0 initial s0
+evictBM s1 s0 0.1
+addM s1 /1 initial s0
+evictBM s1 s0 0.2
+next
+addB s1 /0 initial 0.1 v0
+evictB s1 1.2
+addB s1 /1 initial 0.2 v0
+evictB s1 1.4
+next
+";
+
+// Adds the commands of rows, as this writer writes them.
+fn write_rows(rt: &impl Abort, writer: &mut CommandWriter, log: &mut LogBuffer, rows: &str) {
     for row in rows.trim().lines() {
         let command = command_of(row).expect(rt, "a row of no command");
-        log.push(&command).expect(rt, "memory");
+        log.push(writer, &command).expect(rt, "memory");
     }
+}
+
+// Adds the commands of rows, as they name paths.
+fn push_rows(rt: &impl Abort, log: &mut LogBuffer, rows: &str) {
+    let mut writer = CommandWriter::ByPath;
+    write_rows(rt, &mut writer, log, rows);
 }
 
 // Writes the commands of rows as frames of verifier 0, from a log that takes a spare one's place, which it answers.
@@ -108,6 +131,31 @@ fn a_buffer_goes_on_when_it_was_emptied(rt: HostRuntime) {
     push_rows(&rt, &mut log, LAST_CLOSE);
     log.truncate(96);
     assert_log(&rt, "truncate", &log, &bundle, (24, 120));
+}
+
+// The header of the same host's bundle where its commands name slots.
+fn header_by_slots() -> Header
+    ensures good { IsHeader result }
+{
+    Header {
+        version: 2,
+        verifiers: 1,
+        cache: 128,
+        first: 0,
+        end: 16_777_215,
+    }
+}
+
+#[test]
+fn a_log_by_slots_leaves_out_what_names_none(rt: HostRuntime) {
+    let header = header_by_slots();
+    let mut writer = CommandWriter::new(rt.alloc(), 0, &header).expect(&rt, "memory");
+    let mut log = LogBuffer::new(rt.alloc());
+    write_rows(&rt, &mut writer, &mut log, FIRST_ROUND);
+    write_rows(&rt, &mut writer, &mut log, "get 5 6162");
+    write_rows(&rt, &mut writer, &mut log, LAST_CLOSE);
+    let wanted = log_of(rt.alloc(), BY_SLOTS.trim()).expect(&rt, "rows of no log");
+    same_bytes(&rt, "by slots", log.bytes(), &wanted);
 }
 
 // So many bytes, and the heads of the frames in which they are written for verifier 258.

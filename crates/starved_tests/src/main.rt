@@ -4,11 +4,12 @@
 //! allocation is refused refuses an earlier one of the call's the more are made first, and `tools/fuzzer/refuse_memory.py` has each
 //! refused in turn. Where none is, the program says so of each call.
 //!
-//! `trying` has the calls by their names, `seat` a shard with its hot places and its worker's clock, `plans`, `tables`, `audits` and
-//! `moves` the calls, `same` what is compared, and `outcome` what a try tells.
+//! `trying` has the calls by their names, `seat` a shard with its hot places and its worker's clock, `plans`, `tables`, `logs`,
+//! `audits` and `moves` the calls, `same` what is compared, and `outcome` what a try tells.
 #![tactic(auto)]
 
 mod audits;
+mod logs;
 mod moves;
 mod outcome;
 mod plans;

@@ -1,6 +1,6 @@
 //! The calls by their names, and what is told of a try.
 use crate::outcome::{Fault, Outcome};
-use crate::{audits, moves, plans, tables};
+use crate::{audits, logs, moves, plans, tables};
 use std::alloc::{AllocError, Global};
 
 /// What comes of a line of the input.
@@ -41,6 +41,7 @@ fn tried(alloc: Global, name: &str) -> Result<Outcome, Fault> {
         "away" => moves::away(alloc),
         "back" => moves::back(alloc),
         "exhibit" => audits::exhibit(alloc),
+        "write" => logs::write(alloc),
         _ => Err(Fault::Amiss("no call of this name")),
     }
 }

@@ -6,6 +6,7 @@ use base_words::Memory;
 use host_log::LogBuffer;
 use log_codec::Command;
 use log_rings::{Lane, Parcel, Receiver, Sender, Settled};
+use slot_rewriting::CommandWriter;
 use std::alloc::Global;
 use std::test::Fail;
 use std::thread::join_mut;
@@ -13,7 +14,8 @@ use std::thread::join_mut;
 // A parcel whose buffer has the one byte of a next epoch.
 fn parcel(alloc: Global, number: u64, last: bool) -> Result<Parcel, Memory> {
     let mut buffer = LogBuffer::new(alloc);
-    buffer.push(&Command::NextEpoch)?;
+    let mut writer = CommandWriter::ByPath;
+    buffer.push(&mut writer, &Command::NextEpoch)?;
     Ok(Parcel {
         number,
         buffer,
