@@ -249,15 +249,7 @@ fed_or_not (fed ∷ runs) = go fed.is_starved refl (fed_or_not runs)
     go false is (inl fine) = inl (is, fine)
     go false is (inr starved) = inr (λ all. starved all.1)
 
--- what follows from what holds with an answer, and with an error
-pub ok_with : {T E : Type 0} (A B : Type 0) (r : Result T E) → OnOk r A → (A → OnOk r B) → OnOk r B
-ok_with A B (Ok value) holds then = then holds
-ok_with A B (Err error) holds then = tt
-
-pub on_ok_always : {T E : Type 0} (B : Type 0) (r : Result T E) → B → OnOk r B
-on_ok_always B (Ok value) holds = holds
-on_ok_always B (Err error) holds = tt
-
+-- what follows from what holds with an error
 pub err_with : {T E : Type 0} (A B : Type 0) (r : Result T E) → OnErr r A → (A → B) → OnErr r B
 err_with A B (Ok value) holds then = tt
 err_with A B (Err error) holds then = then holds

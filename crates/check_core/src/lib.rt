@@ -19,6 +19,7 @@ mod concluding;
 mod feeding;
 mod intake;
 mod judging;
+mod passing;
 mod reading;
 
 pub use batch::{BATCH_FRAMES, Batch, Filled, FrameHolder};
@@ -26,5 +27,6 @@ pub use checking::check;
 pub use concluding::{Concluded, Conclusion, conclude};
 pub use feeding::{FEW_BYTES, feed_batch};
 pub use intake::Intake;
+pub use passing::{PASSED_BATCHES, pass_batches};
 pub use reading::read_bundle;
 pub use report_text::Status;
