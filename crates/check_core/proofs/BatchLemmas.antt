@@ -1,7 +1,7 @@
 -- Frames that were read, one more each time.
 use Rattle.std.proofs.Common.{◌≡◌, ◌⊎◌, ℕ, ◌+◌, ◌-◌, ◌<◌, ◌≤◌, List, [], ◌∷◌, ◌++◌, length, map, take, set, Option, Some, None, Ok, Err, OnOk, Result, inl, inr, refl, sym, ◌∙◌, ap, subst, true≢false, append_assoc, length-append, arith}
 use Rattle.std.proofs.lemmas.List.{map-append, take_more_set}
-use Rattle.std.specs.Prelude.{IsSome, IsSomeAnd, IsErrAnd}
+use Rattle.std.specs.Prelude.{IsSome, IsSomeAnd, IsErrAnd, IfOk}
 use Rattle.std.specs.List.{AllByRecursion}
 use Rattle.lamport_clocks.specs.declared.header.Header.{Header}
 use Rattle.bundle_frames.specs.declared.coming.Next.{Next}
@@ -13,7 +13,7 @@ use Rattle.fv_outside.specs.Failures.{FailsBySource}
 use Rattle.bundle_frames.specs.Bundle.{Bundle, IsFrame, with_frames, Frame as FrameOf}
 use Rattle.bundle_frames.specs.Extent.{IsDue}
 use Rattle.bundle_frames.specs.Progress.{position}
-use Rattle.bundle_frames.specs.Reading.{Reading, HasRead, ReadsAs, ahead, end_ahead, next_then, header_then}
+use Rattle.bundle_frames.specs.Reading.{Reading, HasRead, IsSpent, ReadsAs, ahead, end_ahead, next_then, header_then}
 use Rattle.bundle_frames.proofs.ReadingLaws.{HasRead-then, ReadsAs-then, ReadsAs-kept, ReadsAs-map, ReadsAs-back, near-then}
 use Rattle.base_words.specs.declared.memory.Memory.{Memory}
 use Rattle.check_core.specs.declared.batch.Filled.{Filled}
@@ -150,6 +150,11 @@ whole_is filled is = cc
 
 pub stop_is : (stop other : Failure) → filled_is (Stopped stop) ≡ filled_is (Stopped other) → stop ≡ other
 stop_is stop other same = cc
+
+-- there is no more, where not all are there
+pub spent_at : (result : Result Filled Memory) (filled : Filled) (reading : Reading) → result ≡ Ok filled
+    → IfOk result (λ f. (f ≡ Whole → ⊥) → IsSpent reading) → (filled ≡ Whole → ⊥) → IsSpent reading
+spent_at result filled reading is spent = subst (λ (r : Result Filled Memory). IfOk r (λ f. (f ≡ Whole → ⊥) → IsSpent reading)) is spent
 
 -- reading stops by the source alone
 pub by_source : (stop : Failure) → (let next : Result Next Failure = Err stop in FailsBySource next) → (stop ≡ failures.ReadFault) ⊎ (stop ≡ failures.InputLimit)

@@ -32,8 +32,10 @@ use Rattle.certified_epochs.specs.declared.fed_run.FedRun.{FedRun}
 use Rattle.certified_epochs.specs.Turn.{AreFed}
 use Rattle.certified_epochs.proofs.RunsLaws.{all_runs, all_feds, headers_from, weights_from}
 use Rattle.check_core.specs.Batch.{bytes_of, GoesOnBy}
+use Rattle.check_core.specs.Feeding.{AllRead}
 use Rattle.check_core.specs.Intake.{behind_at}
 use Rattle.check_core.specs.Stream.{HasCome, AreChecked, lines_counted, lines_due}
+use Rattle.check_core.proofs.FeedingLemmas.{taken_by_all}
 use Rattle.check_core.proofs.MeaningLemmas.{ahead_header, joined_more}
 
 -- ---- reading on
@@ -174,14 +176,29 @@ module _ (receipts : Bool) (functions : DigestFunctions) (header : Header) (logs
 
 -- ---- what a batch brings
 
+-- what holds of each run holds of it as a run that is fed, and the other way round
+pub runs_headers : (functions : DigestFunctions) (header : Header) (logs : List (List ℕ)) (so_far : Judged) (runs : List FedRun)
+    → AreChecked functions header logs so_far runs → AllByRecursion (λ fed. fed.run.course.machine.header ≡ header) runs
+runs_headers functions header logs so_far runs checked =
+    all_runs (λ run. run.course.machine.header ≡ header) runs
+    (subst (AllByRecursion (λ run. run.course.machine.header ≡ header)) (sym checked.runs_are)
+    (headers_from (scheme_of functions header) header so_far.count 0 logs))
+
 -- the runs took the frames
-pub fed_checked : (functions : DigestFunctions) (header : Header) (logs : List (List ℕ)) (frames : List Frame) (so_far : Judged) (runs runs_fed : List FedRun)
+fed_checked : (functions : DigestFunctions) (header : Header) (logs : List (List ℕ)) (frames : List Frame) (so_far : Judged) (runs runs_fed : List FedRun)
     → AreChecked functions header logs so_far runs
     → map (λ fed. fed.run) runs_fed ≡ runs_behind (scheme_of functions header) 0 (map (λ fed. fed.run) runs) frames
     → AreChecked functions header (joined_from 0 logs frames) so_far runs_fed
 fed_checked functions header logs frames so_far runs runs_fed checked is =
     subst (HaveRead (scheme_of functions header) header (joined_from 0 logs frames) so_far) (sym is)
     (taken-more (scheme_of functions header) header logs so_far (map (λ fed. fed.run) runs) frames checked)
+
+pub read_checked : (functions : DigestFunctions) (header : Header) (logs : List (List ℕ)) (frames : List Frame) (so_far : Judged) (runs runs_fed : List FedRun)
+    → AreChecked functions header logs so_far runs → AllRead functions 0 frames runs runs_fed → AreFed runs_fed
+    → AreChecked functions header (joined_from 0 logs frames) so_far runs_fed
+read_checked functions header logs frames so_far runs runs_fed checked read fine =
+    let headers = runs_headers functions header logs so_far runs checked in
+    fed_checked functions header logs frames so_far runs runs_fed checked (taken_by_all functions frames 0 header runs runs_fed read headers fine).1
 
 module _ (tell : EpochText) (functions : DigestFunctions) (header : Header) (logs : List (List ℕ)) (frames : List Frame) (so_far : Judged) (runs : List FedRun)
     (checked : AreChecked functions header logs so_far runs) where
@@ -259,14 +276,6 @@ on_err_always B (Ok value) holds = tt
 on_err_always B (Err error) holds = holds
 
 -- ---- the runs
-
--- what holds of each run holds of it as a run that is fed, and the other way round
-pub runs_headers : (functions : DigestFunctions) (header : Header) (logs : List (List ℕ)) (so_far : Judged) (runs : List FedRun)
-    → AreChecked functions header logs so_far runs → AllByRecursion (λ fed. fed.run.course.machine.header ≡ header) runs
-runs_headers functions header logs so_far runs checked =
-    all_runs (λ run. run.course.machine.header ≡ header) runs
-    (subst (AllByRecursion (λ run. run.course.machine.header ≡ header)) (sym checked.runs_are)
-    (headers_from (scheme_of functions header) header so_far.count 0 logs))
 
 pub runs_weights : (functions : DigestFunctions) (header : Header) (logs : List (List ℕ)) (so_far now : Judged) (runs runs_now : List FedRun) (bound : ℕ)
     → AreChecked functions header logs so_far runs → AreChecked functions header logs now runs_now

@@ -20,8 +20,7 @@ use std::thread::{Threads, join_mut};
 /// The most batches that are read before what they certify is written.
 pub const PASSED_BATCHES: usize = 4;
 
-/// Reads some batches and feeds them to the runs: while one is fed, the next is read, in the other of two places that take
-/// turns. After want of memory batches and reader are of no more use.
+/// Reads some batches and feeds them to the runs: while one is fed, the next is read, of two that take turns. After want of memory batches and reader are of no more use.
 pub fn pass_batches<R: Threads + Sync, D: Digests + Sync, S: Source>(
     rt: &R,
     alloc: Global,
@@ -29,7 +28,8 @@ pub fn pass_batches<R: Threads + Sync, D: Digests + Sync, S: Source>(
     reader: &mut BundleReader,
     source: &mut S,
     runs: &mut [FedRun],
-    places: (&mut Batch, &mut Batch),
+    behind: &mut Batch,
+    ahead: &mut Batch,
 ) -> Result<Filled, Memory>
     requires due { IsDue reader.old.progress }
     requires header { IsSome reader.old.progress.header }
@@ -42,7 +42,6 @@ pub fn pass_batches<R: Threads + Sync, D: Digests + Sync, S: Source>(
         × HasFilled 64 frames result reader.old reader.new (S.left source.old) (S.left source.new) (S.faults source.old) (S.faults source.new)
         × OnOk result (AllRead (D.functions d.now) 0 frames runs.old runs.new) }
 {
-    let (behind, ahead) = places;
     behind.clear();
     pass_more(
         rt,
