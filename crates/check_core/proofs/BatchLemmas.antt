@@ -1,4 +1,4 @@
--- Frames that were read, one more each time.
+-- Frames that were read, one more each time, and some behind others.
 use Rattle.std.proofs.Common.{◌≡◌, ◌⊎◌, ℕ, ◌+◌, ◌-◌, ◌<◌, ◌≤◌, List, [], ◌∷◌, ◌++◌, length, map, take, set, Option, Some, None, Ok, Err, OnOk, Result, inl, inr, refl, sym, ◌∙◌, ap, subst, true≢false, append_assoc, length-append, arith}
 use Rattle.std.proofs.lemmas.List.{map-append, take_more_set}
 use Rattle.std.specs.Prelude.{IsSome, IsSomeAnd, IsErrAnd, IfOk}
@@ -54,6 +54,7 @@ bytes_more (first ∷ frames) frame =
     let rest = bytes_more frames frame in
     omega (arith, rest)
 
+-- the same of more frames
 pub bytes_append : (frames more : List FrameOf) → bytes_of (frames ++ more) ≡ bytes_of frames + bytes_of more
 bytes_append [] more = omega arith
 bytes_append (frame ∷ frames) more =
@@ -76,6 +77,7 @@ all_more : (P : FrameOf → Type 0) (frames : List FrameOf) (frame : FrameOf) �
 all_more P [] frame all last = (last, tt)
 all_more P (first ∷ frames) frame all last = (all.0, all_more P frames frame all.1 last)
 
+-- the same of more frames
 all_append : (P : FrameOf → Type 0) (frames more : List FrameOf) → AllByRecursion P frames → AllByRecursion P more → AllByRecursion P (frames ++ more)
 all_append P [] more all then = then
 all_append P (frame ∷ frames) more all then = (all.0, all_append P frames more all.1 then)
@@ -219,6 +221,7 @@ reads_none n x frames old new result reads none =
 
 -- ---- some frames, and then more
 
+-- reading went on by these, and then by those
 goes_on : (some more : List FrameOf) (old new last : Reading) (x y : Option (List ℕ)) → HasRead (new.taken - old.taken) x y
     → old.taken ≤ new.taken → new.taken ≤ last.taken → GoesOnBy some old new x → GoesOnBy more new last y → GoesOnBy (some ++ more) old last x
 goes_on some more old new last x y read rises rises' first then =
@@ -233,6 +236,7 @@ goes_on some more old new last x y read rises rises' first then =
       bytes = omega (arith, bytes, first.bytes, then.bytes);
     }
 
+-- Where all that were to be read came, and then more: they were read as one.
 module _ (most most' : ℕ) (some more : List FrameOf) (whole result : Result Filled Memory) (old new last : Reading)
     (x y z : Option (List ℕ)) (faults faults' faults'' : ℕ) (is : whole ≡ Ok Whole)
     (first : HasFilled most some whole old new x y faults faults') (then : HasFilled most' more result new last y z faults' faults'') where
@@ -268,7 +272,7 @@ module _ (most most' : ℕ) (some more : List FrameOf) (whole result : Result Fi
         never_falls = omega (arith, first.never_falls, then.never_falls);
       }
 
--- the same where as many were to be read as came, if they are whole
+-- how many were to be read matters only where all came
 pub filled_most : (most most' : ℕ) (frames : List FrameOf) (result : Result Filled Memory) (old new : Reading) (x y : Option (List ℕ)) (faults faults' : ℕ)
     → HasFilled most frames result old new x y faults faults' → (result ≡ Ok Whole → most ≡ most')
     → HasFilled most' frames result old new x y faults faults'

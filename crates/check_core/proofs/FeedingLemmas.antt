@@ -1,4 +1,4 @@
--- Runs that are fed the frames of a batch.
+-- Runs that are fed frames.
 use Rattle.std.proofs.Common.{◌≡◌, ℕ, zero, suc, ◌+◌, ◌<◌, ◌≤◌, false, true, Bool, List, [], ◌∷◌, ◌++◌, length, map, get_or, refl, sym, ◌∙◌, ap, subst, if◌then◌else◌, arith}
 use Rattle.std.proofs.lemmas.Bool.{eq-eqb, ne_eqb}
 use Rattle.std.specs.List.{AllByRecursion}
@@ -133,13 +133,6 @@ module _ (functions : DigestFunctions) (frames : List Frame) where
             ∙ ap (λ (runs : List (Progress Operation)). having_read (scheme_of functions header) number old.run frames ∷ runs) rest.1,
       )
 
-  pub headers_of_all : (number : ℕ) (header : Header) (olds news : List FedRun) → AllRead functions number frames olds news
-      → AllByRecursion (λ fed. fed.run.course.machine.header ≡ header) olds → AllByRecursion (λ fed. fed.run.course.machine.header ≡ header) news
-  headers_of_all number header [] [] each headers = tt
-  headers_of_all number header [] (new ∷ news) each headers = absurd each
-  headers_of_all number header (old ∷ olds) [] each headers = absurd each
-  headers_of_all number header (old ∷ olds) (new ∷ news) each headers = (each.0.header ∙ headers.0, headers_of_all (suc number) header olds news each.1 headers.1)
-
   pub weights_of_all : (number bound : ℕ) (olds news : List FedRun) → AllRead functions number frames olds news
       → AllByRecursion (λ fed. weight fed.run ≤ bound) olds → AllByRecursion (λ fed. weight fed.run ≤ bound + bytes_of frames) news
   weights_of_all number bound [] [] each weights = tt
@@ -201,12 +194,13 @@ room_of_all functions number frames bound (old ∷ olds) [] each room = absurd e
 room_of_all functions number frames bound (old ∷ olds) (new ∷ news) each room =
     (omega (arith, each.0.weight, room.0), room_of_all functions (suc number) frames bound olds news each.1 room.1)
 
+-- what is at most a bound that is below 2^63 has room
 pub room_within : (runs : List FedRun) (bytes bound : ℕ) → bound < 9223372036854775808
     → AllByRecursion (λ fed. weight fed.run + bytes ≤ bound) runs → AllByRecursion (λ fed. weight fed.run + bytes < 9223372036854775808) runs
 room_within [] bytes bound below room = tt
 room_within (fed ∷ runs) bytes bound below room = (omega (arith, below, room.0), room_within runs bytes bound below room.1)
 
--- what weighs so much and more bytes
+-- what weighed no more than was read leaves room for the frames that were read then
 pub room_behind : (runs : List FedRun) (bytes bound more : ℕ) → bytes + bound ≤ more
     → AllByRecursion (λ fed. weight fed.run ≤ bound) runs → AllByRecursion (λ fed. weight fed.run + bytes ≤ more) runs
 room_behind [] bytes bound more below all = tt

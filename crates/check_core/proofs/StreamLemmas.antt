@@ -1,5 +1,5 @@
 -- A check in the middle of a bundle, batch after batch.
-use Rattle.std.proofs.Common.{◌≡◌, ◌⊎◌, ℕ, zero, suc, ◌+◌, ◌-◌, ◌<◌, ◌≤◌, Bool, List, [], ◌∷◌, ◌++◌, length, map, take, drop, Option, Some, None, IfSome, Result, Ok, Err, OnOk, OnErr, inl, inr, true, false, true≢false, refl, sym, ◌∙◌, ap, subst, append-nil, take-append-drop, arith}
+use Rattle.std.proofs.Common.{◌≡◌, ◌⊎◌, ℕ, zero, suc, ◌+◌, ◌-◌, ◌<◌, ◌≤◌, Bool, List, [], ◌∷◌, ◌++◌, length, map, take, drop, Option, Some, None, IfSome, inl, inr, true, false, true≢false, refl, sym, ◌∙◌, ap, subst, append-nil, take-append-drop, arith}
 use Rattle.std.specs.List.{AllByRecursion}
 use Rattle.std.proofs.Math.Seq.{take-add}
 use Rattle.fv_outside.specs.Consumed.{most_behind}
@@ -193,6 +193,7 @@ fed_checked functions header logs frames so_far runs runs_fed checked is =
     subst (HaveRead (scheme_of functions header) header (joined_from 0 logs frames) so_far) (sym is)
     (taken-more (scheme_of functions header) header logs so_far (map (λ fed. fed.run) runs) frames checked)
 
+-- the same of frames that each run took
 pub read_checked : (functions : DigestFunctions) (header : Header) (logs : List (List ℕ)) (frames : List Frame) (so_far : Judged) (runs runs_fed : List FedRun)
     → AreChecked functions header logs so_far runs → AllRead functions 0 frames runs runs_fed → AreFed runs_fed
     → AreChecked functions header (joined_from 0 logs frames) so_far runs_fed
@@ -266,15 +267,6 @@ fed_or_not (fed ∷ runs) = go fed.is_starved refl (fed_or_not runs)
     go false is (inl fine) = inl (is, fine)
     go false is (inr starved) = inr (λ all. starved all.1)
 
--- what follows from what holds with an error
-pub err_with : {T E : Type 0} (A B : Type 0) (r : Result T E) → OnErr r A → (A → B) → OnErr r B
-err_with A B (Ok value) holds then = tt
-err_with A B (Err error) holds then = then holds
-
-pub on_err_always : {T E : Type 0} (B : Type 0) (r : Result T E) → B → OnErr r B
-on_err_always B (Ok value) holds = tt
-on_err_always B (Err error) holds = holds
-
 -- ---- the runs
 
 pub runs_weights : (functions : DigestFunctions) (header : Header) (logs : List (List ℕ)) (so_far now : Judged) (runs runs_now : List FedRun) (bound : ℕ)
@@ -286,12 +278,7 @@ runs_weights functions header logs so_far now runs runs_now bound checked checke
     (weights_from (scheme_of functions header) header so_far.count now.count 0 bound logs
     (subst (AllByRecursion (λ run. weight run ≤ bound)) checked.runs_are (all_feds (λ run. weight run ≤ bound) runs weights))))
 
--- there is room for what a batch has
-pub weights_room : (runs : List FedRun) (bound bytes : ℕ) → bound + bytes < 9223372036854775808
-    → AllByRecursion (λ fed. weight fed.run ≤ bound) runs → AllByRecursion (λ fed. weight fed.run + bytes < 9223372036854775808) runs
-weights_room [] bound bytes room all = tt
-weights_room (fed ∷ runs) bound bytes room all = (omega (arith, room, all.0), weights_room runs bound bytes room all.1)
-
+-- a higher bound
 pub weights_more : (runs : List FedRun) (bound more : ℕ) → bound ≤ more
     → AllByRecursion (λ fed. weight fed.run ≤ bound) runs → AllByRecursion (λ fed. weight fed.run ≤ more) runs
 weights_more [] bound more below all = tt

@@ -51,7 +51,6 @@ pub record HasFilled (most : ℕ) (frames : List Frame) (result : Result Filled 
   pub goes_on : OnOk result (GoesOnBy frames old new left)
   pub ranges : (header : Header) → old.progress.header ≡ Some header → AllByRecursion (IsFrame header.verifiers) frames
   pub whole : result ≡ Ok Whole → length frames ≡ most
-
   -- What was taken of the source. Past the limit it is one byte, and that is not read.
   pub having_read : result ≢ Ok (Stopped InputLimit) → HasRead (new.taken - old.taken) left left_now
   pub limit : result ≡ Ok (Stopped InputLimit) → HasRead (new.limit + 1 - old.taken) left left_now
@@ -60,15 +59,12 @@ pub record HasFilled (most : ℕ) (frames : List Frame) (result : Result Filled 
   pub within : new.taken ≤ new.limit
   pub same_limit : new.limit ≡ old.limit
   pub split : position new.progress ≤ new.taken
-
   -- A piece is read only while reading ends behind what was taken, and a byte past the limit too.
   pub near : old.taken < new.taken → IfSome left (λ bytes. new.taken ≤ end_ahead old bytes + most_behind)
   pub beyond : result ≡ Ok (Stopped InputLimit) → IfSome left (λ bytes. new.limit < end_ahead old bytes)
-
   -- At the end no byte that is left makes a difference, and reading ended within what was taken.
   pub end : result ≡ Ok End → IfSome left_now (λ more. ahead new more ≡ ahead new [])
   pub reached : result ≡ Ok End → IfSome left_now (λ more. end_ahead new more ≤ new.taken)
-
   -- There is no more of what was read, but where all frames are there.
   pub spent : IfOk result (λ filled. filled ≢ Whole → IsSpent new)
   pub due : result ≡ Ok Whole → IsDue new.progress

@@ -1,13 +1,7 @@
 //! Frames that are read before they are fed.
-ghost use Rattle.std.specs.Prelude.{◌≡◌, ◌≢◌, ◌⊎◌, ℕ, ◌+◌, ◌-◌, ◌<◌, ◌≤◌, ◌++◌, ◌∷◌, [], length, map, take, true, false, Ok, Some, IfOk, IfSome, IsSome, OnOk, OnErr, vec_len};
-ghost use Rattle.std.specs.List.{AllByRecursion};
-ghost use Rattle.fv_outside.specs.Consumed.{most_behind};
-ghost use Rattle.fv_outside.specs.Faults.{Rose};
-ghost use Rattle.lamport_clocks.specs.declared.header.Header.{Header};
-ghost use Rattle.bundle_frames.specs.Bundle.{IsFrame, longest_body};
+ghost use Rattle.std.specs.Prelude.{◌≡◌, ◌+◌, ◌<◌, ◌≤◌, ◌++◌, ◌∷◌, [], length, map, take, true, false, IsSome, OnOk, OnErr, vec_len};
+ghost use Rattle.bundle_frames.specs.Bundle.{longest_body};
 ghost use Rattle.bundle_frames.specs.Extent.{IsDue};
-ghost use Rattle.bundle_frames.specs.Progress.{position};
-ghost use Rattle.bundle_frames.specs.Reading.{ahead, end_ahead, HasRead, IsSpent};
 ghost use Rattle.check_core.specs.Batch.{frame_in, bytes_of, HasFilled};
 
 use base_words::Memory;
@@ -114,8 +108,8 @@ impl Batch {
         Ok(Filled::Whole)
     }
 
-    /// Lets the frames go.
-    pub fn clear(&mut self)
+    // Lets the frames go.
+    pub(crate) fn clear(&mut self)
         ensures empty { self.new ≡ [] }
     {
         self.count = 0;

@@ -1,30 +1,22 @@
 //! A check of a bundle: what is certified, and how its report ends.
-ghost use Rattle.std.specs.Prelude.{◌≡◌, ◌≢◌, ◌+◌, ◌<◌, ◌≤◌, ◌^◌, ◌⊎◌, ℕ, List, Option, Some, length, map, IfSome, OnOk, OnErr, Ok, Err};
-ghost use Rattle.std.specs.List.{AllByRecursion};
-ghost use Rattle.fv_outside.specs.Failures.{FailsByWriting};
+ghost use Rattle.std.specs.Prelude.{◌≡◌, ◌≢◌, ◌+◌, ◌<◌, ◌≤◌, ◌^◌, ◌⊎◌, ℕ, List, Option, Some, IfSome, OnOk, OnErr, Ok, Err};
 ghost use Rattle.fv_outside.specs.Faults.{Rose};
 ghost use Rattle.fv_outside.specs.Written.{Grows, GrowsByFront};
 ghost use Rattle.lamport_clocks.specs.declared.header.Header.{Header};
 ghost use Rattle.lamport_clocks.specs.Header.{IsHeader};
-ghost use Rattle.merkle_records.specs.Scheme.{scheme_of};
-ghost use Rattle.verifier_run.specs.Progress.{weight};
 ghost use Rattle.report_text.specs.Answer.{AnswersTo};
 ghost use Rattle.bundle_frames.specs.Extent.{reading_end, IsDue};
 ghost use Rattle.bundle_frames.specs.Progress.{position};
-ghost use Rattle.bundle_report.specs.Logs.{empty_logs, joined_from};
+ghost use Rattle.bundle_report.specs.Logs.{empty_logs};
 ghost use Rattle.bundle_report.specs.Headline.{IsSound};
 ghost use Rattle.bundle_report.specs.Answer.{check_answer, no_answer};
-ghost use Rattle.bundle_report.specs.RunReport.{courses_of};
-ghost use Rattle.bundle_report.specs.Judged.{judged};
-ghost use Rattle.certified_epochs.specs.Telling.{text_by};
-ghost use Rattle.check_core.specs.Batch.{bytes_of};
 ghost use Rattle.check_core.specs.Outcomes.{IsCheckStatus, check_status};
-ghost use Rattle.check_core.specs.Stream.{HasCome, AreChecked, lines_counted, lines_due};
+ghost use Rattle.check_core.specs.Stream.{HasCome};
 
 use crate::batch::{Batch, Filled};
 use crate::passing::pass_batches;
 use bundle_frames::{BundleReader, Next};
-use certified_epochs::{Certifier, FedRun, Telling, open_runs};
+use certified_epochs::{Certifier, Telling, open_runs};
 use fv_outside::{Failure, Sink, Source};
 use lamport_clocks::Header;
 use load_summary::Summary;
@@ -134,16 +126,7 @@ fn check_frames<R: Threads + Sync, D: Digests + Sync, S: Source, O: Sink>(
     let mut behind = Batch::new(alloc);
     let mut ahead = Batch::new(alloc);
     'batches: loop {
-        let filled = pass_batches(
-            rt,
-            alloc,
-            d,
-            reader,
-            source,
-            runs,
-            &mut behind,
-            &mut ahead,
-        )?;
+        let filled = pass_batches(rt, alloc, d, reader, source, runs, &mut behind, &mut ahead)?;
         certifier.certify(&[], runs, &telling, &mut summary, out)?;
         match filled {
             Filled::Whole => {}

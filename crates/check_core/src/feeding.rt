@@ -1,5 +1,5 @@
 //! Frames, fed to the runs of their verifiers, side by side.
-ghost use Rattle.std.specs.Prelude.{◌≡◌, ◌+◌, ◌<◌, ◌≤◌, ◌^◌, ℕ, length, map};
+ghost use Rattle.std.specs.Prelude.{◌+◌, ◌<◌, ◌^◌, map};
 ghost use Rattle.std.specs.List.{AllByRecursion};
 ghost use Rattle.verifier_run.specs.Progress.{weight};
 ghost use Rattle.check_core.specs.Batch.{frame_in, bytes_of};

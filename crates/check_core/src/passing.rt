@@ -1,5 +1,5 @@
 //! Batches that are read and fed: while one is fed, the next is read.
-ghost use Rattle.std.specs.Prelude.{◌≡◌, ℕ, ◌+◌, ◌*◌, ◌<◌, ◌≤◌, ◌++◌, ◌^◌, List, IsSome, OnOk};
+ghost use Rattle.std.specs.Prelude.{◌+◌, ◌*◌, ◌<◌, ◌≤◌, ◌++◌, ◌^◌, List, IsSome, OnOk};
 ghost use Rattle.std.specs.List.{AllByRecursion};
 ghost use Rattle.verifier_run.specs.Progress.{weight};
 ghost use Rattle.bundle_frames.specs.Bundle.{Frame};
@@ -81,17 +81,7 @@ fn pass_more<R: Threads + Sync, D: Digests + Sync, S: Source>(
     let filled = feed_and_fill(rt, alloc, d, reader, source, runs, behind, ahead)?;
     if count > 1 {
         if let Filled::Whole = filled {
-            return pass_more(
-                rt,
-                alloc,
-                d,
-                reader,
-                source,
-                runs,
-                ahead,
-                behind,
-                count - 1,
-            );
+            return pass_more(rt, alloc, d, reader, source, runs, ahead, behind, count - 1);
         }
     }
     feed_batch(rt, d, ahead, runs);

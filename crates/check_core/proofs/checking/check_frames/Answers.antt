@@ -1,6 +1,5 @@
-use Rattle.std.proofs.Common.{◌≡◌, Bool, Option, ◌+◌, ◌-◌, ◌≤◌, ℕ, List, ◌++◌, map, take, drop, length, Some, Result, Ok, Err, refl, sym, ◌∙◌, ap, subst, ⊎_elim, arith}
+use Rattle.std.proofs.Common.{◌≡◌, Bool, Option, ◌+◌, ◌-◌, ◌≤◌, ℕ, List, map, length, Some, Result, Ok, Err, refl, sym, ◌∙◌, ap, subst, ⊎_elim, arith}
 use Rattle.std.specs.Prelude.{IsErrAnd}
-use Rattle.std.specs.List.{AllByRecursion}
 use Rattle.base_words.specs.declared.memory.Memory.{Memory}
 use Rattle.fv_outside.specs.Written.{Grows, GrowsByFront}
 use Rattle.fv_outside.proofs.WrittenLaws.{Grows-nil, Grows-then, GrowsByFront-none, GrowsByFront-then}
@@ -24,15 +23,13 @@ use Rattle.bundle_report.proofs.SoFarLaws.{taken-more}
 use Rattle.fv_outside.specs.declared.failure.Failure.TheVariants as failures
 use Rattle.report_text.specs.Ending.{status_of}
 use Rattle.report_text.specs.Status.{last_line}
-use Rattle.verifier_run.specs.Progress.{weight}
-use Rattle.certified_epochs.specs.declared.fed_run.FedRun.{FedRun}
 use Rattle.certified_epochs.specs.Telling.{text_by}
 use Rattle.check_core.specs.declared.batch.Filled.{Filled}
 use Rattle.check_core.specs.declared.batch.Filled.TheVariants.{Whole, End, Stopped}
 use Rattle.check_core.specs.Batch.{bytes_of}
 use Rattle.check_core.specs.Intake.{behind_at}
 use Rattle.check_core.specs.Outcomes.{check_status}
-use Rattle.check_core.specs.Stream.{HasCome, AreChecked, lines_counted, lines_due}
+use Rattle.check_core.specs.Stream.{HasCome, lines_counted, lines_due}
 use Rattle.report_text.proofs.AnsweringLaws.{rose_before}
 use Rattle.check_core.proofs.BatchLemmas.{in_ok, spent_at}
 use Rattle.check_core.proofs.FeedingLemmas.{weights_of_all, length_of_all}
@@ -195,14 +192,14 @@ returns-in_err-certify-clause-answers g c = λ left faults come.
     let tell = text_by g.D.Digests.functions c.new-telling.result in
     let held = g.O.Sink.held c.args.out.now in
     let front = ⊎_elim
-        (λ fine.
-        let fed = read_checked functions header inv.logs frames c.batches.certifier c.batches.runs c.pass_batches.new.runs inv.checked read fine in
-        front_more tell functions header inv.logs frames c.batches.certifier c.batches.runs inv.checked c.pass_batches.new.runs held (g.O.Sink.held c.batches.out) (g.O.Sink.held c.certify.new.out) fed inv.written
-        (c.in_err-certify.ensures.front (scheme_of functions header) header (joined_from 0 inv.logs frames) fed))
-        (λ starved.
-        front_none tell functions header inv.logs frames c.batches.certifier c.batches.runs inv.checked held (g.O.Sink.held c.batches.out) (g.O.Sink.held c.certify.new.out) inv.written
-        (ap g.O.Sink.held (c.certify.ensures.starved starved).1))
-        (fed_or_not c.pass_batches.new.runs) in
+    (λ fine.
+    let fed = read_checked functions header inv.logs frames c.batches.certifier c.batches.runs c.pass_batches.new.runs inv.checked read fine in
+    front_more tell functions header inv.logs frames c.batches.certifier c.batches.runs inv.checked c.pass_batches.new.runs held (g.O.Sink.held c.batches.out) (g.O.Sink.held c.certify.new.out) fed inv.written
+    (c.in_err-certify.ensures.front (scheme_of functions header) header (joined_from 0 inv.logs frames) fed))
+    (λ starved.
+    front_none tell functions header inv.logs frames c.batches.certifier c.batches.runs inv.checked held (g.O.Sink.held c.batches.out) (g.O.Sink.held c.certify.new.out) inv.written
+    (ap g.O.Sink.held (c.certify.ensures.starved starved).1))
+    (fed_or_not c.pass_batches.new.runs) in
     let now = inv.come left faults come in
     let read : Reading = record {
       left = left;
@@ -255,7 +252,7 @@ batches-preserved g c =
     let taken = c.in_ok-certify.ensures.taken scheme header all fed in
     let counted = c.in_ok-certify.ensures.judged scheme header all fed in
     let due = due_more (text_by g.D.Digests.functions c.new-telling.result) functions header inv.logs frames c.batches.certifier c.batches.runs inv.checked c.certify.new.self c.pass_batches.new.runs c.certify.new.runs
-        (g.O.Sink.held c.args.out.now) (g.O.Sink.held c.batches.out) (g.O.Sink.held c.certify.new.out) fed taken counted inv.written (c.in_ok-certify.ensures.lines scheme header all fed) in
+    (g.O.Sink.held c.args.out.now) (g.O.Sink.held c.batches.out) (g.O.Sink.held c.certify.new.out) fed taken counted inv.written (c.in_ok-certify.ensures.lines scheme header all fed) in
     let whole = c.in_ok-filled.was ∙ ap Ok c.in-Whole.is in
     record {
       logs = all;
@@ -299,7 +296,7 @@ returns-in-Stopped-clause-answers g c = λ left faults come.
     let taken = c.in_ok-certify.ensures.taken scheme header all fed in
     let counted = c.in_ok-certify.ensures.judged scheme header all fed in
     let due = due_more (text_by g.D.Digests.functions c.new-telling.result) functions header inv.logs frames c.batches.certifier c.batches.runs inv.checked c.certify.new.self c.pass_batches.new.runs c.certify.new.runs
-        (g.O.Sink.held c.args.out.now) (g.O.Sink.held c.batches.out) (g.O.Sink.held c.certify.new.out) fed taken counted inv.written (c.in_ok-certify.ensures.lines scheme header all fed) in
+    (g.O.Sink.held c.args.out.now) (g.O.Sink.held c.batches.out) (g.O.Sink.held c.certify.new.out) fed taken counted inv.written (c.in_ok-certify.ensures.lines scheme header all fed) in
     let now = inv.come left faults come in
     let stopped = c.in_ok-filled.was ∙ ap Ok c.in-Stopped.is in
     let same = fill.same_limit ∙ inv.limit in
@@ -351,7 +348,7 @@ returns-in_err-finish-clause-answers g c = λ left faults come.
     let taken = c.in_ok-certify.ensures.taken scheme header all fed in
     let counted = c.in_ok-certify.ensures.judged scheme header all fed in
     let due = due_more (text_by g.D.Digests.functions c.new-telling.result) functions header inv.logs frames c.batches.certifier c.batches.runs inv.checked c.certify.new.self c.pass_batches.new.runs c.certify.new.runs
-        (g.O.Sink.held c.args.out.now) (g.O.Sink.held c.batches.out) (g.O.Sink.held c.certify.new.out) fed taken counted inv.written (c.in_ok-certify.ensures.lines scheme header all fed) in
+    (g.O.Sink.held c.args.out.now) (g.O.Sink.held c.batches.out) (g.O.Sink.held c.certify.new.out) fed taken counted inv.written (c.in_ok-certify.ensures.lines scheme header all fed) in
     let now = inv.come left faults come in
     let ended = c.in_ok-filled.was ∙ ap Ok c.in-End.is in
     let sum : new.taken ≡ old.taken + (new.taken - old.taken) = omega (arith, fill.rises) in
@@ -402,7 +399,7 @@ returns-clause-answers g c = λ left faults come.
     let taken = c.in_ok-certify.ensures.taken scheme header all fed in
     let counted = c.in_ok-certify.ensures.judged scheme header all fed in
     let due = due_more (text_by g.D.Digests.functions c.new-telling.result) functions header inv.logs frames c.batches.certifier c.batches.runs inv.checked c.certify.new.self c.pass_batches.new.runs c.certify.new.runs
-        (g.O.Sink.held c.args.out.now) (g.O.Sink.held c.batches.out) (g.O.Sink.held c.certify.new.out) fed taken counted inv.written (c.in_ok-certify.ensures.lines scheme header all fed) in
+    (g.O.Sink.held c.args.out.now) (g.O.Sink.held c.batches.out) (g.O.Sink.held c.certify.new.out) fed taken counted inv.written (c.in_ok-certify.ensures.lines scheme header all fed) in
     let now = inv.come left faults come in
     let ended = c.in_ok-filled.was ∙ ap Ok c.in-End.is in
     let sum : new.taken ≡ old.taken + (new.taken - old.taken) = omega (arith, fill.rises) in

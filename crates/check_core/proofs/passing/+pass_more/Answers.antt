@@ -1,13 +1,6 @@
-use Rattle.std.proofs.Common.{◌≡◌, ℕ, ◌+◌, ◌*◌, ◌++◌, ◌∙◌, ap, Ok, Err, Result, OnOk, List, subst, arith}
-use Rattle.std.specs.List.{AllByRecursion}
-use Rattle.base_words.specs.declared.memory.Memory.{Memory}
-use Rattle.verifier_run.specs.Progress.{weight}
-use Rattle.certified_epochs.specs.declared.fed_run.FedRun.{FedRun}
-use Rattle.check_core.specs.declared.batch.Filled.{Filled}
-use Rattle.check_core.specs.declared.batch.Filled.TheVariants.{Whole}
-use Rattle.check_core.specs.Batch.{bytes_of, HasFilled}
-use Rattle.check_core.specs.Feeding.{AllRead}
-use Rattle.check_core.proofs.BatchLemmas.{in_ok, ok_with, on_ok_always, filled_more, filled_most, whole_is}
+use Rattle.std.proofs.Common.{◌++◌, ◌∙◌, ap, Ok, arith}
+use Rattle.check_core.specs.Batch.{bytes_of}
+use Rattle.check_core.proofs.BatchLemmas.{ok_with, on_ok_always, filled_more, filled_most, whole_is}
 use Rattle.check_core.proofs.FeedingLemmas.{read_more, room_of_all, room_behind, room_within}
 use Rattle.check_core.proofs.passing.+pass_more.Goals.{then-count-gt1+in_default, else-count-gt1}
 use Rattle.check_core.proofs.passing.+pass_more.Goals as goal
