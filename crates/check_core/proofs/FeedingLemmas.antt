@@ -1,20 +1,21 @@
--- Runs that are fed the frames of a batch.
-use Rattle.std.proofs.Common.{◌≡◌, ℕ, zero, suc, ◌+◌, ◌<◌, ◌≤◌, false, true, Bool, List, [], ◌∷◌, length, map, get_or, refl, sym, ◌∙◌, ap, subst, if◌then◌else◌, arith}
+-- Runs that are fed frames.
+use Rattle.std.proofs.Common.{◌≡◌, ℕ, zero, suc, ◌+◌, ◌<◌, ◌≤◌, false, true, Bool, List, [], ◌∷◌, ◌++◌, length, map, get_or, refl, sym, ◌∙◌, ap, subst, if◌then◌else◌, arith}
 use Rattle.std.proofs.lemmas.Bool.{eq-eqb, ne_eqb}
 use Rattle.std.specs.List.{AllByRecursion}
 use Rattle.lamport_clocks.specs.declared.header.Header.{Header}
 use Rattle.record_hash.specs.Functions.{DigestFunctions}
-use Rattle.merkle_records.specs.Scheme.{scheme_of}
+use Rattle.merkle_records.specs.Scheme.{Scheme, scheme_of}
 use Rattle.bundle_frames.specs.Bundle.{Frame}
 use Rattle.record_text.specs.declared.operation.Operation.{Operation}
 use Rattle.verifier_run.specs.Kept.{keeps_operations}
 use Rattle.verifier_run.specs.Progress.{Progress, fed, weight}
-use Rattle.bundle_report.specs.SoFar.{having_read, runs_behind}
+use Rattle.bundle_report.specs.SoFar.{having_read, having_read_one, runs_behind}
 use Rattle.certified_epochs.specs.declared.fed_run.FedRun.{FedRun}
 use Rattle.certified_epochs.specs.Turn.{AreFed}
 use Rattle.check_core.specs.declared.batch.FrameHolder.{FrameHolder}
 use Rattle.check_core.specs.Batch.{frame_in, bytes_of}
-use Rattle.check_core.specs.Feeding.{Reads}
+use Rattle.check_core.proofs.BatchLemmas.{bytes_append}
+use Rattle.check_core.specs.Feeding.{Reads, AllRead}
 
 -- ---- one run
 
@@ -104,13 +105,6 @@ all_at P [] i d within all = absurd (omega (arith, within))
 all_at P (x ∷ xs) zero d within all = all.0
 all_at P (x ∷ xs) (suc i) d within all = all_at P xs i d (omega (arith, within)) all.1
 
--- each run took the frames of its verifier, the first of which has this number
-abbrev pub AllRead : DigestFunctions → ℕ → List Frame → List FedRun → List FedRun → Type 0
-AllRead functions number frames [] [] = Unit {0}
-AllRead functions number frames [] (new ∷ news) = ⊥
-AllRead functions number frames (old ∷ olds) [] = ⊥
-AllRead functions number frames (old ∷ olds) (new ∷ news) = Reads functions number frames old new × AllRead functions (suc number) frames olds news
-
 pub all_take : (functions : DigestFunctions) (number : ℕ) (frames : List Frame) (olds news : List FedRun) → length news ≡ length olds
     → ((i : ℕ) (d : FedRun) → i < length olds → Reads functions (number + i) frames (get_or olds i d) (get_or news i d))
     → AllRead functions number frames olds news
@@ -139,13 +133,6 @@ module _ (functions : DigestFunctions) (frames : List Frame) where
             ∙ ap (λ (runs : List (Progress Operation)). having_read (scheme_of functions header) number old.run frames ∷ runs) rest.1,
       )
 
-  pub headers_of_all : (number : ℕ) (header : Header) (olds news : List FedRun) → AllRead functions number frames olds news
-      → AllByRecursion (λ fed. fed.run.course.machine.header ≡ header) olds → AllByRecursion (λ fed. fed.run.course.machine.header ≡ header) news
-  headers_of_all number header [] [] each headers = tt
-  headers_of_all number header [] (new ∷ news) each headers = absurd each
-  headers_of_all number header (old ∷ olds) [] each headers = absurd each
-  headers_of_all number header (old ∷ olds) (new ∷ news) each headers = (each.0.header ∙ headers.0, headers_of_all (suc number) header olds news each.1 headers.1)
-
   pub weights_of_all : (number bound : ℕ) (olds news : List FedRun) → AllRead functions number frames olds news
       → AllByRecursion (λ fed. weight fed.run ≤ bound) olds → AllByRecursion (λ fed. weight fed.run ≤ bound + bytes_of frames) news
   weights_of_all number bound [] [] each weights = tt
@@ -153,3 +140,68 @@ module _ (functions : DigestFunctions) (frames : List Frame) where
   weights_of_all number bound (old ∷ olds) [] each weights = absurd each
   weights_of_all number bound (old ∷ olds) (new ∷ news) each weights =
       (omega (arith, each.0.weight, weights.0), weights_of_all (suc number) bound olds news each.1 weights.1)
+
+-- there are as many
+pub length_of_all : (functions : DigestFunctions) (number : ℕ) (frames : List Frame) (olds news : List FedRun) → AllRead functions number frames olds news
+    → length news ≡ length olds
+length_of_all functions number frames [] [] each = refl
+length_of_all functions number frames [] (new ∷ news) each = absurd each
+length_of_all functions number frames (old ∷ olds) [] each = absurd each
+length_of_all functions number frames (old ∷ olds) (new ∷ news) each =
+    let rest = length_of_all functions (suc number) frames olds news each.1 in
+    omega (arith, rest)
+
+-- ---- frames, and then more of them
+
+having_read-append : (scheme : Scheme) (number : ℕ) (run : Progress Operation) (frames more : List Frame)
+    → having_read scheme number run (frames ++ more) ≡ having_read scheme number (having_read scheme number run frames) more
+having_read-append scheme number run [] more = refl
+having_read-append scheme number run (frame ∷ frames) more = having_read-append scheme number (having_read_one scheme number run frame) frames more
+
+reads_more : (functions : DigestFunctions) (number : ℕ) (frames more : List Frame) (old now new : FedRun) → Reads functions number frames old now
+    → Reads functions number more now new → Reads functions number (frames ++ more) old new
+reads_more functions number frames more old now new first next =
+    let scheme = scheme_of functions old.run.course.machine.header in
+    let bytes = bytes_append frames more in
+    record {
+      fed = λ fine. first.fed (next.fed fine);
+      taken = λ fine.
+          next.taken fine
+          ∙ ap (λ (h : Header). having_read (scheme_of functions h) number now.run more) first.header
+          ∙ ap (λ (run : Progress Operation). having_read scheme number run more) (first.taken (next.fed fine))
+          ∙ sym (having_read-append scheme number old.run frames more);
+      header = next.header ∙ first.header;
+      weight = omega (arith, bytes, first.weight, next.weight);
+    }
+
+-- all runs took these frames, and then those
+pub read_more : (functions : DigestFunctions) (number : ℕ) (frames more : List Frame) (olds nows news : List FedRun) → AllRead functions number frames olds nows
+    → AllRead functions number more nows news → AllRead functions number (frames ++ more) olds news
+read_more functions number frames more [] [] [] first next = tt
+read_more functions number frames more [] [] (new ∷ news) first next = absurd next
+read_more functions number frames more [] (now ∷ nows) news first next = absurd first
+read_more functions number frames more (old ∷ olds) [] news first next = absurd first
+read_more functions number frames more (old ∷ olds) (now ∷ nows) [] first next = absurd next
+read_more functions number frames more (old ∷ olds) (now ∷ nows) (new ∷ news) first next =
+    (reads_more functions number frames more old now new first.0 next.0, read_more functions (suc number) frames more olds nows news first.1 next.1)
+
+-- behind frames there is still room for more
+pub room_of_all : (functions : DigestFunctions) (number : ℕ) (frames : List Frame) (bound : ℕ) (olds news : List FedRun) → AllRead functions number frames olds news
+    → AllByRecursion (λ fed. weight fed.run + bytes_of frames ≤ bound) olds → AllByRecursion (λ fed. weight fed.run ≤ bound) news
+room_of_all functions number frames bound [] [] each room = tt
+room_of_all functions number frames bound [] (new ∷ news) each room = absurd each
+room_of_all functions number frames bound (old ∷ olds) [] each room = absurd each
+room_of_all functions number frames bound (old ∷ olds) (new ∷ news) each room =
+    (omega (arith, each.0.weight, room.0), room_of_all functions (suc number) frames bound olds news each.1 room.1)
+
+-- what is at most a bound that is below 2^63 has room
+pub room_within : (runs : List FedRun) (bytes bound : ℕ) → bound < 9223372036854775808
+    → AllByRecursion (λ fed. weight fed.run + bytes ≤ bound) runs → AllByRecursion (λ fed. weight fed.run + bytes < 9223372036854775808) runs
+room_within [] bytes bound below room = tt
+room_within (fed ∷ runs) bytes bound below room = (omega (arith, below, room.0), room_within runs bytes bound below room.1)
+
+-- what weighed no more than was read leaves room for the frames that were read then
+pub room_behind : (runs : List FedRun) (bytes bound more : ℕ) → bytes + bound ≤ more
+    → AllByRecursion (λ fed. weight fed.run ≤ bound) runs → AllByRecursion (λ fed. weight fed.run + bytes ≤ more) runs
+room_behind [] bytes bound more below all = tt
+room_behind (fed ∷ runs) bytes bound more below all = (omega (arith, below, all.0), room_behind runs bytes bound more below all.1)

@@ -1,5 +1,5 @@
 -- A check in the middle of a bundle, batch after batch.
-use Rattle.std.proofs.Common.{◌≡◌, ◌⊎◌, ℕ, zero, suc, ◌+◌, ◌-◌, ◌<◌, ◌≤◌, Bool, List, [], ◌∷◌, ◌++◌, length, map, take, drop, Option, Some, None, IfSome, Result, Ok, Err, OnOk, OnErr, inl, inr, true, false, true≢false, refl, sym, ◌∙◌, ap, subst, append-nil, take-append-drop, arith}
+use Rattle.std.proofs.Common.{◌≡◌, ◌⊎◌, ℕ, zero, suc, ◌+◌, ◌-◌, ◌<◌, ◌≤◌, Bool, List, [], ◌∷◌, ◌++◌, length, map, take, drop, Option, Some, None, IfSome, inl, inr, true, false, true≢false, refl, sym, ◌∙◌, ap, subst, append-nil, take-append-drop, arith}
 use Rattle.std.specs.List.{AllByRecursion}
 use Rattle.std.proofs.Math.Seq.{take-add}
 use Rattle.fv_outside.specs.Consumed.{most_behind}
@@ -32,8 +32,10 @@ use Rattle.certified_epochs.specs.declared.fed_run.FedRun.{FedRun}
 use Rattle.certified_epochs.specs.Turn.{AreFed}
 use Rattle.certified_epochs.proofs.RunsLaws.{all_runs, all_feds, headers_from, weights_from}
 use Rattle.check_core.specs.Batch.{bytes_of, GoesOnBy}
+use Rattle.check_core.specs.Feeding.{AllRead}
 use Rattle.check_core.specs.Intake.{behind_at}
 use Rattle.check_core.specs.Stream.{HasCome, AreChecked, lines_counted, lines_due}
+use Rattle.check_core.proofs.FeedingLemmas.{taken_by_all}
 use Rattle.check_core.proofs.MeaningLemmas.{ahead_header, joined_more}
 
 -- ---- reading on
@@ -174,14 +176,30 @@ module _ (receipts : Bool) (functions : DigestFunctions) (header : Header) (logs
 
 -- ---- what a batch brings
 
+-- what holds of each run holds of it as a run that is fed, and the other way round
+pub runs_headers : (functions : DigestFunctions) (header : Header) (logs : List (List ℕ)) (so_far : Judged) (runs : List FedRun)
+    → AreChecked functions header logs so_far runs → AllByRecursion (λ fed. fed.run.course.machine.header ≡ header) runs
+runs_headers functions header logs so_far runs checked =
+    all_runs (λ run. run.course.machine.header ≡ header) runs
+    (subst (AllByRecursion (λ run. run.course.machine.header ≡ header)) (sym checked.runs_are)
+    (headers_from (scheme_of functions header) header so_far.count 0 logs))
+
 -- the runs took the frames
-pub fed_checked : (functions : DigestFunctions) (header : Header) (logs : List (List ℕ)) (frames : List Frame) (so_far : Judged) (runs runs_fed : List FedRun)
+fed_checked : (functions : DigestFunctions) (header : Header) (logs : List (List ℕ)) (frames : List Frame) (so_far : Judged) (runs runs_fed : List FedRun)
     → AreChecked functions header logs so_far runs
     → map (λ fed. fed.run) runs_fed ≡ runs_behind (scheme_of functions header) 0 (map (λ fed. fed.run) runs) frames
     → AreChecked functions header (joined_from 0 logs frames) so_far runs_fed
 fed_checked functions header logs frames so_far runs runs_fed checked is =
     subst (HaveRead (scheme_of functions header) header (joined_from 0 logs frames) so_far) (sym is)
     (taken-more (scheme_of functions header) header logs so_far (map (λ fed. fed.run) runs) frames checked)
+
+-- the same of frames that each run took
+pub read_checked : (functions : DigestFunctions) (header : Header) (logs : List (List ℕ)) (frames : List Frame) (so_far : Judged) (runs runs_fed : List FedRun)
+    → AreChecked functions header logs so_far runs → AllRead functions 0 frames runs runs_fed → AreFed runs_fed
+    → AreChecked functions header (joined_from 0 logs frames) so_far runs_fed
+read_checked functions header logs frames so_far runs runs_fed checked read fine =
+    let headers = runs_headers functions header logs so_far runs checked in
+    fed_checked functions header logs frames so_far runs runs_fed checked (taken_by_all functions frames 0 header runs runs_fed read headers fine).1
 
 module _ (tell : EpochText) (functions : DigestFunctions) (header : Header) (logs : List (List ℕ)) (frames : List Frame) (so_far : Judged) (runs : List FedRun)
     (checked : AreChecked functions header logs so_far runs) where
@@ -249,32 +267,7 @@ fed_or_not (fed ∷ runs) = go fed.is_starved refl (fed_or_not runs)
     go false is (inl fine) = inl (is, fine)
     go false is (inr starved) = inr (λ all. starved all.1)
 
--- what follows from what holds with an answer, and with an error
-pub ok_with : {T E : Type 0} (A B : Type 0) (r : Result T E) → OnOk r A → (A → OnOk r B) → OnOk r B
-ok_with A B (Ok value) holds then = then holds
-ok_with A B (Err error) holds then = tt
-
-pub on_ok_always : {T E : Type 0} (B : Type 0) (r : Result T E) → B → OnOk r B
-on_ok_always B (Ok value) holds = holds
-on_ok_always B (Err error) holds = tt
-
-pub err_with : {T E : Type 0} (A B : Type 0) (r : Result T E) → OnErr r A → (A → B) → OnErr r B
-err_with A B (Ok value) holds then = tt
-err_with A B (Err error) holds then = then holds
-
-pub on_err_always : {T E : Type 0} (B : Type 0) (r : Result T E) → B → OnErr r B
-on_err_always B (Ok value) holds = tt
-on_err_always B (Err error) holds = holds
-
 -- ---- the runs
-
--- what holds of each run holds of it as a run that is fed, and the other way round
-pub runs_headers : (functions : DigestFunctions) (header : Header) (logs : List (List ℕ)) (so_far : Judged) (runs : List FedRun)
-    → AreChecked functions header logs so_far runs → AllByRecursion (λ fed. fed.run.course.machine.header ≡ header) runs
-runs_headers functions header logs so_far runs checked =
-    all_runs (λ run. run.course.machine.header ≡ header) runs
-    (subst (AllByRecursion (λ run. run.course.machine.header ≡ header)) (sym checked.runs_are)
-    (headers_from (scheme_of functions header) header so_far.count 0 logs))
 
 pub runs_weights : (functions : DigestFunctions) (header : Header) (logs : List (List ℕ)) (so_far now : Judged) (runs runs_now : List FedRun) (bound : ℕ)
     → AreChecked functions header logs so_far runs → AreChecked functions header logs now runs_now
@@ -285,12 +278,7 @@ runs_weights functions header logs so_far now runs runs_now bound checked checke
     (weights_from (scheme_of functions header) header so_far.count now.count 0 bound logs
     (subst (AllByRecursion (λ run. weight run ≤ bound)) checked.runs_are (all_feds (λ run. weight run ≤ bound) runs weights))))
 
--- there is room for what a batch has
-pub weights_room : (runs : List FedRun) (bound bytes : ℕ) → bound + bytes < 9223372036854775808
-    → AllByRecursion (λ fed. weight fed.run ≤ bound) runs → AllByRecursion (λ fed. weight fed.run + bytes < 9223372036854775808) runs
-weights_room [] bound bytes room all = tt
-weights_room (fed ∷ runs) bound bytes room all = (omega (arith, room, all.0), weights_room runs bound bytes room all.1)
-
+-- a higher bound
 pub weights_more : (runs : List FedRun) (bound more : ℕ) → bound ≤ more
     → AllByRecursion (λ fed. weight fed.run ≤ bound) runs → AllByRecursion (λ fed. weight fed.run ≤ more) runs
 weights_more [] bound more below all = tt

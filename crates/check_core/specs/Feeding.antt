@@ -1,5 +1,5 @@
--- What a run makes of the frames of a batch.
-use Rattle.std.specs.Prelude.{◌≡◌, ℕ, ◌+◌, ◌≤◌, false, List}
+-- What runs make of frames.
+use Rattle.std.specs.Prelude.{◌≡◌, ℕ, suc, ◌+◌, ◌≤◌, false, List, [], ◌∷◌, ⊤}
 use Rattle.record_hash.specs.Functions.{DigestFunctions}
 use Rattle.merkle_records.specs.Scheme.{scheme_of}
 use Rattle.bundle_frames.specs.Bundle.{Frame}
@@ -15,3 +15,10 @@ pub record Reads (functions : DigestFunctions) (number : ℕ) (frames : List Fra
   pub taken : new.is_starved ≡ false → new.run ≡ having_read (scheme_of functions old.run.course.machine.header) number old.run frames
   pub header : new.run.course.machine.header ≡ old.run.course.machine.header
   pub weight : weight new.run ≤ weight old.run + bytes_of frames
+
+-- each run took the frames of its verifier, the first of which has this number
+abbrev pub AllRead : DigestFunctions → ℕ → List Frame → List FedRun → List FedRun → Type 0
+AllRead functions number frames [] [] = ⊤
+AllRead functions number frames [] (new ∷ news) = ⊥
+AllRead functions number frames (old ∷ olds) [] = ⊥
+AllRead functions number frames (old ∷ olds) (new ∷ news) = Reads functions number frames old new × AllRead functions (suc number) frames olds news

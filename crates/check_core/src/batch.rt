@@ -1,14 +1,8 @@
 //! Frames that are read before they are fed.
-ghost use Rattle.std.specs.Prelude.{◌≡◌, ◌≢◌, ◌⊎◌, ℕ, ◌+◌, ◌-◌, ◌<◌, ◌≤◌, ◌++◌, ◌∷◌, [], length, map, take, true, false, Ok, Some, IfOk, IfSome, IsSome, OnOk, OnErr, vec_len};
-ghost use Rattle.std.specs.List.{AllByRecursion};
-ghost use Rattle.fv_outside.specs.Consumed.{most_behind};
-ghost use Rattle.fv_outside.specs.Faults.{Rose};
-ghost use Rattle.lamport_clocks.specs.declared.header.Header.{Header};
-ghost use Rattle.bundle_frames.specs.Bundle.{IsFrame, longest_body};
+ghost use Rattle.std.specs.Prelude.{◌≡◌, ◌+◌, ◌<◌, ◌≤◌, ◌++◌, ◌∷◌, [], length, map, take, true, false, IsSome, OnOk, OnErr, vec_len};
+ghost use Rattle.bundle_frames.specs.Bundle.{longest_body};
 ghost use Rattle.bundle_frames.specs.Extent.{IsDue};
-ghost use Rattle.bundle_frames.specs.Progress.{position};
-ghost use Rattle.bundle_frames.specs.Reading.{ahead, end_ahead, HasRead, IsSpent};
-ghost use Rattle.check_core.specs.Batch.{frame_in, bytes_of, GoesOnBy};
+ghost use Rattle.check_core.specs.Batch.{frame_in, bytes_of, HasFilled};
 
 use base_words::Memory;
 use bundle_frames::{BundleReader, FrameBuffer, Next};
@@ -17,12 +11,12 @@ use std::alloc::Global;
 use std::marker::Model;
 
 /// The most frames that are read before they are fed.
-pub const BATCH_FRAMES: usize = 64;
+pub const BATCH_FRAMES: usize = 16;
 
-/// How far a batch was read.
+/// How far frames were read.
 #[derive(Clone, Copy, Debug, PartialEq, Eq)]
 pub enum Filled {
-    /// It has as many frames as a batch has, and there may be more.
+    /// All that were to be read are there, and there may be more.
     Whole,
     /// The bundle ended, or what follows is bad.
     End,
@@ -95,38 +89,9 @@ impl Batch {
         requires due { IsDue reader.old.progress }
         requires header { IsSome reader.old.progress.header }
 
-        // What was read are these frames, whatever comes behind them.
-        ensures goes_on { OnOk result (GoesOnBy self.new reader.old reader.new (S.left source.old)) }
-        ensures frames { (header : Header) → reader.old.progress.header ≡ Some header → AllByRecursion (IsFrame header.verifiers) self.new }
-        ensures whole { result ≡ Ok Filled.Whole → length self.new ≡ 64 }
-
-        // What was taken of the source. Past the limit it is one byte, and that is not read.
-        ensures having_read { result ≢ Ok (Filled.Stopped Failure.InputLimit)
-            → HasRead (reader.new.taken - reader.old.taken) (S.left source.old) (S.left source.new) }
-        ensures limit { result ≡ Ok (Filled.Stopped Failure.InputLimit)
-            → HasRead (reader.new.limit + 1 - reader.old.taken) (S.left source.old) (S.left source.new) }
-        ensures full { result ≡ Ok (Filled.Stopped Failure.InputLimit) → reader.new.taken ≡ reader.new.limit }
-        ensures rises { reader.old.taken ≤ reader.new.taken }
-        ensures within { reader.new.taken ≤ reader.new.limit }
-        ensures same_limit { reader.new.limit ≡ reader.old.limit }
-        ensures split { position reader.new.progress ≤ reader.new.taken }
-
-        // A piece is read only while reading ends behind what was taken, and a byte past the limit too.
-        ensures near { reader.old.taken < reader.new.taken
-            → IfSome (S.left source.old) (λ bytes. reader.new.taken ≤ end_ahead reader.old bytes + most_behind) }
-        ensures beyond { result ≡ Ok (Filled.Stopped Failure.InputLimit)
-            → IfSome (S.left source.old) (λ bytes. reader.new.limit < end_ahead reader.old bytes) }
-
-        // At the end no byte that is left makes a difference, and reading ended within what was taken.
-        ensures end { result ≡ Ok Filled.End → IfSome (S.left source.new) (λ left. ahead reader.new left ≡ ahead reader.new []) }
-        ensures reached { result ≡ Ok Filled.End → IfSome (S.left source.new) (λ left. end_ahead reader.new left ≤ reader.new.taken) }
-
-        // There is no more of what was read, but where the batch is whole.
-        ensures spent { IfOk result (λ filled. filled ≢ Filled.Whole → IsSpent reader.new) }
-        ensures due { result ≡ Ok Filled.Whole → IsDue reader.new.progress }
-        ensures stopped { (failure : Failure) → result ≡ Ok (Filled.Stopped failure) → (failure ≡ Failure.ReadFault) ⊎ (failure ≡ Failure.InputLimit) }
-        ensures fault { result ≡ Ok (Filled.Stopped Failure.ReadFault) → Rose (S.faults source.old) (S.faults source.new) }
-        ensures never_falls { S.faults source.old ≤ S.faults source.new }
+        // What was read are these frames, and so much was taken for them.
+        ensures filled { HasFilled 16 self.new result reader.old reader.new
+            (S.left source.old) (S.left source.new) (S.faults source.old) (S.faults source.new) }
     {
         self.clear();
         'frames: while !self.is_full() {
@@ -144,7 +109,7 @@ impl Batch {
     }
 
     // Lets the frames go.
-    fn clear(&mut self)
+    pub(crate) fn clear(&mut self)
         ensures empty { self.new ≡ [] }
     {
         self.count = 0;
@@ -153,8 +118,8 @@ impl Batch {
 
     // Whether there are as many frames as a batch has.
     fn is_full(&self) -> bool
-        ensures full { result ≡ true → length self.now ≡ 64 }
-        ensures room { result ≡ false → length self.now < 64 }
+        ensures full { result ≡ true → length self.now ≡ 16 }
+        ensures room { result ≡ false → length self.now < 16 }
     {
         self.count >= BATCH_FRAMES
     }
@@ -166,7 +131,7 @@ impl Batch {
         reader: &mut BundleReader,
         verifier: u16,
     ) -> Result<(), Memory>
-        requires room { length self.old < 64 }
+        requires room { length self.old < 16 }
         requires body { length reader.old.progress.body ≤ longest_body }
         ensures kept { OnOk result (self.new ≡ self.old ++ record { verifier = verifier; body = reader.old.progress.body } ∷ []) }
         ensures same { OnErr result (self.new ≡ self.old) }

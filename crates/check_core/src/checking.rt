@@ -1,30 +1,22 @@
 //! A check of a bundle: what is certified, and how its report ends.
-ghost use Rattle.std.specs.Prelude.{◌≡◌, ◌≢◌, ◌+◌, ◌<◌, ◌≤◌, ◌^◌, ◌⊎◌, ℕ, List, Option, Some, length, map, IfSome, OnOk, OnErr, Ok, Err};
-ghost use Rattle.std.specs.List.{AllByRecursion};
-ghost use Rattle.fv_outside.specs.Failures.{FailsByWriting};
+ghost use Rattle.std.specs.Prelude.{◌≡◌, ◌≢◌, ◌+◌, ◌<◌, ◌≤◌, ◌^◌, ◌⊎◌, ℕ, List, Option, Some, IfSome, OnOk, OnErr, Ok, Err};
 ghost use Rattle.fv_outside.specs.Faults.{Rose};
 ghost use Rattle.fv_outside.specs.Written.{Grows, GrowsByFront};
 ghost use Rattle.lamport_clocks.specs.declared.header.Header.{Header};
 ghost use Rattle.lamport_clocks.specs.Header.{IsHeader};
-ghost use Rattle.merkle_records.specs.Scheme.{scheme_of};
-ghost use Rattle.verifier_run.specs.Progress.{weight};
 ghost use Rattle.report_text.specs.Answer.{AnswersTo};
 ghost use Rattle.bundle_frames.specs.Extent.{reading_end, IsDue};
 ghost use Rattle.bundle_frames.specs.Progress.{position};
-ghost use Rattle.bundle_report.specs.Logs.{empty_logs, joined_from};
+ghost use Rattle.bundle_report.specs.Logs.{empty_logs};
 ghost use Rattle.bundle_report.specs.Headline.{IsSound};
 ghost use Rattle.bundle_report.specs.Answer.{check_answer, no_answer};
-ghost use Rattle.bundle_report.specs.RunReport.{courses_of};
-ghost use Rattle.bundle_report.specs.Judged.{judged};
-ghost use Rattle.certified_epochs.specs.Telling.{text_by};
-ghost use Rattle.check_core.specs.Batch.{bytes_of};
 ghost use Rattle.check_core.specs.Outcomes.{IsCheckStatus, check_status};
-ghost use Rattle.check_core.specs.Stream.{HasCome, AreChecked, lines_counted, lines_due};
+ghost use Rattle.check_core.specs.Stream.{HasCome};
 
 use crate::batch::{Batch, Filled};
-use crate::feeding::feed_batch;
+use crate::passing::pass_batches;
 use bundle_frames::{BundleReader, Next};
-use certified_epochs::{Certifier, FedRun, Telling, open_runs};
+use certified_epochs::{Certifier, Telling, open_runs};
 use fv_outside::{Failure, Sink, Source};
 use lamport_clocks::Header;
 use load_summary::Summary;
@@ -99,7 +91,7 @@ fn check_bundle<R: Threads + Sync, D: Digests + Sync, S: Source, O: Sink>(
     }
 }
 
-// Reads the frames behind a header, a batch at a time, and writes what each certifies before more is read.
+// Reads the frames behind a header, some batches at a time, and writes what these certify before more is read.
 fn check_frames<R: Threads + Sync, D: Digests + Sync, S: Source, O: Sink>(
     rt: &R,
     alloc: Global,
@@ -125,69 +117,24 @@ fn check_frames<R: Threads + Sync, D: Digests + Sync, S: Source, O: Sink>(
         (record { held = O.held out.old; held_after = O.held out.new; faults = O.faults out.old; faults_after = O.faults out.new }) }
     ensures vault { result ≢ Err Failure.VaultFault }
 {
-    let mut runs = open_runs(alloc, header)?;
+    let mut opened = open_runs(alloc, header)?;
+    let runs = &mut opened[..];
     let telling = Telling::new(receipts, d, header);
     let mut certifier = Certifier::new(alloc);
     // Of no workers: a check counts nobody's operations.
     let mut summary = Summary::new(alloc, 0)?;
-    let mut batch = Batch::new(alloc);
+    let mut behind = Batch::new(alloc);
+    let mut ahead = Batch::new(alloc);
     'batches: loop {
-        let filled = batch.fill(alloc, reader, source)?;
-        take_batch(
-            rt,
-            d,
-            &batch,
-            &mut runs,
-            &mut certifier,
-            &telling,
-            &mut summary,
-            out,
-        )?;
+        let filled = pass_batches(rt, alloc, d, reader, source, runs, &mut behind, &mut ahead)?;
+        certifier.certify(&[], runs, &telling, &mut summary, out)?;
         match filled {
             Filled::Whole => {}
             Filled::End => break,
             Filled::Stopped(stop) => return Err(stop),
         }
     }
-    Ok(certifier.finish(&mut runs, reader.bad(), out)?)
-}
-
-// Feeds a batch to the runs, and writes the lines of all epochs that they then certify.
-fn take_batch<R: Threads + Sync, D: Digests + Sync, O: Sink>(
-    rt: &R,
-    d: &D,
-    batch: &Batch,
-    runs: &mut [FedRun],
-    certifier: &mut Certifier,
-    telling: &Telling<D>,
-    summary: &mut Summary,
-    out: &mut O,
-) -> Result<(), Failure>
-    requires few { length runs.old ≤ 64 }
-    requires room { AllByRecursion (λ fed. weight fed.run + bytes_of batch.now < 2 ^ 63) runs.old }
-    requires logs { (header : Header) × (logs : List (List ℕ)) × AreChecked (D.functions d.now) header logs certifier.old runs.old }
-
-    // Whatever logs the runs have taken so far: they take these frames too, and of a sink that holds what was counted
-    // all lines are written that are then due, or a front of them.
-    ensures checked { (header : Header) (logs : List (List ℕ)) → AreChecked (D.functions d.now) header logs certifier.old runs.old
-        → OnOk result (AreChecked (D.functions d.now) header (joined_from 0 logs batch.now) certifier.new runs.new) }
-    ensures all { (header : Header) (logs : List (List ℕ)) → AreChecked (D.functions d.now) header logs certifier.old runs.old
-        → OnOk result (certifier.new ≡ judged header.verifiers (courses_of (scheme_of (D.functions d.now) header) header (joined_from 0 logs batch.now))) }
-    ensures due { (header : Header) (logs : List (List ℕ)) (held : Option (List ℕ)) → AreChecked (D.functions d.now) header logs certifier.old runs.old
-        → Grows held (O.held out.old) (lines_counted (text_by D.functions telling.now) (D.functions d.now) header logs certifier.old)
-        → OnOk result (Grows held (O.held out.new) (lines_due (text_by D.functions telling.now) (D.functions d.now) header (joined_from 0 logs batch.now))) }
-    ensures front { (header : Header) (logs : List (List ℕ)) (held : Option (List ℕ)) → AreChecked (D.functions d.now) header logs certifier.old runs.old
-        → Grows held (O.held out.old) (lines_counted (text_by D.functions telling.now) (D.functions d.now) header logs certifier.old)
-        → OnErr result (GrowsByFront held (O.held out.new) (lines_due (text_by D.functions telling.now) (D.functions d.now) header (joined_from 0 logs batch.now))) }
-    ensures weight { (bound : ℕ) → AllByRecursion (λ fed. weight fed.run ≤ bound) runs.old
-        → OnOk result (AllByRecursion (λ fed. weight fed.run ≤ bound + bytes_of batch.now) runs.new) }
-    ensures len { length runs.new ≡ length runs.old }
-    ensures failure { FailsByWriting result }
-    ensures write_fault { result ≡ Err Failure.WriteFault → Rose (O.faults out.old) (O.faults out.new) }
-    ensures never_falls { O.faults out.old ≤ O.faults out.new }
-{
-    feed_batch(rt, d, batch, runs);
-    certifier.certify(&[], runs, telling, summary, out)
+    Ok(certifier.finish(runs, reader.bad(), out)?)
 }
 
 // Writes the report of a bundle whose header is bad.

@@ -1,13 +1,9 @@
 //! Frames, fed to the runs of their verifiers, side by side.
-ghost use Rattle.std.specs.Prelude.{◌≡◌, ◌+◌, ◌<◌, ◌≤◌, ◌^◌, ℕ, length, map};
+ghost use Rattle.std.specs.Prelude.{◌+◌, ◌<◌, ◌^◌, map};
 ghost use Rattle.std.specs.List.{AllByRecursion};
-ghost use Rattle.lamport_clocks.specs.declared.header.Header.{Header};
-ghost use Rattle.merkle_records.specs.Scheme.{scheme_of};
 ghost use Rattle.verifier_run.specs.Progress.{weight};
-ghost use Rattle.bundle_report.specs.SoFar.{runs_behind};
-ghost use Rattle.certified_epochs.specs.Turn.{AreFed};
 ghost use Rattle.check_core.specs.Batch.{frame_in, bytes_of};
-ghost use Rattle.check_core.specs.Feeding.{Reads};
+ghost use Rattle.check_core.specs.Feeding.{Reads, AllRead};
 
 use crate::batch::{Batch, FrameHolder};
 use certified_epochs::FedRun;
@@ -26,15 +22,7 @@ pub fn feed_batch<R: Threads + Sync, D: Digests + Sync>(
 )
     requires room { AllByRecursion (λ fed. weight fed.run + bytes_of batch.now < 2 ^ 63) runs.old }
 
-    // Where memory was not wanting, all frames are taken.
-    ensures taken { (header : Header) → AllByRecursion (λ fed. fed.run.course.machine.header ≡ header) runs.old
-        → AreFed runs.new → AreFed runs.old
-        × (map (λ fed. fed.run) runs.new ≡ runs_behind (scheme_of (D.functions d.now) header) 0 (map (λ fed. fed.run) runs.old) batch.now) }
-    ensures headers { (header : Header) → AllByRecursion (λ fed. fed.run.course.machine.header ≡ header) runs.old
-        → AllByRecursion (λ fed. fed.run.course.machine.header ≡ header) runs.new }
-    ensures weight { (bound : ℕ) → AllByRecursion (λ fed. weight fed.run ≤ bound) runs.old
-        → AllByRecursion (λ fed. weight fed.run ≤ bound + bytes_of batch.now) runs.new }
-    ensures len { length runs.new ≡ length runs.old }
+    ensures taken { AllRead (D.functions d.now) 0 batch.now runs.old runs.new }
 {
     let threads = if batch.bytes() < FEW_BYTES {
         1

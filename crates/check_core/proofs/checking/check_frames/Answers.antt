@@ -1,7 +1,5 @@
-use Rattle.std.proofs.Common.{◌≡◌, Bool, Option, ◌+◌, ◌-◌, ◌≤◌, ℕ, List, ◌++◌, map, take, drop, length, Some, Result, Ok, Err, refl, sym, ◌∙◌, ap, subst, append-nil, arith}
+use Rattle.std.proofs.Common.{◌≡◌, Bool, Option, ◌+◌, ◌-◌, ◌≤◌, ℕ, List, map, length, Some, Result, Ok, Err, refl, sym, ◌∙◌, ap, subst, ⊎_elim, arith}
 use Rattle.std.specs.Prelude.{IsErrAnd}
-use Rattle.std.specs.List.{AllByRecursion}
-use Rattle.std.proofs.lemmas.List.{take_all, drop_all}
 use Rattle.base_words.specs.declared.memory.Memory.{Memory}
 use Rattle.fv_outside.specs.Written.{Grows, GrowsByFront}
 use Rattle.fv_outside.proofs.WrittenLaws.{Grows-nil, Grows-then, GrowsByFront-none, GrowsByFront-then}
@@ -25,17 +23,17 @@ use Rattle.bundle_report.proofs.SoFarLaws.{taken-more}
 use Rattle.fv_outside.specs.declared.failure.Failure.TheVariants as failures
 use Rattle.report_text.specs.Ending.{status_of}
 use Rattle.report_text.specs.Status.{last_line}
-use Rattle.verifier_run.specs.Progress.{weight}
-use Rattle.certified_epochs.specs.declared.fed_run.FedRun.{FedRun}
 use Rattle.certified_epochs.specs.Telling.{text_by}
 use Rattle.check_core.specs.declared.batch.Filled.{Filled}
 use Rattle.check_core.specs.declared.batch.Filled.TheVariants.{Whole, End, Stopped}
 use Rattle.check_core.specs.Batch.{bytes_of}
 use Rattle.check_core.specs.Intake.{behind_at}
 use Rattle.check_core.specs.Outcomes.{check_status}
-use Rattle.check_core.specs.Stream.{HasCome, AreChecked, lines_counted, lines_due}
+use Rattle.check_core.specs.Stream.{HasCome, lines_counted, lines_due}
 use Rattle.report_text.proofs.AnsweringLaws.{rose_before}
-use Rattle.check_core.proofs.StreamLemmas.{counted_front, opening_weights, weights_room, weights_more, frames_bytes, means-more, extent-more, come-more}
+use Rattle.check_core.proofs.BatchLemmas.{in_ok, spent_at}
+use Rattle.check_core.proofs.FeedingLemmas.{weights_of_all, length_of_all}
+use Rattle.check_core.proofs.StreamLemmas.{counted_front, opening_weights, weights_more, frames_bytes, means-more, extent-more, come-more, read_checked, due_more, front_more, front_none, fed_or_not, runs_weights}
 use Rattle.check_core.proofs.EndingLemmas.{memory_answers, ends_behind, took_batch, stop_answers, due_taken, cut_answers, end_answers, last_answers}
 use Rattle.check_core.proofs.MeaningLemmas.{joined_none, joined_end}
 use Rattle.check_core.proofs.checking.check_frames.Goals as goal
@@ -72,12 +70,6 @@ end_not_whole filled is whole = cc
 sink_alone : (stop : Failure) → (let r : Result BundleEnd Failure = Err stop in r ≡ Err failures.WriteFault) → stop ≡ failures.WriteFault
 sink_alone stop is = cc
 
--- a slice that a call wrote, as the vector that lent it
-lent_back : {A : Type 0} (n : ℕ) (new old : List A) → n ≡ length old → length new ≡ length old → take n (new ++ drop (length new) old) ≡ new
-lent_back n new old whole same =
-    ap (λ (rest : List _). take n (new ++ rest)) (drop_all (length new) old (omega (arith, same)))
-    ∙ ap (take n) (append-nil new) ∙ take_all n new (omega (arith, whole, same))
-
 -- want of memory before a batch is read
 memory_before : (receipts : Bool) (functions : DigestFunctions) (verifiers : ℕ) (reader : Reader) (left_now : Option (List ℕ)) (faults_now : ℕ) (wrote : Writing)
     (result : Result BundleEnd Failure) → IsErrAnd result (λ error. error ≡ failures.Memory) → reader.taken ≤ reader.limit → wrote.held ≡ wrote.held_after
@@ -93,8 +85,8 @@ memory_before receipts functions verifiers reader left_now faults_now wrote resu
     (λ more. subst (λ (after : Option (List ℕ)). GrowsByFront wrote.held after (answer_by receipts functions (behind_at (empty_logs verifiers) reader more)).due) same
     (GrowsByFront-none wrote.held (answer_by receipts functions (behind_at (empty_logs verifiers) reader more)).due)))
 
-pub returns-in_err-runs-clause-answers : goal.returns-in_err-runs-clause-answers
-returns-in_err-runs-clause-answers g c =
+pub returns-in_err-opened-clause-answers : goal.returns-in_err-opened-clause-answers
+returns-in_err-opened-clause-answers g c =
     memory_before c.args.receipts (g.D.Digests.functions c.args.d.now) c.args.header.now.verifiers c.args.reader.now _ _ _
     c.from_residual.result c.from_residual.ensures.1 c.requires.within refl
 
@@ -109,16 +101,20 @@ batches-init g c =
     let header = c.args.header.now in
     let logs = empty_logs header.verifiers in
     let held = g.O.Sink.held c.args.out.now in
-    let runs = c.in_ok-runs.runs.items in
+    let runs = c.deref_mut.result.now in
+    let lent = c.deref_mut.ensures.value in
+    let opening = ap (map (λ fed. fed.run)) lent ∙ c.in_ok-opened.ensures.opening in
     record {
       logs = logs;
       checked =
           subst (λ (so_far : Judged). HaveRead (scheme_of functions header) header logs so_far (map (λ fed. fed.run) runs)) (sym c.new-certifier.ensures.none)
-          (subst (HaveRead (scheme_of functions header) header logs none_judged) (sym c.in_ok-runs.ensures.opening) (taken-none (scheme_of functions header) header c.requires.header));
+          (subst (HaveRead (scheme_of functions header) header logs none_judged) (sym opening) (taken-none (scheme_of functions header) header c.requires.header));
       written =
           subst (λ (so_far : Judged). Grows held held (lines_counted (text_by g.D.Digests.functions c.new-telling.result) functions header logs so_far)) (sym c.new-certifier.ensures.none) (Grows-nil held);
-      weights = opening_weights header _ runs c.in_ok-runs.ensures.opening;
-      few = omega (arith, c.in_ok-runs.ensures.len, c.requires.header.verifiers);
+      weights = opening_weights header _ runs opening;
+      few =
+          let same = ap length lent in
+          omega (arith, same, c.in_ok-opened.opened.ok, c.in_ok-opened.ensures.len, c.requires.header.verifiers);
       come = λ left faults come. come;
       known = c.requires.known;
       due = c.requires.due;
@@ -128,30 +124,42 @@ batches-init g c =
       faults = omega arith;
     }
 
-pub take_batch-requires-clause-room : goal.take_batch-requires-clause-room
-take_batch-requires-clause-room g c κs within =
+pub certify-requires-clause-few : goal.certify-requires-clause-few
+certify-requires-clause-few g c =
+    let functions = g.D.Digests.functions c.args.d.now in
+    let passed = c.pass_batches.ensures.passed in
+    let read = in_ok _ c.in_ok-filled.was passed.2 in
+    omega (arith, c.batches.invariant.few, length_of_all functions 0 passed.0 c.batches.runs c.pass_batches.new.runs read)
+
+pub certify-requires-clause-logs : goal.certify-requires-clause-logs
+certify-requires-clause-logs g c = λ fine.
+    let functions = g.D.Digests.functions c.args.d.now in
+    let header = c.args.header.now in
     let inv = c.batches.invariant in
-    let fill = c.fill.ensures in
-    let on = c.in_ok-filled.ensures.goes_on in
-    weights_room c.deref_mut.result.now c.batches.reader.progress.offset (bytes_of c.fill.new.self)
-    (omega (arith, on.bytes, fill.split, fill.within, fill.same_limit, inv.limit, c.requires.limit))
-    (subst (AllByRecursion (λ fed. _ ≤ c.batches.reader.progress.offset)) (sym c.deref_mut.ensures.value) inv.weights)
+    let passed = c.pass_batches.ensures.passed in
+    let read = in_ok _ c.in_ok-filled.was passed.2 in (
+      scheme_of functions header,
+      header,
+      joined_from 0 inv.logs passed.0,
+      read_checked functions header inv.logs passed.0 c.batches.certifier c.batches.runs c.pass_batches.new.runs inv.checked read fine,
+    )
 
 pub returns-in_err-filled-clause-answers : goal.returns-in_err-filled-clause-answers
 returns-in_err-filled-clause-answers g c = λ left faults come.
     let functions = g.D.Digests.functions c.args.d.now in
     let inv = c.batches.invariant in
-    let fill = c.fill.ensures in
+    let passed = c.pass_batches.ensures.passed in
+    let fill = passed.1 in
     let old = c.batches.reader in
-    let new = c.fill.new.reader in
+    let new = c.pass_batches.new.reader in
     let now = inv.come left faults come in
     let sum : new.taken ≡ old.taken + (new.taken - old.taken) = omega (arith, fill.rises) in
-    let having_read = HasRead-then _ _ _ _ _ _ now.having_read (fill.having_read (no_stop c.fill.result c.in_err-filled.field-0.0 c.in_err-filled.was)) sum in
+    let having_read = HasRead-then _ _ _ _ _ _ now.having_read (fill.having_read (no_stop c.pass_batches.result c.in_err-filled.field-0.0 c.in_err-filled.was)) sum in
     let read : Reading = record {
       left = left;
-      left_after = g.S.Source.left c.fill.new.source;
+      left_after = g.S.Source.left c.pass_batches.new.source;
       faults = faults;
-      faults_after = g.S.Source.faults c.fill.new.source;
+      faults_after = g.S.Source.faults c.pass_batches.new.source;
     } in
     let wrote : Writing = record {
       held = g.O.Sink.held c.args.out.now;
@@ -164,52 +172,65 @@ returns-in_err-filled-clause-answers g c = λ left faults come.
     (memory_answers c.args.receipts functions c.args.reader.now.limit old.taken new.taken left _ faults _ inv.logs old wrote
     now.means fill.rises having_read (omega (arith, fill.within, fill.same_limit, inv.limit))
     (stops_near _ _ _ reading_end having_read (near-then _ _ _ _ _ _ _ _ _ now.having_read now.extent fill.rises refl now.near fill.near))
-    (counted_front c.args.receipts functions c.args.header.now inv.logs old inv.known c.batches.certifier c.batches.runs.items _ _ inv.checked
+    (counted_front c.args.receipts functions c.args.header.now inv.logs old inv.known c.batches.certifier c.batches.runs _ _ inv.checked
     (subst (λ (tell : EpochText). Grows (g.O.Sink.held c.args.out.now) (g.O.Sink.held c.batches.out) (lines_counted tell functions c.args.header.now inv.logs c.batches.certifier))
     c.new-telling.ensures.text inv.written)))
 
-pub returns-in_err-take_batch-clause-answers : goal.returns-in_err-take_batch-clause-answers
-returns-in_err-take_batch-clause-answers g c = λ left faults come.
+pub returns-in_err-certify-clause-answers : goal.returns-in_err-certify-clause-answers
+returns-in_err-certify-clause-answers g c = λ left faults come.
     let functions = g.D.Digests.functions c.args.d.now in
     let header = c.args.header.now in
     let limit = c.args.reader.now.limit in
     let inv = c.batches.invariant in
-    let fill = c.fill.ensures in
-    let on = c.in_ok-filled.ensures.goes_on in
+    let passed = c.pass_batches.ensures.passed in
+    let fill = passed.1 in
+    let on = in_ok _ c.in_ok-filled.was fill.goes_on in
     let old = c.batches.reader in
-    let new = c.fill.new.reader in
-    let frames = c.fill.new.self in
+    let new = c.pass_batches.new.reader in
+    let frames = passed.0 in
+    let read = in_ok _ c.in_ok-filled.was passed.2 in
+    let tell = text_by g.D.Digests.functions c.new-telling.result in
+    let held = g.O.Sink.held c.args.out.now in
+    let front = ⊎_elim
+    (λ fine.
+    let fed = read_checked functions header inv.logs frames c.batches.certifier c.batches.runs c.pass_batches.new.runs inv.checked read fine in
+    front_more tell functions header inv.logs frames c.batches.certifier c.batches.runs inv.checked c.pass_batches.new.runs held (g.O.Sink.held c.batches.out) (g.O.Sink.held c.certify.new.out) fed inv.written
+    (c.in_err-certify.ensures.front (scheme_of functions header) header (joined_from 0 inv.logs frames) fed))
+    (λ starved.
+    front_none tell functions header inv.logs frames c.batches.certifier c.batches.runs inv.checked held (g.O.Sink.held c.batches.out) (g.O.Sink.held c.certify.new.out) inv.written
+    (ap g.O.Sink.held (c.certify.ensures.starved starved).1))
+    (fed_or_not c.pass_batches.new.runs) in
     let now = inv.come left faults come in
-    let checked = subst (λ (runs : List FedRun). AreChecked functions header inv.logs c.batches.certifier runs) (sym c.deref_mut.ensures.value) inv.checked in
     let read : Reading = record {
       left = left;
-      left_after = g.S.Source.left c.fill.new.source;
+      left_after = g.S.Source.left c.pass_batches.new.source;
       faults = faults;
-      faults_after = g.S.Source.faults c.fill.new.source;
+      faults_after = g.S.Source.faults c.pass_batches.new.source;
     } in
     let wrote : Writing = record {
       held = g.O.Sink.held c.args.out.now;
-      held_after = g.O.Sink.held c.take_batch.new.out;
+      held_after = g.O.Sink.held c.certify.new.out;
       faults = g.O.Sink.faults c.args.out.now;
-      faults_after = g.O.Sink.faults c.take_batch.new.out;
+      faults_after = g.O.Sink.faults c.certify.new.out;
     } in
     subst (λ (r : Result BundleEnd Failure). AnswersTo (check_answer c.args.receipts functions) reading_end limit (check_status limit r) read wrote)
-    (sym (handed_on c.from_residual-in_err-take_batch.result c.in_err-take_batch.field-0.0 c.from_residual-in_err-take_batch.ensures.1))
-    (stop_answers c.args.receipts functions header limit left (g.S.Source.left c.fill.new.source) faults (g.S.Source.faults c.fill.new.source) (joined_from 0 inv.logs frames) new
-    (on.header ∙ inv.known) (means-more left _ faults _ inv.logs old new now fill.rises header frames inv.known on) wrote c.take_batch.result c.in_err-take_batch.field-0.0 c.in_err-take_batch.was c.take_batch.ensures.failure
+    (sym (handed_on c.from_residual-in_err-certify.result c.in_err-certify.field-0.0 c.from_residual-in_err-certify.ensures.1))
+    (stop_answers c.args.receipts functions header limit left (g.S.Source.left c.pass_batches.new.source) faults (g.S.Source.faults c.pass_batches.new.source) (joined_from 0 inv.logs frames) new
+    (on.header ∙ inv.known) (means-more left _ faults _ inv.logs old new now fill.rises header frames inv.known on) wrote c.certify.result c.in_err-certify.field-0.0 c.in_err-certify.was c.certify.ensures.failure
     (took_batch limit left _ _ faults _ inv.logs old new now fill.rises (fill.same_limit ∙ inv.limit) fill.within fill.near
-    c.fill.result c.in_ok-filled.filled c.in_ok-filled.was fill.having_read fill.limit fill.full fill.beyond)
+    c.pass_batches.result c.in_ok-filled.filled c.in_ok-filled.was fill.having_read fill.limit fill.full fill.beyond)
     c.requires.header (taken-more (scheme_of functions header) header inv.logs c.batches.certifier _ frames inv.checked).whole
-    (subst (λ (tell : EpochText). GrowsByFront (g.O.Sink.held c.args.out.now) (g.O.Sink.held c.take_batch.new.out) (lines_due tell functions header (joined_from 0 inv.logs frames)))
-    c.new-telling.ensures.text (c.in_err-take_batch.ensures.front header inv.logs (g.O.Sink.held c.args.out.now) checked inv.written))
-    (λ is. rose_before _ _ _ inv.faults (c.take_batch.ensures.write_fault (c.in_err-take_batch.was ∙ ap Err is))))
+    (subst (λ (tell : EpochText). GrowsByFront (g.O.Sink.held c.args.out.now) (g.O.Sink.held c.certify.new.out) (lines_due tell functions header (joined_from 0 inv.logs frames)))
+    c.new-telling.ensures.text front)
+    (λ is. rose_before _ _ _ inv.faults (c.certify.ensures.write_fault (c.in_err-certify.was ∙ ap Err is))))
 
 pub batches-smaller : goal.batches-smaller
 batches-smaller g c =
     let inv = c.batches.invariant in
-    let fill = c.fill.ensures in
-    let on = c.in_ok-filled.ensures.goes_on in
-    let some = frames_bytes c.args.header.now.verifiers c.fill.new.self (fill.frames c.args.header.now inv.known) in
+    let passed = c.pass_batches.ensures.passed in
+    let fill = passed.1 in
+    let on = in_ok _ c.in_ok-filled.was fill.goes_on in
+    let some = frames_bytes c.args.header.now.verifiers passed.0 (fill.ranges c.args.header.now inv.known) in
     let many = fill.whole (c.in_ok-filled.was ∙ ap Ok c.in-Whole.is) in
     omega (arith, on.bytes, some, many, fill.split, fill.within, fill.same_limit, inv.split, inv.within)
 
@@ -217,85 +238,95 @@ pub batches-preserved : goal.batches-preserved
 batches-preserved g c =
     let functions = g.D.Digests.functions c.args.d.now in
     let header = c.args.header.now in
+    let scheme = scheme_of functions header in
     let inv = c.batches.invariant in
-    let fill = c.fill.ensures in
-    let on = c.in_ok-filled.ensures.goes_on in
+    let passed = c.pass_batches.ensures.passed in
+    let fill = passed.1 in
+    let on = in_ok _ c.in_ok-filled.was fill.goes_on in
     let old = c.batches.reader in
-    let new = c.fill.new.reader in
-    let frames = c.fill.new.self in
+    let new = c.pass_batches.new.reader in
+    let frames = passed.0 in
     let all = joined_from 0 inv.logs frames in
+    let read = in_ok _ c.in_ok-filled.was passed.2 in
+    let fed = read_checked functions header inv.logs frames c.batches.certifier c.batches.runs c.pass_batches.new.runs inv.checked read c.in_ok-certify.ensures.fed.0 in
+    let taken = c.in_ok-certify.ensures.taken scheme header all fed in
+    let counted = c.in_ok-certify.ensures.judged scheme header all fed in
+    let due = due_more (text_by g.D.Digests.functions c.new-telling.result) functions header inv.logs frames c.batches.certifier c.batches.runs inv.checked c.certify.new.self c.pass_batches.new.runs c.certify.new.runs
+    (g.O.Sink.held c.args.out.now) (g.O.Sink.held c.batches.out) (g.O.Sink.held c.certify.new.out) fed taken counted inv.written (c.in_ok-certify.ensures.lines scheme header all fed) in
     let whole = c.in_ok-filled.was ∙ ap Ok c.in-Whole.is in
-    let checked = subst (λ (runs : List FedRun). AreChecked functions header inv.logs c.batches.certifier runs) (sym c.deref_mut.ensures.value) inv.checked in
-    let back = lent_back c.batches.runs.len c.take_batch.new.runs c.batches.runs.items (omega (arith, c.batches.runs.ok)) (c.take_batch.ensures.len ∙ ap length c.deref_mut.ensures.value) in
-    let taken = c.in_ok-take_batch.ensures.checked header inv.logs checked in
     record {
       logs = all;
-      checked = subst (λ (runs : List FedRun). AreChecked functions header all c.take_batch.new.certifier runs) (sym back) taken;
+      checked = taken;
       written =
-          subst (Grows (g.O.Sink.held c.args.out.now) (g.O.Sink.held c.take_batch.new.out))
-          (sym (lines-due (text_by g.D.Digests.functions c.new-telling.result) (scheme_of functions header) header all c.take_batch.new.certifier _ taken (c.in_ok-take_batch.ensures.all header inv.logs checked)))
-          (c.in_ok-take_batch.ensures.due header inv.logs (g.O.Sink.held c.args.out.now) checked inv.written);
+          subst (Grows (g.O.Sink.held c.args.out.now) (g.O.Sink.held c.certify.new.out))
+          (sym (lines-due (text_by g.D.Digests.functions c.new-telling.result) scheme header all c.certify.new.self _ taken counted)) due;
       weights =
-          subst (AllByRecursion (λ fed. weight fed.run ≤ new.progress.offset)) (sym back)
-          (weights_more c.take_batch.new.runs (old.progress.offset + bytes_of frames) new.progress.offset (omega (arith, on.bytes))
-          (c.in_ok-take_batch.ensures.weight old.progress.offset
-          (subst (AllByRecursion (λ fed. weight fed.run ≤ old.progress.offset)) (sym c.deref_mut.ensures.value) inv.weights)));
-      few = inv.few;
+          runs_weights functions header all c.batches.certifier c.certify.new.self c.pass_batches.new.runs c.certify.new.runs new.progress.offset fed taken
+          (weights_more c.pass_batches.new.runs (old.progress.offset + bytes_of frames) new.progress.offset (omega (arith, on.bytes))
+          (weights_of_all functions frames 0 old.progress.offset c.batches.runs c.pass_batches.new.runs read inv.weights));
+      few = omega (arith, inv.few, c.certify.ensures.len, length_of_all functions 0 frames c.batches.runs c.pass_batches.new.runs read);
       come = λ left faults come.
           let now = inv.come left faults come in
-          come-more left _ faults _ inv.logs old new now fill.rises all _ _ (fill.having_read (whole_no_stop c.fill.result whole))
+          come-more left _ faults _ inv.logs old new now fill.rises all _ _ (fill.having_read (whole_no_stop c.pass_batches.result whole))
           (means-more left _ faults _ inv.logs old new now fill.rises header frames inv.known on) on.extent fill.near fill.never_falls;
       known = on.header ∙ inv.known;
       due = fill.due whole;
       limit = fill.same_limit ∙ inv.limit;
       within = fill.within;
       split = fill.split;
-      faults = omega (arith, inv.faults, c.take_batch.ensures.never_falls);
+      faults = omega (arith, inv.faults, c.certify.ensures.never_falls);
     }
 
 pub returns-in-Stopped-clause-answers : goal.returns-in-Stopped-clause-answers
 returns-in-Stopped-clause-answers g c = λ left faults come.
     let functions = g.D.Digests.functions c.args.d.now in
     let header = c.args.header.now in
+    let scheme = scheme_of functions header in
     let limit = c.args.reader.now.limit in
     let inv = c.batches.invariant in
-    let fill = c.fill.ensures in
-    let on = c.in_ok-filled.ensures.goes_on in
+    let passed = c.pass_batches.ensures.passed in
+    let fill = passed.1 in
+    let on = in_ok _ c.in_ok-filled.was fill.goes_on in
     let old = c.batches.reader in
-    let new = c.fill.new.reader in
-    let frames = c.fill.new.self in
+    let new = c.pass_batches.new.reader in
+    let frames = passed.0 in
     let all = joined_from 0 inv.logs frames in
+    let read = in_ok _ c.in_ok-filled.was passed.2 in
+    let fed = read_checked functions header inv.logs frames c.batches.certifier c.batches.runs c.pass_batches.new.runs inv.checked read c.in_ok-certify.ensures.fed.0 in
+    let taken = c.in_ok-certify.ensures.taken scheme header all fed in
+    let counted = c.in_ok-certify.ensures.judged scheme header all fed in
+    let due = due_more (text_by g.D.Digests.functions c.new-telling.result) functions header inv.logs frames c.batches.certifier c.batches.runs inv.checked c.certify.new.self c.pass_batches.new.runs c.certify.new.runs
+    (g.O.Sink.held c.args.out.now) (g.O.Sink.held c.batches.out) (g.O.Sink.held c.certify.new.out) fed taken counted inv.written (c.in_ok-certify.ensures.lines scheme header all fed) in
     let now = inv.come left faults come in
     let stopped = c.in_ok-filled.was ∙ ap Ok c.in-Stopped.is in
     let same = fill.same_limit ∙ inv.limit in
-    let checked = subst (λ (runs : List FedRun). AreChecked functions header inv.logs c.batches.certifier runs) (sym c.deref_mut.ensures.value) inv.checked in
     let sum : new.taken ≡ old.taken + (new.taken - old.taken) = omega (arith, fill.rises) in
     let sum' : limit + 1 ≡ old.taken + (new.limit + 1 - old.taken) = omega (arith, fill.rises, fill.within, same) in
     let read : Reading = record {
       left = left;
-      left_after = g.S.Source.left c.fill.new.source;
+      left_after = g.S.Source.left c.pass_batches.new.source;
       faults = faults;
-      faults_after = g.S.Source.faults c.fill.new.source;
+      faults_after = g.S.Source.faults c.pass_batches.new.source;
     } in
     let wrote : Writing = record {
       held = g.O.Sink.held c.args.out.now;
-      held_after = g.O.Sink.held c.take_batch.new.out;
+      held_after = g.O.Sink.held c.certify.new.out;
       faults = g.O.Sink.faults c.args.out.now;
-      faults_after = g.O.Sink.faults c.take_batch.new.out;
+      faults_after = g.O.Sink.faults c.certify.new.out;
     } in
-    cut_answers c.args.receipts functions limit left (g.S.Source.left c.fill.new.source) faults (g.S.Source.faults c.fill.new.source) new wrote c.in-Stopped.stop
+    cut_answers c.args.receipts functions limit left (g.S.Source.left c.pass_batches.new.source) faults (g.S.Source.faults c.pass_batches.new.source) new wrote c.in-Stopped.stop
     (took_batch limit left _ _ faults _ inv.logs old new now fill.rises same fill.within fill.near
-    c.fill.result c.in_ok-filled.filled c.in_ok-filled.was fill.having_read fill.limit fill.full fill.beyond)
-    (due_taken c.args.receipts functions header limit left (g.S.Source.left c.fill.new.source) faults (g.S.Source.faults c.fill.new.source) all new
+    c.pass_batches.result c.in_ok-filled.filled c.in_ok-filled.was fill.having_read fill.limit fill.full fill.beyond)
+    (due_taken c.args.receipts functions header limit left (g.S.Source.left c.pass_batches.new.source) faults (g.S.Source.faults c.pass_batches.new.source) all new
     (on.header ∙ inv.known) (means-more left _ faults _ inv.logs old new now fill.rises header frames inv.known on) wrote
-    (c.in_ok-filled.ensures.spent (stopped_not_whole c.in_ok-filled.filled c.in-Stopped.stop c.in-Stopped.is)).no_frames (joined_none 0 all)
-    (subst (λ (tell : EpochText). Grows (g.O.Sink.held c.args.out.now) (g.O.Sink.held c.take_batch.new.out) (lines_due tell functions header all))
-    c.new-telling.ensures.text (c.in_ok-take_batch.ensures.due header inv.logs (g.O.Sink.held c.args.out.now) checked inv.written)))
+    (spent_at _ _ _ c.in_ok-filled.was fill.spent (stopped_not_whole c.in_ok-filled.filled c.in-Stopped.stop c.in-Stopped.is)).no_frames (joined_none 0 all)
+    (subst (λ (tell : EpochText). Grows (g.O.Sink.held c.args.out.now) (g.O.Sink.held c.certify.new.out) (lines_due tell functions header all))
+    c.new-telling.ensures.text due))
     (λ is. rose_before _ _ _ now.never_falls (fill.fault (stopped ∙ ap stopped_at is)))
-    (λ is. TookAtMost-from_read new.taken limit _ _ (HasRead-then _ _ _ _ _ _ now.having_read (fill.having_read (fault_no_limit c.fill.result (stopped ∙ ap stopped_at is))) sum)
+    (λ is. TookAtMost-from_read new.taken limit _ _ (HasRead-then _ _ _ _ _ _ now.having_read (fill.having_read (fault_no_limit c.pass_batches.result (stopped ∙ ap stopped_at is))) sum)
     (omega (arith, fill.within, same)))
     (λ is. TookJust-from_read (limit + 1) _ _ (HasRead-then _ _ _ _ _ _ now.having_read (fill.limit (stopped ∙ ap stopped_at is)) sum'))
-    (λ is. ends_behind limit left (g.S.Source.left c.batches.source) (g.S.Source.left c.fill.new.source) faults _ inv.logs old new now fill.rises same fill.within fill.near (fill.beyond (stopped ∙ ap stopped_at is)))
+    (λ is. ends_behind limit left (g.S.Source.left c.batches.source) (g.S.Source.left c.pass_batches.new.source) faults _ inv.logs old new now fill.rises same fill.within fill.near (fill.beyond (stopped ∙ ap stopped_at is)))
     (fill.stopped c.in-Stopped.stop stopped)
 
 pub returns-in_err-finish-clause-answers : goal.returns-in_err-finish-clause-answers
@@ -305,27 +336,30 @@ returns-in_err-finish-clause-answers g c = λ left faults come.
     let scheme = scheme_of functions header in
     let limit = c.args.reader.now.limit in
     let inv = c.batches.invariant in
-    let fill = c.fill.ensures in
-    let on = c.in_ok-filled.ensures.goes_on in
+    let passed = c.pass_batches.ensures.passed in
+    let fill = passed.1 in
+    let on = in_ok _ c.in_ok-filled.was fill.goes_on in
     let old = c.batches.reader in
-    let new = c.fill.new.reader in
-    let frames = c.fill.new.self in
+    let new = c.pass_batches.new.reader in
+    let frames = passed.0 in
     let all = joined_from 0 inv.logs frames in
+    let read = in_ok _ c.in_ok-filled.was passed.2 in
+    let fed = read_checked functions header inv.logs frames c.batches.certifier c.batches.runs c.pass_batches.new.runs inv.checked read c.in_ok-certify.ensures.fed.0 in
+    let taken = c.in_ok-certify.ensures.taken scheme header all fed in
+    let counted = c.in_ok-certify.ensures.judged scheme header all fed in
+    let due = due_more (text_by g.D.Digests.functions c.new-telling.result) functions header inv.logs frames c.batches.certifier c.batches.runs inv.checked c.certify.new.self c.pass_batches.new.runs c.certify.new.runs
+    (g.O.Sink.held c.args.out.now) (g.O.Sink.held c.batches.out) (g.O.Sink.held c.certify.new.out) fed taken counted inv.written (c.in_ok-certify.ensures.lines scheme header all fed) in
     let now = inv.come left faults come in
     let ended = c.in_ok-filled.was ∙ ap Ok c.in-End.is in
-    let checked = subst (λ (runs : List FedRun). AreChecked functions header inv.logs c.batches.certifier runs) (sym c.deref_mut.ensures.value) inv.checked in
-    let back = lent_back c.batches.runs.len c.take_batch.new.runs c.batches.runs.items (omega (arith, c.batches.runs.ok)) (c.take_batch.ensures.len ∙ ap length c.deref_mut.ensures.value) in
-    let taken = subst (λ (runs : List FedRun). AreChecked functions header all c.take_batch.new.certifier runs) (sym (c.deref_mut-2.ensures.value ∙ back))
-    (c.in_ok-take_batch.ensures.checked header inv.logs checked) in
     let sum : new.taken ≡ old.taken + (new.taken - old.taken) = omega (arith, fill.rises) in
-    let having_read = HasRead-then _ _ _ _ _ _ now.having_read (fill.having_read (end_no_stop c.fill.result ended)) sum in
-    let spent = c.in_ok-filled.ensures.spent (end_not_whole c.in_ok-filled.filled c.in-End.is) in
+    let having_read = HasRead-then _ _ _ _ _ _ now.having_read (fill.having_read (end_no_stop c.pass_batches.result ended)) sum in
+    let spent = spent_at _ _ _ c.in_ok-filled.was fill.spent (end_not_whole c.in_ok-filled.filled c.in-End.is) in
     let whole = (taken-more scheme header inv.logs c.batches.certifier _ frames inv.checked).whole in
     let read : Reading = record {
       left = left;
-      left_after = g.S.Source.left c.fill.new.source;
+      left_after = g.S.Source.left c.pass_batches.new.source;
       faults = faults;
-      faults_after = g.S.Source.faults c.fill.new.source;
+      faults_after = g.S.Source.faults c.pass_batches.new.source;
     } in
     let wrote : Writing = record {
       held = g.O.Sink.held c.args.out.now;
@@ -336,15 +370,15 @@ returns-in_err-finish-clause-answers g c = λ left faults come.
     subst (λ (r : Result BundleEnd Failure). AnswersTo (check_answer c.args.receipts functions) reading_end limit (check_status limit r) read wrote)
     (sym (handed_on c.from_residual-in_err-finish.result c.in_err-finish.field-0.0 c.from_residual-in_err-finish.ensures.1
     ∙ ap Err (sink_alone c.in_err-finish.field-0.0 c.in_err-finish.ensures.stop)))
-    (last_answers c.args.receipts functions header limit left (g.S.Source.left c.fill.new.source) faults (g.S.Source.faults c.fill.new.source) all new
+    (last_answers c.args.receipts functions header limit left (g.S.Source.left c.pass_batches.new.source) faults (g.S.Source.faults c.pass_batches.new.source) all new
     (on.header ∙ inv.known) (means-more left _ faults _ inv.logs old new now fill.rises header frames inv.known on) wrote c.bad.result having_read
     (omega (arith, fill.within, fill.same_limit, inv.limit))
     (joined_end all new _ (Some header) c.bad.result (fill.end ended) (sym (on.header ∙ inv.known)) (c.bad.ensures.ahead spent.unread) whole)
     (stops_near _ _ _ reading_end having_read (near-then _ _ _ _ _ _ _ _ _ now.having_read now.extent fill.rises refl now.near fill.near))
-    (GrowsByFront-then _ _ _ _ _ (subst (λ (tell : EpochText). Grows (g.O.Sink.held c.args.out.now) (g.O.Sink.held c.take_batch.new.out) (lines_due tell functions header all))
-    c.new-telling.ensures.text (c.in_ok-take_batch.ensures.due header inv.logs (g.O.Sink.held c.args.out.now) checked inv.written))
-    (c.in_err-finish.ensures.front scheme header all taken (c.in_ok-take_batch.ensures.all header inv.logs checked)))
-    (let more = c.take_batch.ensures.never_falls in rose_before _ _ _ (omega (arith, inv.faults, more)) c.in_err-finish.ensures.write_fault))
+    (GrowsByFront-then _ _ _ _ _ (subst (λ (tell : EpochText). Grows (g.O.Sink.held c.args.out.now) (g.O.Sink.held c.certify.new.out) (lines_due tell functions header all))
+    c.new-telling.ensures.text due)
+    (c.in_err-finish.ensures.front scheme header all taken counted))
+    (let more = c.certify.ensures.never_falls in rose_before _ _ _ (omega (arith, inv.faults, more)) c.in_err-finish.ensures.write_fault))
 
 pub returns-clause-answers : goal.returns-clause-answers
 returns-clause-answers g c = λ left faults come.
@@ -353,25 +387,28 @@ returns-clause-answers g c = λ left faults come.
     let scheme = scheme_of functions header in
     let limit = c.args.reader.now.limit in
     let inv = c.batches.invariant in
-    let fill = c.fill.ensures in
-    let on = c.in_ok-filled.ensures.goes_on in
+    let passed = c.pass_batches.ensures.passed in
+    let fill = passed.1 in
+    let on = in_ok _ c.in_ok-filled.was fill.goes_on in
     let old = c.batches.reader in
-    let new = c.fill.new.reader in
-    let frames = c.fill.new.self in
+    let new = c.pass_batches.new.reader in
+    let frames = passed.0 in
     let all = joined_from 0 inv.logs frames in
+    let read = in_ok _ c.in_ok-filled.was passed.2 in
+    let fed = read_checked functions header inv.logs frames c.batches.certifier c.batches.runs c.pass_batches.new.runs inv.checked read c.in_ok-certify.ensures.fed.0 in
+    let taken = c.in_ok-certify.ensures.taken scheme header all fed in
+    let counted = c.in_ok-certify.ensures.judged scheme header all fed in
+    let due = due_more (text_by g.D.Digests.functions c.new-telling.result) functions header inv.logs frames c.batches.certifier c.batches.runs inv.checked c.certify.new.self c.pass_batches.new.runs c.certify.new.runs
+    (g.O.Sink.held c.args.out.now) (g.O.Sink.held c.batches.out) (g.O.Sink.held c.certify.new.out) fed taken counted inv.written (c.in_ok-certify.ensures.lines scheme header all fed) in
     let now = inv.come left faults come in
     let ended = c.in_ok-filled.was ∙ ap Ok c.in-End.is in
-    let checked = subst (λ (runs : List FedRun). AreChecked functions header inv.logs c.batches.certifier runs) (sym c.deref_mut.ensures.value) inv.checked in
-    let back = lent_back c.batches.runs.len c.take_batch.new.runs c.batches.runs.items (omega (arith, c.batches.runs.ok)) (c.take_batch.ensures.len ∙ ap length c.deref_mut.ensures.value) in
-    let taken = subst (λ (runs : List FedRun). AreChecked functions header all c.take_batch.new.certifier runs) (sym (c.deref_mut-2.ensures.value ∙ back))
-    (c.in_ok-take_batch.ensures.checked header inv.logs checked) in
     let sum : new.taken ≡ old.taken + (new.taken - old.taken) = omega (arith, fill.rises) in
-    let having_read = HasRead-then _ _ _ _ _ _ now.having_read (fill.having_read (end_no_stop c.fill.result ended)) sum in
-    let spent = c.in_ok-filled.ensures.spent (end_not_whole c.in_ok-filled.filled c.in-End.is) in
+    let having_read = HasRead-then _ _ _ _ _ _ now.having_read (fill.having_read (end_no_stop c.pass_batches.result ended)) sum in
+    let spent = spent_at _ _ _ c.in_ok-filled.was fill.spent (end_not_whole c.in_ok-filled.filled c.in-End.is) in
     let whole = (taken-more scheme header inv.logs c.batches.certifier _ frames inv.checked).whole in
     let end = c.in_ok-finish.field-0 in
-    let end_is = c.in_ok-finish.ensures.end scheme header all taken (c.in_ok-take_batch.ensures.all header inv.logs checked) in
-    end_answers c.args.receipts functions header limit left (g.S.Source.left c.fill.new.source) faults (g.S.Source.faults c.fill.new.source) all new
+    let end_is = c.in_ok-finish.ensures.end scheme header all taken counted in
+    end_answers c.args.receipts functions header limit left (g.S.Source.left c.pass_batches.new.source) faults (g.S.Source.faults c.pass_batches.new.source) all new
     (on.header ∙ inv.known) (means-more left _ faults _ inv.logs old new now fill.rises header frames inv.known on)
     (record {
       held = g.O.Sink.held c.args.out.now;
@@ -382,10 +419,10 @@ returns-clause-answers g c = λ left faults come.
     c.bad.result end having_read
     (omega (arith, fill.within, fill.same_limit, inv.limit))
     (joined_end all new _ (Some header) c.bad.result (fill.end ended) (sym (on.header ∙ inv.known)) (c.bad.ensures.ahead spent.unread) whole)
-    (took_to_end new.taken left (g.S.Source.left c.fill.new.source) reading_end (end_ahead new) having_read
+    (took_to_end new.taken left (g.S.Source.left c.pass_batches.new.source) reading_end (end_ahead new) having_read
     (extent-more left _ faults _ inv.logs old new now fill.rises on.extent) (fill.reached ended))
     (stops_near _ _ _ reading_end having_read (near-then _ _ _ _ _ _ _ _ _ now.having_read now.extent fill.rises refl now.near fill.near))
     (ap status_of end_is)
-    (Grows-then _ _ _ _ _ (subst (λ (tell : EpochText). Grows (g.O.Sink.held c.args.out.now) (g.O.Sink.held c.take_batch.new.out) (lines_due tell functions header all))
-    c.new-telling.ensures.text (c.in_ok-take_batch.ensures.due header inv.logs (g.O.Sink.held c.args.out.now) checked inv.written))
-    (subst (λ (e : BundleEnd). Grows (g.O.Sink.held c.take_batch.new.out) (g.O.Sink.held c.finish.new.out) (last_line (status_of e))) end_is c.in_ok-finish.ensures.line))
+    (Grows-then _ _ _ _ _ (subst (λ (tell : EpochText). Grows (g.O.Sink.held c.args.out.now) (g.O.Sink.held c.certify.new.out) (lines_due tell functions header all))
+    c.new-telling.ensures.text due)
+    (subst (λ (e : BundleEnd). Grows (g.O.Sink.held c.certify.new.out) (g.O.Sink.held c.finish.new.out) (last_line (status_of e))) end_is c.in_ok-finish.ensures.line))

@@ -1,4 +1,4 @@
-use Rattle.std.proofs.Common.{◌≡◌, ◌-◌, ◌≤◌, ℕ, List, Option, Some, vec_len}
+use Rattle.std.proofs.Common.{◌≡◌, ◌-◌, ◌≤◌, ℕ, List, Option, Some, length}
 use Rattle.std.specs.List.{AllByRecursion}
 use Rattle.fv_outside.specs.Written.{Grows}
 use Rattle.bundle_frames.specs.Extent.{IsDue}
@@ -13,10 +13,10 @@ use Rattle.check_core.proofs.checking.check_frames.Given as goal
 abbrev pub invariant-batches : goal.invariant-batches
 invariant-batches g l = record {
   logs : List (List ℕ);
-  checked : AreChecked (g.D.Digests.functions l.d) l.header logs l.certifier l.runs.items;
+  checked : AreChecked (g.D.Digests.functions l.d) l.header logs l.certifier l.runs;
   written : Grows (g.O.Sink.held l.fn.out) (g.O.Sink.held l.out) (lines_counted (text_by g.D.Digests.functions l.telling) (g.D.Digests.functions l.d) l.header logs l.certifier);
-  weights : AllByRecursion (λ fed. weight fed.run ≤ l.reader.progress.offset) l.runs.items;
-  few : vec_len l.runs ≤ 64;
+  weights : AllByRecursion (λ fed. weight fed.run ≤ l.reader.progress.offset) l.runs;
+  few : length l.runs ≤ 64;
   come : (left : Option (List ℕ)) (faults : ℕ)
       → HasCome left faults (empty_logs l.header.verifiers) l.fn.reader (g.S.Source.left l.fn.source) (g.S.Source.faults l.fn.source)
       → HasCome left faults logs l.reader (g.S.Source.left l.source) (g.S.Source.faults l.source);

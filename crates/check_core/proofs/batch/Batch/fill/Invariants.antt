@@ -28,4 +28,4 @@ invariant-frames g l = record {
 
 -- how many frames may still come
 abbrev pub decreases-frames : goal.decreases-frames
-decreases-frames g l = 64 - length l.self
+decreases-frames g l = 16 - length l.self
