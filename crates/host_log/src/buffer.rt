@@ -1,9 +1,10 @@
 //! The bytes of a log that grows command by command.
 ghost use Rattle.std.specs.Prelude.{◌≡◌, [], ◌++◌, take, OnOk, OnErr};
-ghost use Rattle.log_codec.specs.Command.{path_command_text};
+ghost use Rattle.slot_rewriting.specs.Writing.{text_by, writer_after};
 
 use base_words::Memory;
-use log_codec::{Command, write_path_command};
+use log_codec::Command;
+use slot_rewriting::CommandWriter;
 use std::alloc::Global;
 use std::marker::Model;
 use std::mem;
@@ -32,14 +33,13 @@ impl LogBuffer {
         }
     }
 
-    /// Adds a command.
-    pub fn push(&mut self, command: &Command) -> Result<(), Memory>
-        ensures pushed { OnOk result (self.new ≡ self.old ++ path_command_text command.now) }
+    /// Adds a command, as its log's writer writes it. For want of memory the bytes are as before, and the writer is of no more use.
+    pub fn push(&mut self, writer: &mut CommandWriter, command: &Command) -> Result<(), Memory>
+        ensures pushed { OnOk result (self.new ≡ self.old ++ text_by writer.old command.now) }
+        ensures after { OnOk result (writer.new ≡ writer_after writer.old command.now) }
         ensures err { OnErr result (self.new ≡ self.old) }
     {
-        self.bytes
-            .extend_from_slice(write_path_command(command).as_slice())?;
-        Ok(())
+        writer.write(command, &mut self.bytes)
     }
 
     /// What was pushed.

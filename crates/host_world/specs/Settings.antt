@@ -1,6 +1,6 @@
 -- The numbers of a shipped host.
-use Rattle.std.specs.Prelude.{◌≡◌, ℕ, zero, suc, ◌^◌, ◌<◌, nat_le, true, IfSome, if◌then◌else◌}
-use Rattle.lamport_clocks.specs.Header.{IsHeader, names_paths}
+use Rattle.std.specs.Prelude.{◌≡◌, ℕ, zero, suc, ◌^◌, ◌<◌, nat_le, IfSome, if◌then◌else◌}
+use Rattle.lamport_clocks.specs.Header.{IsHeader}
 use Rattle.host_plan.specs.Setup.{IsShardCount}
 use Rattle.host_world.specs.declared.settings.Settings.{Settings}
 
@@ -8,10 +8,9 @@ use Rattle.host_world.specs.declared.settings.Settings.{Settings}
 abbrev pub shipped_cache : ℕ
 shipped_cache = 128
 
--- The numbers are in their ranges, the commands of its bundle name paths, and the caches are the shipped host's.
+-- The numbers are in their ranges, and the caches are the shipped host's.
 pub record IsSettings (settings : Settings) : Type 0 where
   pub header : IsHeader settings.header
-  pub by_path : names_paths settings.header ≡ true
   pub cache : settings.header.cache ≡ shipped_cache
   pub shards : IsShardCount settings.shards
   pub hot : IfSome settings.hot (λ least. 0 < least)

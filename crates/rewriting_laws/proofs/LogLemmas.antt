@@ -60,7 +60,7 @@ slot_typed longest paths (Put path (values.Node node)) kind = tt
 slot_typed longest paths NextEpoch kind = tt
 
 -- the states are alike behind it
-alike_after : (rules : Rules) (state : State) (slotted : SlotState) (command : Command) (done : Change × State) → IsOfKind rules.scheme.format.longest command → AreAlike state slotted
+pub alike_after : (rules : Rules) (state : State) (slotted : SlotState) (command : Command) (done : Change × State) → IsOfKind rules.scheme.format.longest command → AreAlike state slotted
     → transition rules state command ≡ Ok done → (step : IsFollowed rules slotted state command done) → AreAlike done.1 step.next
 alike_after rules state slotted command done kind alike is step =
     let longest = rules.scheme.format.longest in
@@ -134,7 +134,7 @@ no_paths zero = refl
 no_paths (suc count) = ap (λ (paths : SlotPaths). None ∷ paths) (no_paths count)
 
 -- the paths that stand in slots at the start
-opening_paths_in : (number : ℕ) (header : Header) → paths_in (slot_opening number header).slots ≡ opening_paths number header
+pub opening_paths_in : (number : ℕ) (header : Header) → paths_in (slot_opening number header).slots ≡ opening_paths number header
 opening_paths_in number header = go (number == 0)
   where
     go : (b : Bool) → paths_in (if b then Some (root_entry (wide_of header)) ∷ empty_slots (header.cache - 1) else empty_slots header.cache)
@@ -168,7 +168,7 @@ opening_room number header some = go (number == 0)
     go true = omega (arith, so_many (header.cache - 1), some)
     go false = so_many header.cache
 
-opening_count : (number : ℕ) (header : Header) → length (opening number header).cache.entries ≡ taken (opening_paths number header)
+pub opening_count : (number : ℕ) (header : Header) → length (opening number header).cache.entries ≡ taken (opening_paths number header)
 opening_count number header = go (number == 0)
   where
     go : (b : Bool) → length (if b then root_entry (wide_of header) ∷ [] else [])
@@ -176,7 +176,7 @@ opening_count number header = go (number == 0)
     go true = ap (λ (n : ℕ). suc n) (sym (taken-none (header.cache - 1)))
     go false = sym (taken-none header.cache)
 
-alike_at_first : (number : ℕ) (header : Header) → 1 ≤ header.cache → AreAlike (opening number header) (slot_opening number header)
+pub alike_at_first : (number : ℕ) (header : Header) → 1 ≤ header.cache → AreAlike (opening number header) (slot_opening number header)
 alike_at_first number header some = record {
   clock = refl;
   shown = λ path. ap (entry_of path) (sym (opening_standing number header));

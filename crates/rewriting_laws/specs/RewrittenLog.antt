@@ -1,11 +1,14 @@
 -- A log whose commands name paths, and the same log by slots.
-use Rattle.std.specs.Prelude.{◌≡◌, ℕ, suc, List, [], ◌∷◌, None}
+use Rattle.std.specs.Prelude.{◌≡◌, ℕ, suc, List, [], ◌∷◌, None, Ok}
 use Rattle.lamport_clocks.specs.declared.header.Header.{Header}
 use Rattle.record_text.specs.Value.{IsOf}
 use Rattle.log_codec.specs.declared.command.Command.{Command}
 use Rattle.log_codec.specs.declared.command.Command.TheVariants.{AddM, EvictM, AddB, EvictB, EvictBM, Get, Put, NextEpoch}
 use Rattle.log_codec.specs.declared.slot_command.SlotCommand.{SlotCommand}
 use Rattle.merkle_records.specs.Scheme.{Scheme}
+use Rattle.verifier_commands.specs.declared.state.State.{State}
+use Rattle.verifier_commands.specs.Change.{Change}
+use Rattle.verifier_commands.specs.Transition.{Rules, transition}
 use Rattle.slot_rewriting.specs.Rewriting.{opening_paths, rewritten_from}
 use Rattle.soundness.specs.PathHistory.{path_log_refusal}
 
@@ -33,3 +36,9 @@ rewritten_logs header number (log ∷ logs) = rewritten_log header number log �
 abbrev pub AreAccepted : Scheme → Header → ℕ → List (List Command) → Type 0
 AreAccepted scheme header number [] = Unit {0}
 AreAccepted scheme header number (log ∷ logs) = (path_log_refusal scheme header number log ≡ None) × AreAccepted scheme header (suc number) logs
+
+-- no command is refused from the one state on, and behind them the verifier is in the other
+abbrev pub Leads : Rules → State → List Command → State → Type 0
+Leads rules state [] last = last ≡ state
+Leads rules state (command ∷ commands) last =
+    (change : Change) × (next : State) × (transition rules state command ≡ Ok (change, next)) × Leads rules next commands last

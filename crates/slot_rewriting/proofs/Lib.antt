@@ -2,4 +2,5 @@
 mod MarkLemmas
 pub mod SlotPathLaws
 pub mod WritingLaws
+pub mod RangeLaws
 mod IndexedLemmas

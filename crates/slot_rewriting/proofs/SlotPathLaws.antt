@@ -1,13 +1,16 @@
 -- Which path stands in which slot.
-use Rattle.std.proofs.Common.{◌≡◌, ℕ, zero, suc, ◌+◌, ◌-◌, ◌<◌, ◌≤◌, Bool, true, false, nat_lt, List, [], ◌∷◌, length, map, set, replicate, Some, None, option_map, if◌then◌else◌, refl, sym, ap, subst, arith}
+use Rattle.std.proofs.Common.{◌≡◌, ℕ, zero, suc, ◌+◌, ◌-◌, ◌==◌, ◌<◌, ◌≤◌, Bool, true, false, nat_lt, List, [], ◌∷◌, length, map, set, replicate, Option, Some, None, option_map, if◌then◌else◌, refl, sym, ap, subst, arith, length-set}
 use Rattle.std.proofs.lemmas.Option.{none-some, same_Some}
 use Rattle.std.proofs.lemmas.Bool.{eq-eqb, ne_eqb, ltb_from_iff}
+use Rattle.std.proofs.lemmas.List.{length-replicate}
 use Rattle.tree_keys.specs.Path.{root_of, same_path}
 use Rattle.tree_keys.proofs.PathLaws.{same_path-true, same_path-self}
 use Rattle.free_numbers.specs.Free.{lowest_free}
 use Rattle.lamport_clocks.specs.declared.header.Header.{Header}
 use Rattle.record_text.specs.Tree.{wide_of}
-use Rattle.slot_rewriting.specs.Rewriting.{SlotPaths, slot_of, lowest_empty, HasSlot, HasNoSlot, HasEmpty, opening_paths}
+use Rattle.log_codec.specs.declared.command.Command.{Command}
+use Rattle.log_codec.specs.declared.command.Command.TheVariants.{AddM, EvictM, AddB, EvictB, EvictBM, Get, Put, NextEpoch}
+use Rattle.slot_rewriting.specs.Rewriting.{SlotPaths, slot_of, lowest_empty, HasSlot, HasNoSlot, HasEmpty, opening_paths, paths_after}
 use Rattle.slot_rewriting.specs.Indexed.{path_in, is_empty, taken}
 
 -- what is true just where one number is below another
@@ -134,3 +137,30 @@ opening-root number header first = ap (λ (b : Bool). if b then Some (root_of (w
 
 pub opening-others : (number : ℕ) (header : Header) → (number ≡ 0 → ⊥) → opening_paths number header ≡ replicate header.cache None
 opening-others number header other = ap (λ (b : Bool). if b then Some (root_of (wide_of header)) ∷ replicate (header.cache - 1) None else replicate header.cache None) (ne_eqb number 0 other)
+
+-- ---- so many slots
+
+-- a command leaves the number of slots
+pub length-after : (paths : SlotPaths) (command : Command) → length (paths_after paths command) ≡ length paths
+length-after paths (AddM path value parent) = length-set paths (lowest_empty paths) (Some path)
+length-after paths (EvictM path parent) = length-set paths (slot_of path paths) None
+length-after paths (AddB path value stamp verifier) = length-set paths (lowest_empty paths) (Some path)
+length-after paths (EvictB path stamp) = length-set paths (slot_of path paths) None
+length-after paths (EvictBM path parent stamp) = length-set paths (slot_of path paths) None
+length-after paths (Get path value) = refl
+length-after paths (Put path value) = refl
+length-after paths NextEpoch = refl
+
+-- at the start there are as many as the header says
+pub length-opening : (number : ℕ) (header : Header) → 1 ≤ header.cache → length (opening_paths number header) ≡ header.cache
+length-opening number header some = go (number == 0)
+  where
+    nothing : Option (List Bool)
+    nothing = None
+
+    empty_ones : (count : ℕ) → length (replicate count nothing) ≡ count
+    empty_ones count = length-replicate count nothing
+
+    go : (first : Bool) → length (if first then Some (root_of (wide_of header)) ∷ replicate (header.cache - 1) None else replicate header.cache None) ≡ header.cache
+    go true = omega (arith, empty_ones (header.cache - 1), some)
+    go false = empty_ones header.cache
