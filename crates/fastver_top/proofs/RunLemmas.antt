@@ -4,6 +4,7 @@ use Rattle.fv_outside.specs.Consumed.{TookAtMost, TookJust}
 use Rattle.fv_outside.specs.Faults.{Rose}
 use Rattle.fv_outside.specs.Written.{Grows}
 use Rattle.record_hash.specs.Functions.{DigestFunctions}
+use Rattle.slot_rewriting.specs.Writing.{written_logs}
 use Rattle.record_text.specs.declared.cause.Cause.{Cause}
 use Rattle.program_words.specs.declared.host_words.RunWords.{RunWords}
 use Rattle.report_text.specs.declared.status.Status.{Status}
@@ -24,7 +25,7 @@ use Rattle.verifier_threads.specs.declared.accounts.Account.TheVariants as accou
 use Rattle.verifier_threads.specs.declared.ending.RunEnd.{RunEnd}
 use Rattle.verifier_threads.specs.declared.ending.RunEnd.TheVariants as ends
 use Rattle.verifier_threads.specs.InRounds.{Logs}
-use Rattle.verifier_threads.specs.Serving.{Outputs, AreOfRun, IsServed, IsCutOff, IsCutByVault, IsCutAtEnd, ServesTo, end_by, status_at, texts_of}
+use Rattle.verifier_threads.specs.Serving.{Outputs, AreOfRun, IsServed, IsCutOff, IsCutByVault, IsCutAtEnd, ServesTo, end_by, status_at}
 use Rattle.fastver_top.specs.declared.scripts.ScriptStop.{ScriptStop}
 use Rattle.fastver_top.specs.declared.scripts.ScriptStop.TheVariants as scripts
 use Rattle.fastver_top.specs.Running.{HasScript, HasBadLine, ReadsScript, script_stopped, settings_for, Keeping, outputs_of, EndsServed, EndsCutOff, IsDueByCheck, IsAnswerOfCheck, IsNamedFor, IsUntouched, IsBehindScript, RunsTo}
@@ -38,7 +39,7 @@ module _ (receipts : Bool) (functions : DigestFunctions) (settings : Settings) (
     bytes = served.vault.bytes;
     vault = served.vault.grown;
     out = subst (λ (lines : List ℕ). Grows outputs.out outputs.out_after (lines ++ last_line (status_at end)))
-        (sym (bundle-due receipts functions settings.header (texts_of served.logs) (map texts_of served.rounds) served.vault.bytes served.vault.is_bundle)) served.out;
+        (sym (bundle-due receipts functions settings.header (written_logs settings.header served.logs) (map (written_logs settings.header) served.rounds) served.vault.bytes served.vault.is_bundle)) served.out;
   }
 
   -- no clock ended where all is done
@@ -48,21 +49,21 @@ module _ (receipts : Bool) (functions : DigestFunctions) (settings : Settings) (
 
   -- the same text and status, where all is done
   pub answer-of-check : ((rounds : List Logs) (logs : Logs) → AreOfRun functions settings script rounds logs None
-      → end_due functions settings.header (texts_of logs) ≡ bundles.Done (length script))
+      → end_due functions settings.header (written_logs settings.header logs) ≡ bundles.Done (length script))
       → (end : RunEnd) (epochs : ℕ) → status_at end ≡ statuses.Done epochs → IsServed (accounts.Report receipts) functions settings script end outputs
       → IsAnswerOfCheck receipts functions (status_at end) outputs
   answer-of-check law end epochs done served =
       let none : served.end ≡ None = none-ended served.end (length script) epochs (sym (ap status_at served.is) ∙ done) in
       let run : AreOfRun functions settings script served.rounds served.logs None = subst (AreOfRun functions settings script served.rounds served.logs) none served.run in
-      let status : status_at end ≡ status_of (end_due functions settings.header (texts_of served.logs)) =
+      let status : status_at end ≡ status_of (end_due functions settings.header (written_logs settings.header served.logs)) =
       ap status_at served.is ∙ ap (λ (e : Option ClockEnd). status_at (end_by (length script) e)) none ∙ sym (ap status_of (law served.rounds served.logs run)) in
       record {
         bytes = served.vault.bytes;
         vault = served.vault.grown;
         out = subst (Grows outputs.out outputs.out_after)
-            (ap (λ (s : Status). lines_due (told_by receipts functions settings.header) functions settings.header (texts_of served.logs) ++ last_line s) status
-            ∙ sym (bundle-text receipts functions settings.header (texts_of served.logs) (map texts_of served.rounds) served.vault.bytes served.vault.is_bundle)) served.out;
-        status = bundle-end receipts functions settings.header (texts_of served.logs) (map texts_of served.rounds) served.vault.bytes served.vault.is_bundle ∙ sym status;
+            (ap (λ (s : Status). lines_due (told_by receipts functions settings.header) functions settings.header (written_logs settings.header served.logs) ++ last_line s) status
+            ∙ sym (bundle-text receipts functions settings.header (written_logs settings.header served.logs) (map (written_logs settings.header) served.rounds) served.vault.bytes served.vault.is_bundle)) served.out;
+        status = bundle-end receipts functions settings.header (written_logs settings.header served.logs) (map (written_logs settings.header) served.rounds) served.vault.bytes served.vault.is_bundle ∙ sym status;
       }
 
 -- ---- how it ends
@@ -301,7 +302,7 @@ module _ (functions : DigestFunctions) (run : RunWords) (most : ℕ) (reading : 
 
     -- it was
     pub runs-served : ((rounds : List Logs) (logs : Logs) → AreOfRun functions (settings_for run.numbers) script rounds logs None
-        → end_due functions (settings_for run.numbers).header (texts_of logs) ≡ bundles.Done (length script))
+        → end_due functions (settings_for run.numbers).header (written_logs (settings_for run.numbers).header logs) ≡ bundles.Done (length script))
         → (end : RunEnd) → ServesTo (accounts.Report run.receipts) functions (settings_for run.numbers) script (Ok end) (outputs_of writing keeping)
         → IsNamedFor run.logs keeping.name keeping.name_after → RunsTo functions run most (status_at end) reading writing keeping
     runs-served law end served named =

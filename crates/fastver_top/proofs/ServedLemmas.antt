@@ -5,6 +5,7 @@ use Rattle.std.proofs.lemmas.Bool.{cases_lt}
 use Rattle.std.specs.List.{onto_first}
 use Rattle.base_words.specs.Steps.{and_then}
 use Rattle.record_hash.specs.Functions.{DigestFunctions}
+use Rattle.slot_rewriting.specs.Writing.{written_logs}
 use Rattle.merkle_records.specs.Merkle.{GivesDigests}
 use Rattle.log_codec.specs.declared.command.Command.{Command}
 use Rattle.report_text.specs.declared.ending.BundleEnd.TheVariants.{Done}
@@ -25,7 +26,7 @@ use Rattle.host_fits.specs.Promise.{CanRun}
 use Rattle.host_rounds.specs.SoFar.{end_due}
 use Rattle.run_reports.specs.Runs.{HoldsOfRuns}
 use Rattle.verifier_threads.specs.InRounds.{Logs}
-use Rattle.verifier_threads.specs.Serving.{AreOfRun, AreServed, texts_of}
+use Rattle.verifier_threads.specs.Serving.{AreOfRun, AreServed}
 
 -- ---- a script has a phase
 
@@ -91,11 +92,11 @@ module _ {C R : Type 0} (host : Host C R) where
 abbrev pub EndsWithPhases : Type 0
 EndsWithPhases = HoldsOfRuns (λ host world.
     ((i : ℕ) → i < length world.workers → HasAdvanced host world i 2)
-    → end_due host.functions host.header (texts_of (logs_of world)) ≡ Done (suc world.phase))
+    → end_due host.functions host.header (written_logs host.header (logs_of world)) ≡ Done (suc world.phase))
 
 module _ (functions : DigestFunctions) (settings : Settings) (script : List (List Task)) (rounds : List Logs) (logs : Logs) where
   served-end : EndsWithPhases → CanRun functions settings script → settings.header.first < 2 ^ 32 → 0 < length script
-      → AreServed functions settings script rounds logs None → end_due functions settings.header (texts_of logs) ≡ Done (length script)
+      → AreServed functions settings script rounds logs None → end_due functions settings.header (written_logs settings.header logs) ≡ Done (length script)
   served-end promise can first some served =
       let host = shipped_host functions settings script in
       let whole = served.whole refl in
@@ -106,12 +107,12 @@ module _ (functions : DigestFunctions) (settings : Settings) (script : List (Lis
       let count : suc served.world.phase ≡ length script = omega (arith, there, whole.last, phases) in
       let ends = promise functions settings script served.way.events can first served.way.enabled in
       let advanced = subst (λ (w : World _). (i : ℕ) → i < length w.workers → HasAdvanced host w i 2) served.way.is whole.closed.advanced in
-      ap (λ (l : List (List Command)). end_due functions settings.header (texts_of l)) (served.logs_are ∙ ap logs_of served.way.is)
+      ap (λ (l : List (List Command)). end_due functions settings.header (written_logs settings.header l)) (served.logs_are ∙ ap logs_of served.way.is)
       ∙ ends advanced
       ∙ ap Done (ap (λ (w : World _). suc w.phase) (sym served.way.is) ∙ count)
 
   pub run-end : EndsWithPhases → IsSettings settings → AreInRange script → GivesDigests functions.digest → settings.header.first < 2 ^ 32 → 0 < length script
-      → AreOfRun functions settings script rounds logs None → end_due functions settings.header (texts_of logs) ≡ Done (length script)
+      → AreOfRun functions settings script rounds logs None → end_due functions settings.header (written_logs settings.header logs) ≡ Done (length script)
   run-end promise in_range keys digests first some run =
       ⊎_elim (λ short. absurd (let no = (run.unserved short).2 in cc))
       (λ enough. served-end promise (record { in_range = in_range; counters = enough; keys = keys; digests = digests }) first some (run.served enough))

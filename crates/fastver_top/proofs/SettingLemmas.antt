@@ -13,8 +13,8 @@ some_touches (Some least) most holds = omega (arith, holds.0)
 pub settings_in_range : (numbers : HostNumbers) → AreHostNumbers numbers → IsSettings (settings_for numbers)
 settings_in_range numbers are = record {
   header = record {
-    some_version = omega arith;
-    version = omega arith;
+    some_version = are.some_version;
+    version = are.version;
     some_verifiers = are.some_verifiers;
     verifiers = omega (arith, are.verifiers);
     some_cache = omega arith;
@@ -22,7 +22,6 @@ settings_in_range numbers are = record {
     some_end = are.some_end;
     end = are.end;
   };
-  by_path = refl;
   cache = refl;
   shards = record { bits = are.shards.bits; some = are.shards.some; most = are.shards.most; power = are.shards.power };
   hot = some_touches numbers.hot 1000000 are.hot;

@@ -4,7 +4,6 @@ use Rattle.std.specs.Io.KnownBytes.{IsAtEnd}
 use Rattle.fv_outside.specs.Consumed.{TookAtMost, TookJust}
 use Rattle.fv_outside.specs.Faults.{Rose}
 use Rattle.fv_outside.specs.Written.{Grows, IsNamed}
-use Rattle.lamport_clocks.specs.Header.{header_by_path}
 use Rattle.record_hash.specs.Functions.{DigestFunctions}
 use Rattle.record_text.specs.declared.cause.Cause.{Cause}
 use Rattle.program_words.specs.declared.host_words.HostNumbers.{HostNumbers}
@@ -95,7 +94,13 @@ pub record ReadsScript (verifiers most : ℕ) (result : Result (List (List Task)
 -- what a host of these numbers is set to
 abbrev pub settings_for : HostNumbers → Settings
 settings_for numbers = record {
-  header = header_by_path numbers.verifiers shipped_cache numbers.first numbers.counter;
+  header = record {
+    version = numbers.version;
+    verifiers = numbers.verifiers;
+    cache = shipped_cache;
+    first = numbers.first;
+    end = numbers.counter;
+  };
   shards = numbers.shards;
   hot = numbers.hot;
 }

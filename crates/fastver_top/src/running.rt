@@ -129,12 +129,13 @@ pub(crate) fn settings_for(numbers: &HostNumbers) -> Settings
     ensures in_range { AreHostNumbers numbers.now → IsSettings result }
 {
     Settings {
-        header: Header::by_path(
-            numbers.verifiers,
-            HOST_CACHE,
-            numbers.first,
-            numbers.counter,
-        ),
+        header: Header {
+            version: numbers.version,
+            verifiers: numbers.verifiers,
+            cache: HOST_CACHE,
+            first: numbers.first,
+            end: numbers.counter,
+        },
         shards: numbers.shards,
         hot: numbers.hot,
     }

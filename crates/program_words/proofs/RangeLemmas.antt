@@ -7,7 +7,7 @@ use Rattle.std.specs.Str.Parse.{digits_value}
 use Rattle.std.proofs.lemmas.Bool.Decides.{nat_tests}
 use Rattle.clap.specs.Walk.{Row, Text, first_of}
 use Rattle.program_words.specs.Numbers.{is_numeral, in_range, number_between, needed_in, optional_in, given}
-use Rattle.program_words.specs.HostWords.{most_verifiers, most_touches, greatest_end, is_shard_count, shards_in, numbers_in, IsPower, AreHostNumbers}
+use Rattle.program_words.specs.HostWords.{most_verifiers, most_touches, greatest_end, first_version, last_version, is_shard_count, shards_in, numbers_in, IsPower, AreHostNumbers}
 use Rattle.program_words.specs.LoadWords.{most_ops, most_keys, usual_keys, most_every, usual_every, load_in, AreLoadNumbers}
 use Rattle.program_words.specs.declared.host_words.HostNumbers.{HostNumbers}
 use Rattle.program_words.specs.declared.load_words.LoadNumbers.{LoadNumbers}
@@ -31,7 +31,7 @@ pub mapped : {A B : Type 0} (f : A → B) (o : Option A) (b : B) → option_map 
 mapped f None b is = absurd (cc)
 mapped f (Some a) b is = (a, (refl, (let same : f a ≡ b = cc in same)))
 
-optional_range : (least most : ℕ) (found : Option ℕ) (word : Option Text) → optional_in least most word ≡ Some found → IfSome found (λ number. (least ≤ number) × (number ≤ most))
+pub optional_range : (least most : ℕ) (found : Option ℕ) (word : Option Text) → optional_in least most word ≡ Some found → IfSome found (λ number. (least ≤ number) × (number ≤ most))
 optional_range least most found None is =
     let same : None ≡ found = cc in
     subst (λ (o : Option ℕ). IfSome o (λ number. (least ≤ number) × (number ≤ most))) same tt
@@ -39,7 +39,7 @@ optional_range least most found (Some word) is =
     let m = mapped Some (number_between least most word) found is in
     subst (λ (o : Option ℕ). IfSome o (λ number. (least ≤ number) × (number ≤ most))) m.1.1 (between_range least most m.0 word m.1.0)
 
-or_range : (least most other : ℕ) (found : Option ℕ) → IfSome found (λ number. (least ≤ number) × (number ≤ most)) → least ≤ other → other ≤ most
+pub or_range : (least most other : ℕ) (found : Option ℕ) → IfSome found (λ number. (least ≤ number) × (number ≤ most)) → least ≤ other → other ≤ most
     → (least ≤ unwrap_or found other) × (unwrap_or found other ≤ most)
 or_range least most other None holds from to = (from, to)
 or_range least most other (Some number) holds from to = holds
@@ -100,11 +100,21 @@ numbers_range rows numbers is =
     let h = then_found (optional_in 1 most_touches (first_of (codes "hot") rows)) _ numbers b.1.1 in
     let f = then_found (optional_in 0 (2 ^ 32 - 1) (first_of (codes "first") rows)) _ numbers h.1.1 in
     let e = then_found (optional_in 1 greatest_end (first_of (codes "counter") rows)) _ numbers f.1.1 in
-    let made : HostNumbers = record { verifiers = a.0; shards = b.0; hot = h.0; first = unwrap_or f.0 0; counter = unwrap_or e.0 greatest_end } in
-    let same : made ≡ numbers = (let inside : Some made ≡ Some numbers = e.1.1 in cc) in
+    let v = then_found (optional_in first_version last_version (first_of (codes "format") rows)) _ numbers e.1.1 in
+    let made : HostNumbers = record {
+      verifiers = a.0;
+      shards = b.0;
+      hot = h.0;
+      first = unwrap_or f.0 0;
+      counter = unwrap_or e.0 greatest_end;
+      version = unwrap_or v.0 first_version;
+    } in
+    let same : made ≡ numbers = (let inside : Some made ≡ Some numbers = v.1.1 in cc) in
     let verifiers = needed_range 1 most_verifiers a.0 (first_of (codes "verifiers") rows) a.1.0 in
     let first = or_range 0 (2 ^ 32 - 1) 0 f.0 (optional_range 0 (2 ^ 32 - 1) f.0 (first_of (codes "first") rows) f.1.0) (omega arith) (omega arith) in
     let end = or_range 1 greatest_end greatest_end e.0 (optional_range 1 greatest_end e.0 (first_of (codes "counter") rows) e.1.0) (omega arith) (omega arith) in
+    let version = or_range first_version last_version first_version v.0
+    (optional_range first_version last_version v.0 (first_of (codes "format") rows) v.1.0) (omega arith) (omega arith) in
     subst AreHostNumbers same (record {
       some_verifiers = verifiers.0;
       verifiers = verifiers.1;
@@ -113,6 +123,8 @@ numbers_range rows numbers is =
       first = omega (arith, first.1);
       some_end = end.0;
       end = end.1;
+      some_version = version.0;
+      version = version.1;
     })
 
 -- ---- the numbers of a load

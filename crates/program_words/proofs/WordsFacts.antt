@@ -68,7 +68,7 @@ accepting = refl
 -- ---- run
 
 abbrev numbers : HostNumbers
-numbers = record { verifiers = 1; shards = 2; hot = None; first = 0; counter = 16777215 }
+numbers = record { verifiers = 1; shards = 2; hot = None; first = 0; counter = 16777215; version = 1 }
 
 abbrev host_words : List (List ℕ)
 host_words = codes "fastver" ∷ codes "run" ∷ codes "--key=00112233445566778899aabbccddeeff" ∷ codes "--verifiers" ∷ codes "1" ∷ codes "--shards" ∷ codes "2" ∷ []
@@ -83,6 +83,19 @@ whole_run : asked_of (host_words ++ codes "--logs" ∷ codes "x" ∷ codes "--fi
     ≡ Some (Run (record { key = key; numbers = record numbers { first = 7; counter = 4 }; logs = Some (codes "x"); receipts = false }))
 unfolding clap_on_literals hex_on_literals number_between
 whole_run = refl
+
+-- in each version, and in none that there is
+by_path_run : asked_of (host_words ++ codes "--format" ∷ codes "1" ∷ []) ≡ Some (Run (record { key = key; numbers = numbers; logs = None; receipts = false }))
+unfolding clap_on_literals hex_on_literals number_between
+by_path_run = refl
+
+by_slot_run : asked_of (host_words ++ codes "--format=2" ∷ []) ≡ Some (Run (record { key = key; numbers = record numbers { version = 2 }; logs = None; receipts = false }))
+unfolding clap_on_literals hex_on_literals number_between
+by_slot_run = refl
+
+no_version : asked_of (host_words ++ codes "--format=3" ∷ []) ≡ None
+unfolding clap_on_literals hex_on_literals number_between
+no_version = refl
 
 -- with receipts
 run_with_receipts : asked_of (host_words ++ codes "--receipts" ∷ []) ≡ Some (Run (record { key = key; numbers = numbers; logs = None; receipts = true }))
@@ -116,6 +129,11 @@ no_such_seed = refl
 no_seed : asked_of load_words ≡ None
 unfolding clap_on_literals hex_on_literals number_between
 no_seed = refl
+
+-- a load is written in the first version alone
+no_format : asked_of (load_words ++ codes "--seed=0" ∷ codes "--format=1" ∷ []) ≡ None
+unfolding clap_on_literals hex_on_literals number_between
+no_format = refl
 
 -- a load has no receipts
 no_receipts : asked_of (load_words ++ codes "--seed=0" ∷ codes "--receipts" ∷ []) ≡ None

@@ -17,6 +17,13 @@ most_touches = 1000000
 abbrev pub greatest_end : ℕ
 greatest_end = 16777215
 
+-- the first version of the format, which is taken where none is given, and the last one
+abbrev pub first_version : ℕ
+first_version = 1
+
+abbrev pub last_version : ℕ
+last_version = 2
+
 -- so many shards there can be: a power of two from 2 to 1,024
 abbrev pub is_shard_count : ℕ → Bool
 is_shard_count shards = list_any (λ count. shards == count) (2 ∷ 4 ∷ 8 ∷ 16 ∷ 32 ∷ 64 ∷ 128 ∷ 256 ∷ 512 ∷ 1024 ∷ [])
@@ -33,13 +40,15 @@ numbers_in rows =
     given (optional_in 1 most_touches (first_of (codes "hot") rows)) (λ hot.
     given (optional_in 0 (2 ^ 32 - 1) (first_of (codes "first") rows)) (λ first.
     given (optional_in 1 greatest_end (first_of (codes "counter") rows)) (λ counter.
+    given (optional_in first_version last_version (first_of (codes "format") rows)) (λ version.
     Some (record {
       verifiers = verifiers;
       shards = shards;
       hot = hot;
       first = unwrap_or first 0;
       counter = unwrap_or counter greatest_end;
-    }))))))
+      version = unwrap_or version first_version;
+    })))))))
 
 -- a power of two from 2 to 1,024
 pub record IsPower (shards : ℕ) : Type 0 where
@@ -57,3 +66,5 @@ pub record AreHostNumbers (numbers : HostNumbers) : Type 0 where
   pub first : numbers.first < 2 ^ 32
   pub some_end : 1 ≤ numbers.counter
   pub end : numbers.counter ≤ greatest_end
+  pub some_version : first_version ≤ numbers.version
+  pub version : numbers.version ≤ last_version

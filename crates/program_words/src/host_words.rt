@@ -19,6 +19,11 @@ const MOST_TOUCHES: u32 = 1_000_000;
 // The greatest value at which the counters of an epoch may end. It is also the one that is taken where none is given.
 const GREATEST_END: u32 = 16_777_215;
 
+// The first version of the format, which is also the one that is taken where none is given, and the last one.
+const FIRST_VERSION: u32 = 1;
+
+const LAST_VERSION: u32 = 2;
+
 /// The numbers of a host, as words give them.
 #[derive(Clone, Copy, Debug, PartialEq, Eq)]
 pub struct HostNumbers {
@@ -32,6 +37,8 @@ pub struct HostNumbers {
     pub first: u32,
     /// The last value of the counter in an epoch.
     pub counter: u32,
+    /// Which version of the format its bundle has.
+    pub version: u8,
 }
 
 /// A path, as a word gives it. Contracts see its bytes.
@@ -87,12 +94,14 @@ pub(crate) fn numbers_of(found: &ArgMatches<'_>) -> Option<HostNumbers>
     let hot = optional(found, "hot", 1, MOST_TOUCHES)?;
     let first = optional(found, "first", 0, u32::MAX)?;
     let counter = optional(found, "counter", 1, GREATEST_END)?;
+    let version = optional(found, "format", FIRST_VERSION, LAST_VERSION)?;
     Some(HostNumbers {
         verifiers: verifiers as u16,
         shards,
         hot,
         first: first.unwrap_or(0),
         counter: counter.unwrap_or(GREATEST_END),
+        version: version.unwrap_or(FIRST_VERSION) as u8,
     })
 }
 

@@ -1,8 +1,8 @@
 //! Scripts that are served, scripts that are bad, and clocks that end.
 use crate::serving::{
-    assert_all_served, assert_ended, assert_written, cases_in, line_of, same, served,
+    assert_all_served, assert_ended, assert_written, bundle_in, cases_in, line_of, same, served,
 };
-use bundle_rows::{Case, bundle_of};
+use bundle_rows::Case;
 use fastver_top::Status;
 use std::alloc::Global;
 use std::process::Abort;
@@ -93,13 +93,6 @@ addB /1 empty 0.2 v0
 evictB /1 1.4
 next
 ";
-
-// The bytes of a bundle, of which there are so many.
-fn bundle_in(rt: &impl Abort, alloc: Global, rows: &str, count: usize) -> Vec<u8> {
-    let bundle = bundle_of(alloc, rows).expect(rt, "memory");
-    same(rt, "bytes", 0, &bundle.len(), &count);
-    bundle
-}
 
 #[test]
 fn the_vault_holds_the_bundle_of_an_empty_script(rt: HostRuntime) {

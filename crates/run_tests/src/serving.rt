@@ -1,7 +1,7 @@
 //! Runs of a script between objects in memory, and what they must leave.
 //!
 //! What must be is said by a call: a comparison that stands in a test costs far more to prove, the more is alive there.
-use bundle_rows::{Case, cases_of};
+use bundle_rows::{Case, bundle_of, cases_of};
 use fastver_top::{Status, fastver};
 use fv_outside::{FreeGate, Gate, MemorySink, MemorySource, MemoryVault};
 use std::alloc::Global;
@@ -96,6 +96,13 @@ pub(crate) fn cases_in<'a>(
     let cases = cases_of(alloc, table).expect(rt, "memory");
     same(rt, "cases", 0, &cases.len(), &count);
     cases
+}
+
+/// The bytes of a bundle, of which there are so many.
+pub(crate) fn bundle_in(rt: &impl Abort, alloc: Global, rows: &str, count: usize) -> Vec<u8> {
+    let bundle = bundle_of(alloc, rows).expect(rt, "memory");
+    same(rt, "bytes", 0, &bundle.len(), &count);
+    bundle
 }
 
 /// What is there behind the program with the words of a line, over these bytes, all by pieces of so many and with calls

@@ -11,6 +11,7 @@ use Rattle.bundle_frames.specs.Bundle.{header_text}
 use Rattle.bundle_report.specs.Logs.{empty_logs}
 use Rattle.bundle_report.specs.Report.{told_by}
 use Rattle.bundle_report.specs.Answer.{check_answer}
+use Rattle.slot_rewriting.specs.Writing.{written_logs}
 use Rattle.host_core.specs.Host.{Host}
 use Rattle.host_core.specs.World.{World, logs_of, set_up}
 use Rattle.host_shard.specs.Content.{Content}
@@ -32,7 +33,7 @@ use Rattle.verifier_threads.specs.declared.accounts.Account.TheVariants as accou
 use Rattle.verifier_threads.specs.declared.loads.Load.{Load}
 use Rattle.verifier_threads.specs.declared.world_run.WorldRun.{WorldRun}
 use Rattle.verifier_threads.specs.InRounds.{Logs, logged_with, no_logs}
-use Rattle.verifier_threads.specs.Serving.{Outputs, AreOfRunSoFar, HasFrontOfLines, HasToldLines, IsCutOff, IsCutInRound, texts_of}
+use Rattle.verifier_threads.specs.Serving.{Outputs, AreOfRunSoFar, HasFrontOfLines, HasToldLines, IsCutOff, IsCutInRound}
 use Rattle.verifier_threads.specs.Running.{IsRunning, Runs}
 use Rattle.verifier_threads.proofs.RoundLemmas.{texts-more}
 use Rattle.verifier_threads.proofs.HandingLemmas.{logged_with-texts, logs-behind, texts-length}
@@ -74,7 +75,7 @@ first-round (suc count) (bytes ∷ round) each = ap (λ (rest : List (List ℕ))
 pub record BeginsWith (functions : DigestFunctions) (settings : Settings) (script : List (List Task)) (rounds : List Logs) (logs : Logs) : Type 0 where
   pub run : AreOfRunSoFar functions settings script rounds logs
   pub more : List ℕ
-  pub is_bundle : IsBundle settings.header (texts_of logs) (map texts_of rounds) (header_text settings.header ++ more)
+  pub is_bundle : IsBundle settings.header (written_logs settings.header logs) (map (written_logs settings.header) rounds) (header_text settings.header ++ more)
 
 module _ (opened : HeadersAreBundles) (follow : RoundsFollow) (functions : DigestFunctions) (settings : Settings) (script : List (List Task)) (fit : IsSettings settings)
     (first : settings.header.first < 4294967296) where
@@ -88,15 +89,15 @@ module _ (opened : HeadersAreBundles) (follow : RoundsFollow) (functions : Diges
   begins-with_none short = record {
     run = record { served = λ enough. absurd (omega (arith, enough, short)); unserved = λ _. (refl, refl) };
     more = [];
-    is_bundle = subst (λ (all : List (List ℕ)). IsBundle settings.header all [] (head ++ [])) (sym (texts-none settings.header.verifiers))
+    is_bundle = subst (λ (all : List (List ℕ)). IsBundle settings.header all [] (head ++ [])) (sym (texts-none settings.header settings.header.verifiers))
         (subst (IsBundle settings.header (empty_logs settings.header.verifiers) []) (sym (append-nil head)) (opened settings.header fit.header first));
   }
 
   begins-with_setup : settings.shards ≤ settings.header.end → BeginsWith functions settings script (logs_of (set_up own_host) ∷ []) (logs_of (set_up own_host))
   begins-with_setup enough =
       let world = set_up own_host in
-      let round = texts_of (logs_of world) in
-      let each : length round ≡ settings.header.verifiers = texts-length world.workers ∙ set_up-count settings own_host world fit refl refl in
+      let round = written_logs settings.header (logs_of world) in
+      let each : length round ≡ settings.header.verifiers = texts-length settings.header world.workers ∙ set_up-count settings own_host world fit refl refl in
       record {
         run = record {
           served = λ _. record {
@@ -182,7 +183,7 @@ module _ (receipts : Bool) (functions : DigestFunctions) (settings : Settings) (
 
   -- All lines are that the rounds up to the last close certify.
   pub running-cut_in_round : (vault : Option (List ℕ)) (phases closes : ℕ) → length past ≡ phases + closes → (phases ≡ closes) ⊎ (phases ≡ suc closes)
-      → HasToldLines receipts functions settings.header (take (2 * closes) past) outputs → GrowsByFront outputs.vault_after vault (round_text (texts_of (logs_of world)))
+      → HasToldLines receipts functions settings.header (take (2 * closes) past) outputs → GrowsByFront outputs.vault_after vault (round_text (written_logs settings.header (logs_of world)))
       → IsCutInRound (accounts.Report receipts) functions settings script (record outputs { vault_after = vault })
   running-cut_in_round vault phases closes count stage told grown = record {
     past = past;
@@ -190,7 +191,7 @@ module _ (receipts : Bool) (functions : DigestFunctions) (settings : Settings) (
     logs = logged_with running.logs (logs_of world);
     run = so_far;
     held = outputs.vault_after;
-    whole = subst (λ (logs : List (List ℕ)). HasBundle settings.header logs (map texts_of past) outputs.vault outputs.vault_after) running.keeps.vault.is_bundle.logs_are running.keeps.vault;
+    whole = subst (λ (logs : List (List ℕ)). HasBundle settings.header logs (map (written_logs settings.header) past) outputs.vault outputs.vault_after) running.keeps.vault.is_bundle.logs_are running.keeps.vault;
     front = grown;
     closes = closes;
     count = elim stage [ inl same ↦ inl (omega (arith, count, same)) | inr more ↦ inr (omega (arith, count, more)) ];
@@ -201,18 +202,18 @@ module _ (stays : StaysDue) (follow : RoundsFollow) (receipts : Bool) (functions
     (rounds : RunsSoFar) (end : Option ClockEnd) (past : List Logs) (outputs : Outputs) (running : IsRunning receipts functions settings script world rounds end past outputs) where
   -- the frames of what is not handed out yet
   abbrev pub next_frames : List ℕ
-  next_frames = round_text (texts_of (logs_of world))
+  next_frames = round_text (written_logs settings.header (logs_of world))
 
   -- the lines of what was handed out
   abbrev pub own_due : List ℕ
-  own_due = lines_due (told_by receipts functions settings.header) functions settings.header (texts_of running.logs)
+  own_due = lines_due (told_by receipts functions settings.header) functions settings.header (written_logs settings.header running.logs)
 
   -- those of what is counted were written
   due-so_far : GrowsByFront outputs.out outputs.out_after own_due
   due-so_far =
       subst (λ (all : List (List ℕ)). GrowsByFront outputs.out outputs.out_after (lines_due (told_by receipts functions settings.header) functions settings.header all))
-      (logs_with-none (texts_of running.logs))
-      (counted-front (told_by receipts functions settings.header) functions settings.header (texts_of running.logs) rounds running.keeps.runs [] outputs.out outputs.out_after
+      (logs_with-none (written_logs settings.header running.logs))
+      (counted-front (told_by receipts functions settings.header) functions settings.header (written_logs settings.header running.logs) rounds running.keeps.runs [] outputs.out outputs.out_after
       running.written)
 
   -- The vault has the bundle of what was handed out and a front of the next frames, and a front of the lines of it is written.
@@ -220,19 +221,19 @@ module _ (stays : StaysDue) (follow : RoundsFollow) (receipts : Bool) (functions
       → IsCutOff (accounts.Report receipts) functions settings script (record outputs { vault_after = vault; out_after = out })
   running-cut_lines vault out grown written =
       let has = running.keeps.vault in
-      let logs = texts_of running.logs in
-      let round = texts_of (logs_of world) in
+      let logs = written_logs settings.header running.logs in
+      let round = written_logs settings.header (logs_of world) in
       let count = running-workers receipts functions settings script world rounds end past outputs running in
-      let due = stays receipts functions settings.header logs (map texts_of past) has.bytes grown.front has.is_bundle in
+      let due = stays receipts functions settings.header logs (map (written_logs settings.header) past) has.bytes grown.front has.is_bundle in
       record {
         rounds = past ++ (logs_of world ∷ []);
         logs = logged_with running.logs (logs_of world);
         run = so_far receipts functions settings script world rounds end past outputs running;
         vault = record {
           bytes = has.bytes ++ next_frames;
-          is_bundle = subst (λ (rs : List (List (List ℕ))). IsBundle settings.header (texts_of (logged_with running.logs (logs_of world))) rs (has.bytes ++ next_frames)) (sym (texts-more past (logs_of world)))
-              (subst (λ (all : List (List ℕ)). IsBundle settings.header all (map texts_of past ++ (round ∷ [])) (has.bytes ++ next_frames)) (sym (logged_with-texts running.logs (logs_of world)))
-              (follow settings.header logs round (map texts_of past) has.bytes has.is_bundle (texts-length world.workers ∙ count)));
+          is_bundle = subst (λ (rs : List (List (List ℕ))). IsBundle settings.header (written_logs settings.header (logged_with running.logs (logs_of world))) rs (has.bytes ++ next_frames)) (sym (texts-more settings.header past (logs_of world)))
+              (subst (λ (all : List (List ℕ)). IsBundle settings.header all (map (written_logs settings.header) past ++ (round ∷ [])) (has.bytes ++ next_frames)) (sym (logged_with-texts settings.header running.logs (logs_of world) running.rests))
+              (follow settings.header logs round (map (written_logs settings.header) past) has.bytes has.is_bundle (texts-length settings.header world.workers ∙ count)));
           grown = record {
             front = has.bytes ++ grown.front;
             rest = grown.rest;
@@ -262,11 +263,11 @@ module _ (receipts : Bool) {D : Type 0} (functions : D → DigestFunctions) (run
     runs-cut vault out vault_is out_is =
         subst (λ (o : Option (List ℕ)). IsCutOff (accounts.Report receipts) (functions (digests_of runner.world)) runner.world.settings (requests_of runner.world) (record outputs { vault_after = vault; out_after = o })) out_is
         (running-cut stays follow _ _ _ _ own_world runner.rounds runner.end past outputs runs.running vault
-        (subst (λ (v : Option (List ℕ)). GrowsByFront outputs.vault_after v (round_text (texts_of (logs_of own_world)))) vault_is
-        (GrowsByFront-none outputs.vault_after (round_text (texts_of (logs_of own_world))))))
+        (subst (λ (v : Option (List ℕ)). GrowsByFront outputs.vault_after v (round_text (written_logs runner.world.settings.header (logs_of own_world)))) vault_is
+        (GrowsByFront-none outputs.vault_after (round_text (written_logs runner.world.settings.header (logs_of own_world))))))
 
     -- or while the vault takes what its workers logged
-    pub runs-cut_round : (vault vault' : Option (List ℕ)) (round : List (List ℕ)) → outputs.vault_after ≡ vault → round ≡ texts_of (logs_of own_world)
+    pub runs-cut_round : (vault vault' : Option (List ℕ)) (round : List (List ℕ)) → outputs.vault_after ≡ vault → round ≡ written_logs runner.world.settings.header (logs_of own_world)
         → GrowsByFront vault vault' (round_text round)
         → IsCutOff (accounts.Report receipts) (functions (digests_of runner.world)) runner.world.settings (requests_of runner.world) (record outputs { vault_after = vault' })
     runs-cut_round vault vault' round vault_is round_is grown =
@@ -276,11 +277,11 @@ module _ (receipts : Bool) {D : Type 0} (functions : D → DigestFunctions) (run
 
     -- or while the sink takes the lines of it
     pub runs-cut_lines : (out : Option (List ℕ))
-        → GrowsByFront outputs.out out (lines_due (told_by receipts (functions (digests_of runner.world)) runner.world.settings.header) (functions (digests_of runner.world)) runner.world.settings.header (texts_of runs.running.logs))
+        → GrowsByFront outputs.out out (lines_due (told_by receipts (functions (digests_of runner.world)) runner.world.settings.header) (functions (digests_of runner.world)) runner.world.settings.header (written_logs runner.world.settings.header runs.running.logs))
         → IsCutOff (accounts.Report receipts) (functions (digests_of runner.world)) runner.world.settings (requests_of runner.world) (record outputs { out_after = out })
     runs-cut_lines out written =
         running-cut_lines stays follow _ _ _ _ own_world runner.rounds runner.end past outputs runs.running outputs.vault_after out
-        (GrowsByFront-none outputs.vault_after (round_text (texts_of (logs_of own_world)))) written
+        (GrowsByFront-none outputs.vault_after (round_text (written_logs runner.world.settings.header (logs_of own_world)))) written
 
   module _ (phases closes : ℕ) (count : length past ≡ phases + closes) (stage : (phases ≡ closes) ⊎ (phases ≡ suc closes))
       (told : HasToldLines receipts (functions (digests_of runner.world)) runner.world.settings.header (take (2 * closes) past) outputs) where
@@ -289,11 +290,11 @@ module _ (receipts : Bool) {D : Type 0} (functions : D → DigestFunctions) (run
         → IsCutInRound (accounts.Report receipts) (functions (digests_of runner.world)) runner.world.settings (requests_of runner.world) (record outputs { vault_after = vault })
     runs-cut_before vault vault_is =
         running-cut_in_round _ _ _ _ own_world runner.rounds runner.end past outputs runs.running vault phases closes count stage told
-        (subst (λ (v : Option (List ℕ)). GrowsByFront outputs.vault_after v (round_text (texts_of (logs_of own_world)))) vault_is
-        (GrowsByFront-none outputs.vault_after (round_text (texts_of (logs_of own_world)))))
+        (subst (λ (v : Option (List ℕ)). GrowsByFront outputs.vault_after v (round_text (written_logs runner.world.settings.header (logs_of own_world)))) vault_is
+        (GrowsByFront-none outputs.vault_after (round_text (written_logs runner.world.settings.header (logs_of own_world)))))
 
     -- or with a front of it
-    pub runs-cut_in_round : (vault vault' : Option (List ℕ)) (round : List (List ℕ)) → outputs.vault_after ≡ vault → round ≡ texts_of (logs_of own_world)
+    pub runs-cut_in_round : (vault vault' : Option (List ℕ)) (round : List (List ℕ)) → outputs.vault_after ≡ vault → round ≡ written_logs runner.world.settings.header (logs_of own_world)
         → GrowsByFront vault vault' (round_text round)
         → IsCutInRound (accounts.Report receipts) (functions (digests_of runner.world)) runner.world.settings (requests_of runner.world) (record outputs { vault_after = vault' })
     runs-cut_in_round vault vault' round vault_is round_is grown =

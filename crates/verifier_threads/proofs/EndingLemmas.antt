@@ -8,6 +8,7 @@ use Rattle.record_hash.specs.Functions.{DigestFunctions}
 use Rattle.record_text.specs.declared.request.Request.{Request}
 use Rattle.lamport_clocks.specs.declared.header.Header.{Header}
 use Rattle.log_codec.specs.declared.command.Command.{Command}
+use Rattle.slot_rewriting.specs.Writing.{logs_written_from, written_logs, ComeToRestFrom}
 use Rattle.merkle_records.specs.Merkle.{GivesDigests}
 use Rattle.report_text.specs.declared.ending.BundleEnd.{BundleEnd}
 use Rattle.report_text.specs.declared.ending.BundleEnd.TheVariants.{Done}
@@ -44,7 +45,7 @@ use Rattle.verifier_threads.specs.declared.accounts.Account.TheVariants as accou
 use Rattle.verifier_threads.specs.declared.ending.RunEnd.{RunEnd}
 use Rattle.verifier_threads.specs.declared.world_run.WorldRun.{WorldRun}
 use Rattle.verifier_threads.specs.InRounds.{Logs}
-use Rattle.verifier_threads.specs.Serving.{Outputs, AreOfRun, IsServed, IsCutAtEnd, end_by, status_at, texts_of}
+use Rattle.verifier_threads.specs.Serving.{Outputs, AreOfRun, IsServed, IsCutAtEnd, end_by, status_at}
 use Rattle.verifier_threads.specs.declared.loads.Load.{Load}
 use Rattle.verifier_threads.specs.Running.{IsRunning, Runs, RunsWhole, RunsToEnd, IsAtPhase, IsAtEnd}
 use Rattle.verifier_threads.proofs.RunningLemmas.{running-workers}
@@ -53,9 +54,17 @@ use Rattle.verifier_threads.proofs.StandingLemmas.{all_with, rests_with, lowest_
 
 -- ---- the setup
 
-pub texts-none : (count : ℕ) → texts_of (replicate count []) ≡ empty_logs count
-texts-none zero = refl
-texts-none (suc count) = ap (λ (rest : List (List ℕ)). [] ∷ rest) (texts-none count)
+none-written : (header : Header) (count number : ℕ) → logs_written_from header number (replicate count []) ≡ empty_logs count
+none-written header zero number = refl
+none-written header (suc count) number = ap (λ (rest : List (List ℕ)). [] ∷ rest) (none-written header count (suc number))
+
+pub texts-none : (header : Header) (count : ℕ) → written_logs header (replicate count []) ≡ empty_logs count
+texts-none header count = none-written header count 0
+
+-- logs of no commands come to rest
+none-rest : (header : Header) (count number : ℕ) → ComeToRestFrom header number (replicate count [])
+none-rest header zero number = tt
+none-rest header (suc count) number = (refl, none-rest header count (suc number))
 
 get-replicate : {A : Type 0} (count i : ℕ) (x : A) → get_or (replicate count x) i x ≡ x
 get-replicate zero i x = refl
@@ -98,7 +107,7 @@ pub running-new : (receipts : Bool) (functions : DigestFunctions) (settings : Se
 running-new receipts functions settings script world rounds vault vault_after out from keeps none' =
     let host = shipped_host functions settings script in
     let logs = replicate settings.header.verifiers [] in
-    let texts = texts-none settings.header.verifiers in
+    let texts = texts-none settings.header settings.header.verifiers in
     let same : with_logs logs world ≡ set_up host =
     ap (λ (workers : List Worker). record world { workers = workers }) (before_each-none settings.header.verifiers world.workers) ∙ from.is in
     record {
@@ -108,10 +117,11 @@ running-new receipts functions settings script world rounds vault vault_after ou
       logs = logs;
       joined = refl;
       each = length-replicate settings.header.verifiers [] ∙ sym from.count;
+      rests = none-rest settings.header settings.header.verifiers 0;
       way = subst (λ (w : World Content). LeadsAs AreInRounds host (set_up host) w None) (sym same) (run-none host (set_up host));
       passed = (None, subst (λ (w : World Content). Leads host (set_up host) w None) (sym same) (leads-none host (set_up host)));
       keeps = subst (λ (all : List (List ℕ)). Keeps functions settings.header all [] rounds vault vault_after) (sym texts) keeps;
-      written = subst (Grows out out) (sym (counted-none (told_by receipts functions settings.header) functions settings.header (texts_of logs) rounds none')) (Grows-nil out);
+      written = subst (Grows out out) (sym (counted-none (told_by receipts functions settings.header) functions settings.header (written_logs settings.header logs) rounds none')) (Grows-nil out);
     }
 
 -- ---- the script's turns
@@ -139,7 +149,7 @@ ChecksAsDone = (functions : DigestFunctions) (settings : Settings) (script : Lis
     → let host = shipped_host functions settings script in
     AreEnabled host (set_up host) events
     → ((i : ℕ) → i < length (run_events host (set_up host) events).workers → HasAdvanced host (run_events host (set_up host) events) i 2)
-    → end_due host.functions host.header (texts_of (logs_of (run_events host (set_up host) events)))
+    → end_due host.functions host.header (written_logs host.header (logs_of (run_events host (set_up host) events)))
     ≡ Done (suc (run_events host (set_up host) events).phase)
 
 module _ (receipts : Bool) (functions : DigestFunctions) (settings : Settings) (script : List (List Task)) (world : World Content) (rounds : RunsSoFar)
@@ -171,29 +181,29 @@ module _ (receipts : Bool) (functions : DigestFunctions) (settings : Settings) (
 
   -- all epochs are certified where no clock ended
   pub ended-due : ChecksAsDone → GivesDigests functions.digest → end ≡ None
-      → end_due functions settings.header (texts_of running.logs) ≡ Done (length script)
+      → end_due functions settings.header (written_logs settings.header running.logs) ≡ Done (length script)
   ended-due checks digests none' =
       let way = running.way in
       let can : CanRun functions settings script = record { in_range = running.settings_fit; counters = running.counters; keys = running.keys; digests = digests } in
       let whole = all_with own_host running.logs world (at.whole none') in
-      ap (λ (logs : List (List Command)). end_due functions settings.header (texts_of logs)) (logs-are ∙ ap logs_of way.is)
+      ap (λ (logs : List (List Command)). end_due functions settings.header (written_logs settings.header logs)) (logs-are ∙ ap logs_of way.is)
       ∙ checks functions settings script way.events can running.keeps.vault.is_bundle.first way.enabled
       (subst (λ (w : World Content). (i : ℕ) → i < length w.workers → HasAdvanced own_host w i 2) way.is whole.closed.advanced)
       ∙ ap (λ (n : ℕ). Done n) (ap (λ (w : World Content). suc w.phase) (sym way.is) ∙ at.last none' ∙ length-map script (map turn_of))
 
   -- so the last line says
   pub ended-line : ChecksAsDone → GivesDigests functions.digest → end ≡ None
-      → last_line (status_of (end_due functions settings.header (texts_of running.logs))) ≡ last_line (status_at (end_by (length script) end))
+      → last_line (status_of (end_due functions settings.header (written_logs settings.header running.logs))) ≡ last_line (status_at (end_by (length script) end))
   ended-line checks digests none' =
       ap (λ (e : BundleEnd). last_line (status_of e)) (ended-due checks digests none')
       ∙ ap (λ (e : Option ClockEnd). last_line (status_at (end_by (length script) e))) (sym none')
 
-  module _ (all : AllCounted functions settings.header (texts_of running.logs) rounds) (count : end ≡ None → length past ≡ 2 * length script) where
+  module _ (all : AllCounted functions settings.header (written_logs settings.header running.logs) rounds) (count : end ≡ None → length past ≡ 2 * length script) where
     -- all that is due is written
-    due-written : Grows outputs.out outputs.out_after (lines_due (told_by receipts functions settings.header) functions settings.header (texts_of running.logs))
+    due-written : Grows outputs.out outputs.out_after (lines_due (told_by receipts functions settings.header) functions settings.header (written_logs settings.header running.logs))
     due-written =
         subst (Grows outputs.out outputs.out_after)
-        (lines-due (told_by receipts functions settings.header) (scheme_of functions settings.header) settings.header (texts_of running.logs) rounds.judged (map (λ fed. fed.run) rounds.runs) running.keeps.runs.taken all)
+        (lines-due (told_by receipts functions settings.header) (scheme_of functions settings.header) settings.header (written_logs settings.header running.logs) rounds.judged (map (λ fed. fed.run) rounds.runs) running.keeps.runs.taken all)
         running.written
 
     -- the last line is written
@@ -207,7 +217,7 @@ module _ (receipts : Bool) (functions : DigestFunctions) (settings : Settings) (
       run = ended-run count;
       is = is;
       vault = running.keeps.vault;
-      out = Grows-then outputs.out outputs.out_after out' (lines_due (told_by receipts functions settings.header) functions settings.header (texts_of running.logs)) (last_line (status_at result)) due-written written;
+      out = Grows-then outputs.out outputs.out_after out' (lines_due (told_by receipts functions settings.header) functions settings.header (written_logs settings.header running.logs)) (last_line (status_at result)) due-written written;
     }
 
     -- or a front of it
@@ -219,7 +229,7 @@ module _ (receipts : Bool) (functions : DigestFunctions) (settings : Settings) (
       rounds = past;
       run = ended-run count;
       vault = running.keeps.vault;
-      out = GrowsByFront-then outputs.out outputs.out_after out' (lines_due (told_by receipts functions settings.header) functions settings.header (texts_of running.logs)) (last_line (status_at (end_by (length script) end))) due-written written;
+      out = GrowsByFront-then outputs.out outputs.out_after out' (lines_due (told_by receipts functions settings.header) functions settings.header (written_logs settings.header running.logs)) (last_line (status_at (end_by (length script) end))) due-written written;
     }
 
     -- the summary is written
@@ -234,7 +244,7 @@ module _ (receipts : Bool) (functions : DigestFunctions) (settings : Settings) (
       is = is;
       vault = running.keeps.vault;
       out = subst (Grows out out')
-          (summary-is functions settings.header (texts_of running.logs) rounds load.seed load.ops (status_at result) running.keeps.runs all) written;
+          (summary-is functions settings.header (written_logs settings.header running.logs) rounds load.seed load.ops (status_at result) running.keeps.runs all) written;
     }
 
     -- or a front of it
@@ -248,8 +258,8 @@ module _ (receipts : Bool) (functions : DigestFunctions) (settings : Settings) (
       run = ended-run count;
       vault = running.keeps.vault;
       out = subst (GrowsByFront out out')
-          (summary-is functions settings.header (texts_of running.logs) rounds load.seed load.ops (status_at result) running.keeps.runs all
-          ∙ ap (λ (e : RunEnd). summary_due functions settings.header (texts_of running.logs) load.seed load.ops (status_at e)) is)
+          (summary-is functions settings.header (written_logs settings.header running.logs) rounds load.seed load.ops (status_at result) running.keeps.runs all
+          ∙ ap (λ (e : RunEnd). summary_due functions settings.header (written_logs settings.header running.logs) load.seed load.ops (status_at e)) is)
           written;
     }
 

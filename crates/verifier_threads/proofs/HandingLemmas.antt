@@ -2,14 +2,13 @@
 use Rattle.std.proofs.Common.{◌≡◌, ℕ, zero, suc, ◌<◌, List, [], ◌∷◌, ◌++◌, length, map, get_or, set, refl, sym, ◌∙◌, ap, subst, arith}
 use Rattle.std.specs.List.{AllByRecursion}
 use Rattle.std.proofs.lemmas.List.{append-nil, length-map}
-use Rattle.std.proofs.lemmas.List.Concat.{flat_map-append}
+use Rattle.lamport_clocks.specs.declared.header.Header.{Header}
 use Rattle.log_codec.specs.declared.command.Command.{Command}
-use Rattle.log_codec.specs.Command.{path_command_text}
-use Rattle.log_codec.specs.Log.{path_log_text}
+use Rattle.slot_rewriting.specs.Writing.{opening_writer, text_from, written_log, logs_written_from, written_logs, ComeToRestFrom}
+use Rattle.slot_rewriting.proofs.WritingLaws.{written_log-append, written_at, written-length}
 use Rattle.host_core.specs.World.{Worker, World, logs_of}
 use Rattle.host_world.specs.Behind.{logged_before, before_each, with_logs}
 use Rattle.host_rounds.specs.Round.{logs_with}
-use Rattle.verifier_threads.specs.Serving.{texts_of}
 use Rattle.verifier_threads.specs.InRounds.{logged_with}
 use Rattle.verifier_threads.specs.Running.{with_no_log, all_handed_out}
 
@@ -102,16 +101,21 @@ buffers-next n next texts buffers now cleared new text d is each there empty too
 
 -- ---- the text of a worker's log
 
--- the text of the log of a worker of the list
-pub text-at : (workers : List Worker) (n : ℕ) (d : Worker) → n < length workers
-    → get_or (map (λ log. path_log_text log) (map (λ worker. worker.log) workers)) n [] ≡ path_log_text (get_or workers n d).log
-text-at [] n d there = absurd (omega (arith, there))
-text-at (worker ∷ workers) zero d there = refl
-text-at (worker ∷ workers) (suc n) d there = text-at workers n d (omega (arith, there))
+log-at : (workers : List Worker) (n : ℕ) (d : Worker) → n < length workers → get_or (map (λ worker. worker.log) workers) n [] ≡ (get_or workers n d).log
+log-at [] n d there = absurd (omega (arith, there))
+log-at (worker ∷ workers) zero d there = refl
+log-at (worker ∷ workers) (suc n) d there = log-at workers n d (omega (arith, there))
 
-pub texts-length : (workers : List Worker) → length (map path_log_text (map (λ worker. worker.log) workers)) ≡ length workers
-texts-length [] = refl
-texts-length (worker ∷ workers) = ap suc (texts-length workers)
+-- the text of the log of a worker of the list
+pub text-at : (header : Header) (workers : List Worker) (n : ℕ) (d : Worker) → n < length workers
+    → get_or (written_logs header (map (λ worker. worker.log) workers)) n [] ≡ text_from (opening_writer n header) (get_or workers n d).log
+text-at header workers n d there =
+    let many = length-map workers (λ worker. worker.log) in
+    written_at header 0 n (map (λ worker. worker.log) workers) (omega (arith, there, many))
+    ∙ ap (λ (log : List Command). written_log header n log) (log-at workers n d there)
+
+pub texts-length : (header : Header) (workers : List Worker) → length (written_logs header (map (λ worker. worker.log) workers)) ≡ length workers
+texts-length header workers = written-length header 0 (map (λ worker. worker.log) workers) ∙ length-map workers (λ worker. worker.log)
 
 -- ---- all logs are handed out
 
@@ -120,13 +124,18 @@ logged_with-length [] round = refl
 logged_with-length (log ∷ logs) [] = refl
 logged_with-length (log ∷ logs) (next ∷ round) = ap suc (logged_with-length logs round)
 
--- their texts
-pub logged_with-texts : (logs round : List (List Command)) → texts_of (logged_with logs round) ≡ logs_with (texts_of logs) (texts_of round)
-logged_with-texts [] round = refl
-logged_with-texts (log ∷ logs) [] = refl
-logged_with-texts (log ∷ logs) (next ∷ round) =
-    ap (λ (text : List ℕ). text ∷ texts_of (logged_with logs round)) (flat_map-append path_command_text log next)
-    ∙ ap (λ (rest : List (List ℕ)). (path_log_text log ++ path_log_text next) ∷ rest) (logged_with-texts logs round)
+-- their texts, where what was logged before comes to rest
+written-behind : (header : Header) (number : ℕ) (logs round : List (List Command)) → ComeToRestFrom header number logs
+    → logs_written_from header number (logged_with logs round) ≡ logs_with (logs_written_from header number logs) (logs_written_from header number round)
+written-behind header number [] round rests = refl
+written-behind header number (log ∷ logs) [] rests = refl
+written-behind header number (log ∷ logs) (next ∷ round) rests =
+    ap (λ (text : List ℕ). text ∷ logs_written_from header (suc number) (logged_with logs round)) (written_log-append header number log next rests.0)
+    ∙ ap (λ (rest : List (List ℕ)). (written_log header number log ++ written_log header number next) ∷ rest) (written-behind header (suc number) logs round rests.1)
+
+pub logged_with-texts : (header : Header) (logs round : List (List Command)) → ComeToRestFrom header 0 logs
+    → written_logs header (logged_with logs round) ≡ logs_with (written_logs header logs) (written_logs header round)
+logged_with-texts header logs round rests = written-behind header 0 logs round rests
 
 before-handed : (logs : List (List Command)) (workers : List Worker) → length logs ≡ length workers
     → before_each (logged_with logs (map (λ worker. worker.log) workers)) (map with_no_log workers) ≡ before_each logs workers

@@ -3,6 +3,7 @@ use Rattle.std.proofs.Common.{◌≡◌, Bool, ℕ, zero, suc, ◌<◌, List, []
 use Rattle.fv_outside.specs.Written.{Grows, GrowsByFront}
 use Rattle.record_hash.specs.Functions.{DigestFunctions}
 use Rattle.lamport_clocks.specs.declared.header.Header.{Header}
+use Rattle.slot_rewriting.specs.Writing.{written_logs}
 use Rattle.report_text.specs.Status.{last_line}
 use Rattle.bundle_report.specs.Logs.{empty_logs}
 use Rattle.bundle_report.specs.Report.{EpochText, told_by}
@@ -14,13 +15,13 @@ use Rattle.host_rounds.specs.SoFar.{lines_due}
 use Rattle.verifier_threads.specs.declared.accounts.Account.TheVariants as accounts
 use Rattle.verifier_threads.specs.declared.ending.RunEnd.{RunEnd}
 use Rattle.verifier_threads.specs.InRounds.{Logs, no_logs}
-use Rattle.verifier_threads.specs.Serving.{IsServed, IsCutAtEnd, AreOfRun, end_by, status_at, setup_end, texts_of, report_of}
+use Rattle.verifier_threads.specs.Serving.{IsServed, IsCutAtEnd, AreOfRun, end_by, status_at, setup_end, report_of}
 
 abbrev pub NothingIsDue : Type 0
 NothingIsDue = (tell : EpochText) (functions : DigestFunctions) (header : Header) → lines_due tell functions header (replicate header.verifiers []) ≡ []
 
 abbrev pub NoTexts : Type 0
-NoTexts = (count : ℕ) → texts_of (replicate count []) ≡ replicate count []
+NoTexts = (header : Header) (count : ℕ) → written_logs header (replicate count []) ≡ replicate count []
 
 pub empty-are : (count : ℕ) → empty_logs count ≡ replicate count []
 empty-are zero = refl
@@ -31,19 +32,19 @@ module _ (none_due : NothingIsDue) (no_texts : NoTexts) (receipts : Bool) (funct
   abbrev none_logged : Logs
   none_logged = no_logs settings.header.verifiers
 
-  texts_are : empty_logs settings.header.verifiers ≡ texts_of none_logged
-  texts_are = empty-are settings.header.verifiers ∙ sym (no_texts settings.header.verifiers)
+  texts_are : empty_logs settings.header.verifiers ≡ written_logs settings.header none_logged
+  texts_are = empty-are settings.header.verifiers ∙ sym (no_texts settings.header settings.header.verifiers)
 
   of_run : AreOfRun functions settings script [] none_logged (Some (setup_end settings))
   of_run = record { served = λ enough. absurd (omega (arith, enough, short)); unserved = λ _. (refl, refl, refl) }
 
   has_header : (vault vault_after : Option (List ℕ)) → HasBundle settings.header (empty_logs settings.header.verifiers) [] vault vault_after
-      → HasBundle settings.header (texts_of none_logged) [] vault vault_after
+      → HasBundle settings.header (written_logs settings.header none_logged) [] vault vault_after
   has_header vault vault_after has = subst (λ (all : List (List ℕ)). HasBundle settings.header all [] vault vault_after) texts_are has
 
   report_is : (end : RunEnd) → report_of receipts functions settings.header none_logged end ≡ last_line (status_at end)
   report_is end =
-      ap (λ (all : List (List ℕ)). lines_due (told_by receipts functions settings.header) functions settings.header all ++ last_line (status_at end)) (no_texts settings.header.verifiers)
+      ap (λ (all : List (List ℕ)). lines_due (told_by receipts functions settings.header) functions settings.header all ++ last_line (status_at end)) (no_texts settings.header settings.header.verifiers)
       ∙ ap (λ (text : List ℕ). text ++ last_line (status_at end)) (none_due (told_by receipts functions settings.header) functions settings.header)
 
   -- its last line is written

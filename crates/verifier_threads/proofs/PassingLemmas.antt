@@ -22,11 +22,12 @@ use Rattle.host_serving.proofs.FormLaws.{GoesOn}
 use Rattle.certified_epochs.specs.declared.fed_run.FedRun.{FedRun}
 use Rattle.fv_outside.specs.declared.failure.Failure.{Failure}
 use Rattle.host_rounds.specs.Feeding.{AllRead}
+use Rattle.slot_rewriting.specs.Writing.{written_logs, ComeToRestFrom}
 use Rattle.host_rounds.specs.Round.{logs_with}
 use Rattle.host_rounds.specs.SoFar.{RunsSoFar, Keeps, HaveRun, AllCounted, lines_counted, lines_due, with_runs}
 use Rattle.verifier_threads.specs.declared.world_run.WorldRun.{WorldRun}
-use Rattle.verifier_threads.specs.InRounds.{Logs, IsBehindRounds}
-use Rattle.verifier_threads.specs.Serving.{Outputs, HasToldLines, texts_of}
+use Rattle.verifier_threads.specs.InRounds.{Logs, logged_with, IsBehindRounds}
+use Rattle.verifier_threads.specs.Serving.{Outputs, HasToldLines}
 use Rattle.verifier_threads.specs.Running.{IsRunning, Runs, RunsBehind, RunsWhole, all_handed_out, with_runs_of}
 use Rattle.host_world.specs.ShippedHost.{shipped_host}
 use Rattle.verifier_threads.proofs.RoundLemmas.{take-all, take-more, length-one_more}
@@ -83,15 +84,16 @@ module _ (receipts : Bool) (functions : DigestFunctions) (settings : Settings) (
     (end : Option ClockEnd) (past : List Logs) (outputs : Outputs) (running : IsRunning receipts functions settings script world rounds end past outputs) where
   -- the vault and the runs take it
   pub running-taken : (later : World Content) (round : List (List ℕ)) (rounds' : RunsSoFar) (vault' : Option (List ℕ))
-      → IsBehindRounds (shipped_host functions settings script) (suc (length past)) world → later ≡ all_handed_out world → round ≡ texts_of (logs_of world)
-      → Keeps functions settings.header (logs_with (texts_of running.logs) round) (map texts_of past ++ (round ∷ [])) rounds' outputs.vault vault'
-      → lines_counted (told_by receipts functions settings.header) functions settings.header (logs_with (texts_of running.logs) round) rounds' ≡ lines_counted (told_by receipts functions settings.header) functions settings.header (texts_of running.logs) rounds
+      → IsBehindRounds (shipped_host functions settings script) (suc (length past)) world → ComeToRestFrom settings.header 0 (logged_with running.logs (logs_of world))
+      → later ≡ all_handed_out world → round ≡ written_logs settings.header (logs_of world)
+      → Keeps functions settings.header (logs_with (written_logs settings.header running.logs) round) (map (written_logs settings.header) past ++ (round ∷ [])) rounds' outputs.vault vault'
+      → lines_counted (told_by receipts functions settings.header) functions settings.header (logs_with (written_logs settings.header running.logs) round) rounds' ≡ lines_counted (told_by receipts functions settings.header) functions settings.header (written_logs settings.header running.logs) rounds
       → IsRunning receipts functions settings script later rounds' end (past ++ (logs_of world ∷ [])) (record outputs { vault_after = vault' })
-  running-taken later round rounds' vault' stands world_is round_is keeps lines =
+  running-taken later round rounds' vault' stands rests world_is round_is keeps lines =
       subst (λ (w : World Content). IsRunning receipts functions settings script w rounds' end (past ++ (logs_of world ∷ [])) (record outputs { vault_after = vault' })) (sym world_is)
-      (running-handed receipts functions settings script world rounds end past outputs running rounds' (record outputs { vault_after = vault' }) stands
-      (subst (λ (all : List (List ℕ)). Keeps functions settings.header (logs_with (texts_of running.logs) all) (map texts_of past ++ (all ∷ [])) rounds' outputs.vault vault') round_is keeps)
-      (subst (λ (all : List (List ℕ)). Grows outputs.out outputs.out_after (lines_counted (told_by receipts functions settings.header) functions settings.header (logs_with (texts_of running.logs) all) rounds')) round_is
+      (running-handed receipts functions settings script world rounds end past outputs running rounds' (record outputs { vault_after = vault' }) stands rests
+      (subst (λ (all : List (List ℕ)). Keeps functions settings.header (logs_with (written_logs settings.header running.logs) all) (map (written_logs settings.header) past ++ (all ∷ [])) rounds' outputs.vault vault') round_is keeps)
+      (subst (λ (all : List (List ℕ)). Grows outputs.out outputs.out_after (lines_counted (told_by receipts functions settings.header) functions settings.header (logs_with (written_logs settings.header running.logs) all) rounds')) round_is
       (subst (Grows outputs.out outputs.out_after) (sym lines) running.written)))
 
 -- ---- runs that are lent
@@ -104,11 +106,12 @@ rounds-back old lent back runs before one two three =
 
 -- what the runs took is what the workers of the later world logged
 pub took-round : {D : Type 0} (functions : D → DigestFunctions) (old middle : code.World D) (lent back : RunsSoFar) (before after : List FedRun) → AreOfOneHost old middle
-    → back ≡ with_runs after lent → AllRead (functions (digests_of old)) (texts_of (logs_of (shown_world middle))) before after
-    → AllRead (functions (digests_of middle)) (texts_of (logs_of (shown_world middle))) before back.runs
+    → back ≡ with_runs after lent → AllRead (functions (digests_of old)) (written_logs old.settings.header (logs_of (shown_world middle))) before after
+    → AllRead (functions (digests_of middle)) (written_logs middle.settings.header (logs_of (shown_world middle))) before back.runs
 took-round {D} functions old middle lent back before after same is takes =
-    subst (λ (d : D). AllRead (functions d) (texts_of (logs_of (shown_world middle))) before back.runs) (sym same.digests)
-    (subst (λ (r : RunsSoFar). AllRead (functions (digests_of old)) (texts_of (logs_of (shown_world middle))) before r.runs) (sym is) takes)
+    subst (λ (d : D). AllRead (functions d) (written_logs middle.settings.header (logs_of (shown_world middle))) before back.runs) (sym same.digests)
+    (subst (λ (s : Settings). AllRead (functions (digests_of old)) (written_logs s.header (logs_of (shown_world middle))) before back.runs) (sym same.settings)
+    (subst (λ (r : RunsSoFar). AllRead (functions (digests_of old)) (written_logs old.settings.header (logs_of (shown_world middle))) before r.runs) (sym is) takes))
 
 -- ---- runners
 
@@ -160,11 +163,11 @@ module _ (receipts : Bool) {D : Type 0} (functions : D → DigestFunctions) (old
 
   -- what its logs certify is counted and written
   pub runs-certified : (rounds' : RunsSoFar) (out : Option (List ℕ)) (closes : ℕ) → length past ≡ closes + closes
-      → HaveRun (functions (digests_of old.world)) old.world.settings.header (texts_of runs.running.logs) rounds'
-      → AllCounted (functions (digests_of old.world)) old.world.settings.header (texts_of runs.running.logs) rounds'
-      → lines_counted (told_by receipts (functions (digests_of old.world)) old.world.settings.header) (functions (digests_of old.world)) old.world.settings.header (texts_of runs.running.logs) rounds'
-      ≡ lines_due (told_by receipts (functions (digests_of old.world)) old.world.settings.header) (functions (digests_of old.world)) old.world.settings.header (texts_of runs.running.logs)
-      → Grows outputs.out out (lines_due (told_by receipts (functions (digests_of old.world)) old.world.settings.header) (functions (digests_of old.world)) old.world.settings.header (texts_of runs.running.logs))
+      → HaveRun (functions (digests_of old.world)) old.world.settings.header (written_logs old.world.settings.header runs.running.logs) rounds'
+      → AllCounted (functions (digests_of old.world)) old.world.settings.header (written_logs old.world.settings.header runs.running.logs) rounds'
+      → lines_counted (told_by receipts (functions (digests_of old.world)) old.world.settings.header) (functions (digests_of old.world)) old.world.settings.header (written_logs old.world.settings.header runs.running.logs) rounds'
+      ≡ lines_due (told_by receipts (functions (digests_of old.world)) old.world.settings.header) (functions (digests_of old.world)) old.world.settings.header (written_logs old.world.settings.header runs.running.logs)
+      → Grows outputs.out out (lines_due (told_by receipts (functions (digests_of old.world)) old.world.settings.header) (functions (digests_of old.world)) old.world.settings.header (written_logs old.world.settings.header runs.running.logs))
       → RunsWhole receipts functions (record old { rounds = rounds' }) closes (record outputs { out_after = out })
   runs-certified rounds' out closes count have all counted written = record {
     past = past;
@@ -176,6 +179,7 @@ module _ (receipts : Bool) {D : Type 0} (functions : D → DigestFunctions) (old
         logs = runs.running.logs;
         joined = runs.running.joined;
         each = runs.running.each;
+        rests = runs.running.rests;
         way = runs.running.way;
         passed = runs.running.passed;
         keeps = record { vault = runs.running.keeps.vault; runs = have };

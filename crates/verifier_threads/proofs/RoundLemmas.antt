@@ -1,5 +1,7 @@
 -- A run goes on through rounds.
 use Rattle.std.proofs.Common.{◌≡◌, ◌⊎◌, inl, inr, ℕ, zero, suc, ◌+◌, ◌*◌, ◌≤◌, List, [], ◌∷◌, ◌++◌, length, map, take, refl, ap, subst, arith}
+use Rattle.lamport_clocks.specs.declared.header.Header.{Header}
+use Rattle.slot_rewriting.specs.Writing.{written_logs}
 use Rattle.host_core.specs.Host.{Host}
 use Rattle.host_core.specs.World.{World, logs_of}
 use Rattle.host_world.specs.Behind.{with_logs}
@@ -8,7 +10,6 @@ use Rattle.host_serving.specs.Standing.{IsServedUpTo, IsServedOut}
 use Rattle.host_serving.proofs.LeadingLaws.{leads-none, leads-then}
 use Rattle.std.proofs.Common.{None}
 use Rattle.verifier_threads.specs.InRounds.{Logs, logged_with, logged_behind, IsBehindRounds, LeadThrough}
-use Rattle.verifier_threads.specs.Serving.{texts_of}
 use Rattle.verifier_threads.proofs.StandingLemmas.{rests_with, out_with, up_to_with}
 
 -- ---- lists
@@ -28,9 +29,10 @@ pub length-one_more : {A : Type 0} (xs : List A) (x : A) → length (xs ++ (x �
 length-one_more [] x = refl
 length-one_more (y ∷ xs) x = ap suc (length-one_more xs x)
 
-pub texts-more : (rounds : List Logs) (round : Logs) → map texts_of (rounds ++ (round ∷ [])) ≡ map texts_of rounds ++ (texts_of round ∷ [])
-texts-more [] round = refl
-texts-more (first ∷ rounds) round = ap (λ (rest : List (List (List ℕ))). texts_of first ∷ rest) (texts-more rounds round)
+pub texts-more : (header : Header) (rounds : List Logs) (round : Logs)
+    → map (written_logs header) (rounds ++ (round ∷ [])) ≡ map (written_logs header) rounds ++ (written_logs header round ∷ [])
+texts-more header [] round = refl
+texts-more header (first ∷ rounds) round = ap (λ (rest : List (List (List ℕ))). written_logs header first ∷ rest) (texts-more header rounds round)
 
 pub logged-more : (logs : Logs) (rounds : List Logs) (round : Logs) → logged_behind logs (rounds ++ (round ∷ [])) ≡ logged_with (logged_behind logs rounds) round
 logged-more logs [] round = refl

@@ -1,14 +1,16 @@
 -- A run goes on: events lead on, logs are handed out, and where it stops it is cut off.
-use Rattle.std.proofs.Common.{◌≡◌, Bool, inl, inr, ℕ, suc, List, [], ◌∷◌, ◌++◌, length, map, Option, Result, Ok, Err, IfOk, OnErr, refl, sym, ◌∙◌, ap, subst, arith}
+use Rattle.std.proofs.Common.{◌≡◌, Bool, inl, inr, ℕ, suc, ◌<◌, List, [], ◌∷◌, ◌++◌, length, map, Option, Result, Ok, Err, IfOk, OnErr, refl, sym, ◌∙◌, ap, subst, arith}
 use Rattle.std.proofs.lemmas.List.{length-map}
 use Rattle.fv_outside.specs.Written.{Grows}
 use Rattle.record_hash.specs.Functions.{DigestFunctions}
 use Rattle.record_text.specs.declared.request.Request.{Request}
-use Rattle.log_codec.specs.Log.{path_log_text}
+use Rattle.slot_rewriting.specs.Writing.{written_logs, ComeToRestFrom}
+use Rattle.slot_rewriting.proofs.WritingLaws.{written-length}
+use Rattle.merkle_records.specs.Merkle.{GivesDigests}
 use Rattle.bundle_report.specs.Report.{told_by}
 use Rattle.host_core.specs.Host.{Host}
 use Rattle.host_core.specs.World.{World, logs_of, set_up}
-use Rattle.host_core.specs.WorldEvent.{WorldEvent, step, run_events}
+use Rattle.host_core.specs.WorldEvent.{WorldEvent, AreEnabled, step, run_events}
 use Rattle.host_shard.specs.Content.{Content}
 use Rattle.script_text.specs.declared.task.Task.{Task}
 use Rattle.host_world.specs.declared.fault.ClockEnd.{ClockEnd}
@@ -18,6 +20,7 @@ use Rattle.host_world.specs.ShippedHost.{shipped_host}
 use Rattle.host_world.specs.Shown.{digests_of, requests_of}
 use Rattle.host_world.specs.Behind.{IsBehindSetup, AreOfOneHost, host_of, with_logs}
 use Rattle.host_world.proofs.FrontLaws.{length-step}
+use Rattle.host_fits.specs.Promise.{CanRun}
 use Rattle.host_serving.specs.Leading.{Leads, LeadsAs, first_of}
 use Rattle.host_serving.specs.Form.{AreInRounds}
 use Rattle.host_serving.proofs.LeadingLaws.{leads-with}
@@ -29,7 +32,7 @@ use Rattle.host_rounds.specs.SoFar.{RunsSoFar, Keeps, lines_counted}
 use Rattle.verifier_threads.specs.declared.accounts.Account.{Account}
 use Rattle.verifier_threads.specs.declared.accounts.Account.TheVariants as accounts
 use Rattle.verifier_threads.specs.declared.ending.RunEnd.{RunEnd}
-use Rattle.verifier_threads.specs.Serving.{Outputs, IsServed, IsCutOff, IsCutAtEnd, IsCutByVault, IsCutBySink, ServesTo, texts_of}
+use Rattle.verifier_threads.specs.Serving.{Outputs, IsServed, IsCutOff, IsCutAtEnd, IsCutByVault, IsCutBySink, ServesTo}
 use Rattle.verifier_threads.specs.InRounds.{Logs, logged_with, no_logs, IsBehindRounds, LeadThrough}
 use Rattle.verifier_threads.specs.Runners.{TellsLines}
 use Rattle.verifier_threads.specs.Running.{IsRunning, all_handed_out, with_no_log}
@@ -72,6 +75,15 @@ pub leads-length : {C R : Type 0} (host : Host C R) (world later : World C) (end
     → length later.workers ≡ length world.workers
 leads-length {C} host world later end way = ap (λ (w : World C). length w.workers) way.is ∙ run-length host world way.events
 
+-- ---- what is told of logs
+
+-- behind whatever events the logs of a run come to rest
+abbrev pub LogsRest : Type 0
+LogsRest = (functions : DigestFunctions) (settings : Settings) (script : List (List Task)) (events : List (WorldEvent Request))
+    → CanRun functions settings script → settings.header.first < 4294967296
+    → let host = shipped_host functions settings script in
+    AreEnabled host (set_up host) events → ComeToRestFrom host.header 0 (logs_of (run_events host (set_up host) events))
+
 -- ---- a run goes on
 
 module _ (receipts : Bool) (functions : DigestFunctions) (settings : Settings) (script : List (List Task)) (world : World Content) (rounds : RunsSoFar)
@@ -92,7 +104,16 @@ module _ (receipts : Bool) (functions : DigestFunctions) (settings : Settings) (
   -- as many workers as verifiers, and as many runs
   pub running-workers : length world.workers ≡ settings.header.verifiers
   running-workers =
-      sym running.each ∙ sym (length-map running.logs path_log_text) ∙ running.keeps.runs.taken.whole
+      sym running.each ∙ sym (written-length settings.header 0 running.logs) ∙ running.keeps.runs.taken.whole
+
+  -- what was handed out comes to rest with what wasn't yet
+  pub running-rests : LogsRest → GivesDigests functions.digest → ComeToRestFrom settings.header 0 (logged_with running.logs (logs_of world))
+  running-rests rest digests =
+      let way = running.way in
+      let can : CanRun functions settings script = record { in_range = running.settings_fit; counters = running.counters; keys = running.keys; digests = digests } in
+      subst (ComeToRestFrom settings.header 0) (sym (logs-behind running.logs world.workers running.each))
+      (subst (λ (w : World Content). ComeToRestFrom settings.header 0 (logs_of w)) (sym way.is)
+      (rest functions settings script way.events can running.keeps.vault.is_bundle.first way.enabled))
 
   -- events lead on
   pub running-led : (later : World Content) (next : Option ClockEnd) → GoesOn own_host world later end next
@@ -107,18 +128,20 @@ module _ (receipts : Bool) (functions : DigestFunctions) (settings : Settings) (
     passed = through-leads own_host 0 (no_logs settings.header.verifiers) (set_up own_host) past (with_logs running.logs world) (with_logs running.logs later) running.passed
         (next, leads-with own_host running.logs world later next way.leads);
     way = way.on running.logs (set_up own_host) running.way;
+    rests = running.rests;
     keeps = running.keeps;
     written = running.written;
   }
 
   -- logs are handed out, behind one round more
   pub running-handed : (rounds' : RunsSoFar) (outputs' : Outputs) → IsBehindRounds own_host (suc (length past)) world
-      → Keeps functions settings.header (logs_with (texts_of running.logs) (texts_of (logs_of world))) (map texts_of past ++ (texts_of (logs_of world) ∷ [])) rounds' outputs'.vault outputs'.vault_after
-      → Grows outputs'.out outputs'.out_after (lines_counted (told_by receipts functions settings.header) functions settings.header (logs_with (texts_of running.logs) (texts_of (logs_of world))) rounds')
+      → ComeToRestFrom settings.header 0 (logged_with running.logs (logs_of world))
+      → Keeps functions settings.header (logs_with (written_logs settings.header running.logs) (written_logs settings.header (logs_of world))) (map (written_logs settings.header) past ++ (written_logs settings.header (logs_of world) ∷ [])) rounds' outputs'.vault outputs'.vault_after
+      → Grows outputs'.out outputs'.out_after (lines_counted (told_by receipts functions settings.header) functions settings.header (logs_with (written_logs settings.header running.logs) (written_logs settings.header (logs_of world))) rounds')
       → IsRunning receipts functions settings script (all_handed_out world) rounds' end (past ++ (logs_of world ∷ [])) outputs'
-  running-handed rounds' outputs' stands keeps written =
+  running-handed rounds' outputs' stands rests keeps written =
       let logs = logged_with running.logs (logs_of world) in
-      let texts : logs_with (texts_of running.logs) (texts_of (logs_of world)) ≡ texts_of logs = sym (logged_with-texts running.logs (logs_of world)) in
+      let texts : logs_with (written_logs settings.header running.logs) (written_logs settings.header (logs_of world)) ≡ written_logs settings.header logs = sym (logged_with-texts settings.header running.logs (logs_of world) running.rests) in
       let same = with_logs-handed running.logs world running.each in
       let first = no_logs settings.header.verifiers in
       record {
@@ -128,13 +151,14 @@ module _ (receipts : Bool) (functions : DigestFunctions) (settings : Settings) (
         logs = logs;
         joined = ap (λ (all : Logs). logged_with all (logs_of world)) running.joined ∙ sym (logged-more first past (logs_of world));
         each = logged_with-length running.logs (logs_of world) ∙ running.each ∙ sym (length-map world.workers with_no_log);
+        rests = rests;
         way = subst (λ (w : World Content). LeadsAs AreInRounds own_host (set_up own_host) w end) (sym same) running.way;
         passed = subst (λ (w : World Content). LeadThrough own_host 0 first (set_up own_host) (past ++ (logs_of world ∷ [])) w) (sym same)
             (through-more own_host (suc (length past)) 0 first (set_up own_host) past (logs_of world) (with_logs running.logs world) (omega arith) running.passed
             (behind_with own_host (suc (length past)) running.logs world stands)
             (sym (logs-behind running.logs world.workers running.each) ∙ ap (λ (all : Logs). logged_with all (logs_of world)) running.joined));
-        keeps = subst (λ (rs : List (List (List ℕ))). Keeps functions settings.header (texts_of logs) rs rounds' outputs'.vault outputs'.vault_after) (sym (texts-more past (logs_of world)))
-            (subst (λ (all : List (List ℕ)). Keeps functions settings.header all (map texts_of past ++ (texts_of (logs_of world) ∷ [])) rounds' outputs'.vault outputs'.vault_after) texts keeps);
+        keeps = subst (λ (rs : List (List (List ℕ))). Keeps functions settings.header (written_logs settings.header logs) rs rounds' outputs'.vault outputs'.vault_after) (sym (texts-more settings.header past (logs_of world)))
+            (subst (λ (all : List (List ℕ)). Keeps functions settings.header all (map (written_logs settings.header) past ++ (written_logs settings.header (logs_of world) ∷ [])) rounds' outputs'.vault outputs'.vault_after) texts keeps);
         written = subst (λ (all : List (List ℕ)). Grows outputs'.out outputs'.out_after (lines_counted (told_by receipts functions settings.header) functions settings.header all rounds')) texts written;
       }
 

@@ -4,6 +4,7 @@ use Rattle.fv_outside.specs.Written.{Grows, GrowsByFront}
 use Rattle.record_hash.specs.Functions.{DigestFunctions}
 use Rattle.record_text.specs.declared.operation.Operation.{Operation}
 use Rattle.lamport_clocks.specs.declared.header.Header.{Header}
+use Rattle.slot_rewriting.specs.Writing.{written_logs}
 use Rattle.report_text.specs.declared.status.Status.{Status}
 use Rattle.load_summary.specs.Tallies.{tallies_of}
 use Rattle.load_summary.specs.Counting.{Counted}
@@ -20,7 +21,7 @@ use Rattle.verifier_threads.specs.declared.accounts.Account.TheVariants as accou
 use Rattle.verifier_threads.specs.declared.ending.RunEnd.{RunEnd}
 use Rattle.verifier_threads.specs.declared.loads.Load.{Load}
 use Rattle.verifier_threads.specs.InRounds.{Logs, no_logs}
-use Rattle.verifier_threads.specs.Serving.{AreOfRun, IsServed, IsCutAtEnd, end_by, status_at, setup_end, texts_of, summary_of}
+use Rattle.verifier_threads.specs.Serving.{AreOfRun, IsServed, IsCutAtEnd, end_by, status_at, setup_end, summary_of}
 use Rattle.verifier_threads.proofs.NothingLemmas.{NoTexts, empty-are}
 
 -- ---- nothing is logged
@@ -43,9 +44,9 @@ module _ (no_epochs : NoEpochs) (no_operations : NoOperations) (no_texts : NoTex
   of_run = record { served = λ enough. absurd (omega (arith, enough, short)); unserved = λ _. (refl, refl, refl) }
 
   has_header : (vault vault_after : Option (List ℕ)) → HasBundle own (empty_logs own.verifiers) [] vault vault_after
-      → HasBundle own (texts_of none_logged) [] vault vault_after
+      → HasBundle own (written_logs own none_logged) [] vault vault_after
   has_header vault vault_after has =
-      subst (λ (all : List (List ℕ)). HasBundle own all [] vault vault_after) (empty-are own.verifiers ∙ sym (no_texts own.verifiers)) has
+      subst (λ (all : List (List ℕ)). HasBundle own all [] vault vault_after) (empty-are own.verifiers ∙ sym (no_texts own own.verifiers)) has
 
   -- the summary of no epochs and no operations
   abbrev bare : Status → List ℕ
@@ -53,7 +54,7 @@ module _ (no_epochs : NoEpochs) (no_operations : NoOperations) (no_texts : NoTex
 
   summary_bare : (end : RunEnd) → summary_of functions own load none_logged end ≡ bare (status_at end)
   summary_bare end =
-      ap (λ (texts : List (List ℕ)). summary_due functions own texts load.seed load.ops (status_at end)) (no_texts own.verifiers)
+      ap (λ (texts : List (List ℕ)). summary_due functions own texts load.seed load.ops (status_at end)) (no_texts own own.verifiers)
       ∙ ap (λ (n : ℕ). summary_with_end load.seed load.ops n (tallies_of own.verifiers (operations_due functions own (replicate own.verifiers []))) (status_at end))
       (no_epochs functions own)
       ∙ ap (λ (ops : List Operation). summary_with_end load.seed load.ops 0 (tallies_of own.verifiers ops) (status_at end)) (no_operations functions own)

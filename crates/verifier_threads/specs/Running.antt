@@ -4,6 +4,7 @@ use Rattle.std.specs.List.{AllByRecursion}
 use Rattle.fv_outside.specs.Written.{Grows}
 use Rattle.record_hash.specs.Functions.{DigestFunctions}
 use Rattle.bundle_report.specs.Report.{told_by}
+use Rattle.slot_rewriting.specs.Writing.{written_logs, ComeToRestFrom}
 use Rattle.host_core.specs.Host.{Host}
 use Rattle.host_core.specs.World as machine
 use Rattle.host_shard.specs.Content.{Content}
@@ -23,7 +24,7 @@ use Rattle.host_rounds.specs.Feeding.{AllRead}
 use Rattle.host_rounds.specs.SoFar.{RunsSoFar, Keeps, AllCounted, lines_counted, with_runs}
 use Rattle.verifier_threads.specs.declared.world_run.WorldRun.{WorldRun}
 use Rattle.verifier_threads.specs.InRounds.{Logs, logged_behind, no_logs, ArePassed}
-use Rattle.verifier_threads.specs.Serving.{Outputs, HasToldLines, texts_of}
+use Rattle.verifier_threads.specs.Serving.{Outputs, HasToldLines}
 
 -- ---- logs that are handed out
 
@@ -38,8 +39,9 @@ all_handed_out world = record world { workers = map with_no_log world.workers }
 -- ---- a run
 
 -- Events lead from the setup to this world with the logs in front that were handed out, and this is the first end of a
--- clock that they come to. They were handed out in these rounds. The vault has the bundle of these and the verifiers' runs have taken
--- them, and what is written is the lines of the epochs that are counted, with receipts or without.
+-- clock that they come to. They were handed out in these rounds, and they come to rest, so that what comes behind is written as logs of
+-- its own. The vault has the bundle of these and the verifiers' runs have taken them, and what is written is the lines of the epochs
+-- that are counted, with receipts or without.
 pub record IsRunning (receipts : Bool) (functions : DigestFunctions) (settings : Settings) (script : List (List Task)) (world : machine.World Content) (rounds : RunsSoFar) (end : Option ClockEnd)
     (past : List Logs) (outputs : Outputs) : Type 0 where
   pub settings_fit : IsSettings settings
@@ -48,10 +50,11 @@ pub record IsRunning (receipts : Bool) (functions : DigestFunctions) (settings :
   pub logs : Logs
   pub joined : logs ≡ logged_behind (no_logs settings.header.verifiers) past
   pub each : length logs ≡ length world.workers
+  pub rests : ComeToRestFrom settings.header 0 logs
   pub way : LeadsAs AreInRounds (shipped_host functions settings script) (machine.set_up (shipped_host functions settings script)) (with_logs logs world) end
   pub passed : ArePassed (shipped_host functions settings script) past (with_logs logs world)
-  pub keeps : Keeps functions settings.header (texts_of logs) (map texts_of past) rounds outputs.vault outputs.vault_after
-  pub written : Grows outputs.out outputs.out_after (lines_counted (told_by receipts functions settings.header) functions settings.header (texts_of logs) rounds)
+  pub keeps : Keeps functions settings.header (written_logs settings.header logs) (map (written_logs settings.header) past) rounds outputs.vault outputs.vault_after
+  pub written : Grows outputs.out outputs.out_after (lines_counted (told_by receipts functions settings.header) functions settings.header (written_logs settings.header logs) rounds)
 
 -- So runs a runner of the code, which has a buffer for each worker, and a count of parcels for its verifier.
 pub record Runs (receipts : Bool) {D : Type 0} (functions : D → DigestFunctions) (runner : WorldRun D) (past : List Logs) (outputs : Outputs) : Type 0 where
@@ -70,7 +73,7 @@ pub record RunsBehind (receipts : Bool) {D : Type 0} (functions : D → DigestFu
 pub record RunsWhole (receipts : Bool) {D : Type 0} (functions : D → DigestFunctions) (runner : WorldRun D) (closes : ℕ) (outputs : Outputs) : Type 0 where
   pub past : List Logs
   pub runs : Runs receipts functions runner past outputs
-  pub all : AllCounted (functions (digests_of runner.world)) runner.world.settings.header (texts_of runs.running.logs) runner.rounds
+  pub all : AllCounted (functions (digests_of runner.world)) runner.world.settings.header (written_logs runner.world.settings.header runs.running.logs) runner.rounds
   pub count : length past ≡ closes + closes
   pub told : HasToldLines receipts (functions (digests_of runner.world)) runner.world.settings.header past outputs
 
@@ -78,7 +81,7 @@ pub record RunsWhole (receipts : Bool) {D : Type 0} (functions : D → DigestFun
 pub record RunsToEnd (receipts : Bool) {D : Type 0} (functions : D → DigestFunctions) (runner : WorldRun D) (outputs : Outputs) : Type 0 where
   pub past : List Logs
   pub runs : Runs receipts functions runner past outputs
-  pub all : AllCounted (functions (digests_of runner.world)) runner.world.settings.header (texts_of runs.running.logs) runner.rounds
+  pub all : AllCounted (functions (digests_of runner.world)) runner.world.settings.header (written_logs runner.world.settings.header runs.running.logs) runner.rounds
   pub count : runner.end ≡ None → length past ≡ 2 * length (requests_of runner.world)
 
 -- so it runs, whatever rounds were handed out
@@ -96,7 +99,7 @@ with_runs_of runs runner = record runner { rounds = with_runs runs runner.rounds
 -- its verifiers' runs took what its workers logged since that was last handed out, and were these before
 abbrev pub HaveReadRound : {D : Type 0} → (D → DigestFunctions) → List FedRun → WorldRun D → Type 0
 HaveReadRound functions before runner =
-    AllRead (functions (digests_of runner.world)) (texts_of (machine.logs_of (shown_world runner.world))) before runner.rounds.runs
+    AllRead (functions (digests_of runner.world)) (written_logs runner.world.settings.header (machine.logs_of (shown_world runner.world))) before runner.rounds.runs
 
 -- so it runs, but that its verifiers' runs have taken what its workers logged and the vault doesn't have that yet
 abbrev pub IsFedUnderWay : {D : Type 0} → (D → DigestFunctions) → WorldRun D → Option (List ℕ) → Type 0

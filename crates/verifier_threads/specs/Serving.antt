@@ -4,7 +4,7 @@ use Rattle.fv_outside.specs.Written.{Grows, GrowsByFront}
 use Rattle.lamport_clocks.specs.declared.header.Header.{Header}
 use Rattle.record_hash.specs.Functions.{DigestFunctions}
 use Rattle.log_codec.specs.declared.command.Command.{Command}
-use Rattle.log_codec.specs.Log.{path_log_text}
+use Rattle.slot_rewriting.specs.Writing.{written_logs}
 use Rattle.report_text.specs.declared.status.Status.{Status}
 use Rattle.report_text.specs.declared.status.Status.TheVariants as statuses
 use Rattle.report_text.specs.Status.{last_line}
@@ -50,10 +50,6 @@ setup_end settings = record { worker = 0; at = record { epoch = settings.header.
 
 -- ---- the logs
 
--- the bytes of logs
-abbrev pub texts_of : List (List Command) → List (List ℕ)
-texts_of logs = map path_log_text logs
-
 module _ (functions : DigestFunctions) (settings : Settings) (script : List (List Task)) (rounds : List Logs) (logs : Logs) (end : Option ClockEnd) where
   -- The logs of a world to which enabled events in rounds lead from the setup, and in which no more can be done. Where no clock
   -- ended on the way the whole script is served; else it is the first end that they come to, and that of the lowest worker whose clock
@@ -96,11 +92,11 @@ module _ (functions : DigestFunctions) (settings : Settings) (script : List (Lis
 
 -- the report: the lines that the logs certify, with receipts or without, and how the run ends
 abbrev pub report_of : Bool → DigestFunctions → Header → List (List Command) → RunEnd → List ℕ
-report_of receipts functions header logs end = lines_due (told_by receipts functions header) functions header (texts_of logs) ++ last_line (status_at end)
+report_of receipts functions header logs end = lines_due (told_by receipts functions header) functions header (written_logs header logs) ++ last_line (status_at end)
 
 -- the summary of a load with these logs: how many epochs they certify, what each worker did in these, and how the run ended
 abbrev pub summary_of : DigestFunctions → Header → Load → List (List Command) → RunEnd → List ℕ
-summary_of functions header load logs end = summary_due functions header (texts_of logs) load.seed load.ops (status_at end)
+summary_of functions header load logs end = summary_due functions header (written_logs header logs) load.seed load.ops (status_at end)
 
 -- what is written of a whole run with these logs: its report, or the summary of a load
 abbrev pub account_of : Account → DigestFunctions → Header → List (List Command) → RunEnd → List ℕ
@@ -128,7 +124,7 @@ module _ (account : Account) (functions : DigestFunctions) (settings : Settings)
     pub end : Option ClockEnd
     pub run : AreOfRun functions settings script rounds logs end
     pub is : result ≡ end_by (length script) end
-    pub vault : HasBundle settings.header (texts_of logs) (map texts_of rounds) outputs.vault outputs.vault_after
+    pub vault : HasBundle settings.header (written_logs settings.header logs) (map (written_logs settings.header) rounds) outputs.vault outputs.vault_after
     pub out : Grows outputs.out outputs.out_after (account_of account functions settings.header logs result)
 
   -- It stopped before the end: the vault took a front of the bundle of the logs so far, and the sink, of a report, a front of the lines
@@ -137,7 +133,7 @@ module _ (account : Account) (functions : DigestFunctions) (settings : Settings)
     pub rounds : List Logs
     pub logs : Logs
     pub run : AreOfRunSoFar functions settings script rounds logs
-    pub vault : HasFront settings.header (texts_of logs) (map texts_of rounds) outputs.vault outputs.vault_after
+    pub vault : HasFront settings.header (written_logs settings.header logs) (map (written_logs settings.header) rounds) outputs.vault outputs.vault_after
     pub out : HasFrontOfLines account functions vault.grown.front outputs
 
   -- It stopped at the end: all is served, and the sink took a front of what is written of it.
@@ -146,13 +142,13 @@ module _ (account : Account) (functions : DigestFunctions) (settings : Settings)
     pub logs : Logs
     pub end : Option ClockEnd
     pub run : AreOfRun functions settings script rounds logs end
-    pub vault : HasBundle settings.header (texts_of logs) (map texts_of rounds) outputs.vault outputs.vault_after
+    pub vault : HasBundle settings.header (written_logs settings.header logs) (map (written_logs settings.header) rounds) outputs.vault outputs.vault_after
     pub out : GrowsByFront outputs.out outputs.out_after (account_of account functions settings.header logs (end_by (length script) end))
 
 -- all lines that these rounds certify are written, with receipts or without
 abbrev pub HasToldLines : Bool → DigestFunctions → Header → List Logs → Outputs → Type 0
 HasToldLines receipts functions header rounds outputs =
-    Grows outputs.out outputs.out_after (lines_due (told_by receipts functions header) functions header (logs_in header.verifiers (map texts_of rounds)))
+    Grows outputs.out outputs.out_after (lines_due (told_by receipts functions header) functions header (logs_in header.verifiers (map (written_logs header) rounds)))
 
 -- of a report they are, and of a summary nothing is
 abbrev pub HasTold : Account → DigestFunctions → Header → List Logs → Outputs → Type 0
@@ -167,8 +163,8 @@ pub record IsCutInRound (account : Account) (functions : DigestFunctions) (setti
   pub logs : Logs
   pub run : AreOfRunSoFar functions settings script (past ++ (round ∷ [])) logs
   pub held : Option (List ℕ)
-  pub whole : HasBundle settings.header (logs_in settings.header.verifiers (map texts_of past)) (map texts_of past) outputs.vault held
-  pub front : GrowsByFront held outputs.vault_after (round_text (texts_of round))
+  pub whole : HasBundle settings.header (logs_in settings.header.verifiers (map (written_logs settings.header) past)) (map (written_logs settings.header) past) outputs.vault held
+  pub front : GrowsByFront held outputs.vault_after (round_text (written_logs settings.header round))
   pub closes : ℕ
   pub count : (length past ≡ 2 * closes) ⊎ (length past ≡ 1 + 2 * closes)
   pub told : HasTold account functions settings.header (take (2 * closes) past) outputs

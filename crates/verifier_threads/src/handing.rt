@@ -1,31 +1,38 @@
 //! What all workers logged, handed out.
 ghost use Rattle.std.specs.Prelude.{◌≡◌, ◌≤◌, length, OnOk};
-ghost use Rattle.log_codec.specs.Log.{path_log_text};
+ghost use Rattle.lamport_clocks.specs.Header.{IsHeader};
+ghost use Rattle.slot_rewriting.specs.Writing.{written_logs};
 ghost use Rattle.host_core.specs.World.{logs_of};
-ghost use Rattle.host_world.specs.Shown.{shown_world};
+ghost use Rattle.host_world.specs.Shown.{shown_world, settings_of};
 ghost use Rattle.host_world.specs.Behind.{AreOfOneHost};
 ghost use Rattle.verifier_threads.specs.Running.{all_handed_out};
-ghost use Rattle.verifier_threads.specs.Serving.{texts_of};
 
 use base_words::Memory;
 use host_log::LogBuffer;
 use host_world::World;
 use record_hash::Digests;
+use slot_rewriting::CommandWriter;
+use std::alloc::Global;
 
-/// Each buffer takes what its worker logged since it was last handed out, and nothing else, and the world forgets it.
+/// Each buffer takes what its worker logged since it was last handed out, written as a log of its own, and nothing else, and the world
+/// forgets it.
 pub(crate) fn hand_out_all<D: Digests>(
+    alloc: Global,
     world: &mut World<'_, D>,
     buffers: &mut [LogBuffer],
 ) -> Result<(), Memory>
     requires each { length buffers.old ≡ length (shown_world world.old).workers }
+    requires header { IsHeader (settings_of world.old).header }
     requires few { length buffers.old ≤ 64 }
-    ensures handed { OnOk result (buffers.new ≡ texts_of (logs_of (shown_world world.old))) }
+    ensures handed { OnOk result (buffers.new ≡ written_logs (settings_of world.old).header (logs_of (shown_world world.old))) }
     ensures forgotten { OnOk result (shown_world world.new ≡ all_handed_out (shown_world world.old)) }
     ensures host { AreOfOneHost world.old world.new }
 {
+    let header = world.settings().header;
     for worker in 0..buffers.len() {
+        let mut writer = CommandWriter::new(alloc, worker as u16, &header)?;
         buffers[worker].clear();
-        world.hand_out(worker as u16, &mut buffers[worker])?;
+        world.hand_out(worker as u16, &mut writer, &mut buffers[worker])?;
     }
     Ok(())
 }

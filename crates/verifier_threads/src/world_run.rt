@@ -37,7 +37,8 @@ use host_world::{ClockEnd, World};
 use record_hash::Digests;
 use report_text::BundleEnd;
 use run_reports::{
-    a_check_of_the_logs_ends_as_the_host_promises, logs_of_no_bytes_certify_nothing,
+    a_check_of_the_logs_ends_as_the_host_promises, logs_come_to_rest,
+    logs_of_no_bytes_certify_nothing,
 };
 use std::alloc::Global;
 use std::sync::Wait;
@@ -221,7 +222,8 @@ impl<'a, D: Digests> WorldRun<'a, D> {
     {
         what_is_due_stays_due();
         rounds_make_a_bundle();
-        hand_out_all(&mut self.world, self.buffers.as_mut_slice())?;
+        logs_come_to_rest();
+        hand_out_all(self.alloc, &mut self.world, self.buffers.as_mut_slice())?;
         self.rounds.write(self.buffers.as_slice(), vault)
     }
 }
@@ -308,7 +310,8 @@ impl<'a, D: Digests + Sync> WorldRun<'a, D> {
     {
         what_is_due_stays_due();
         rounds_make_a_bundle();
-        hand_out_all(&mut self.world, self.buffers.as_mut_slice())?;
+        logs_come_to_rest();
+        hand_out_all(self.alloc, &mut self.world, self.buffers.as_mut_slice())?;
         let d = self.world.digests();
         self.rounds
             .seal(rt, self.alloc, d, self.buffers.as_slice(), last, vault)

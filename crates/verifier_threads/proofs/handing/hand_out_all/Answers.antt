@@ -1,12 +1,14 @@
 use Rattle.std.proofs.Common.{◌≡◌, ℕ, suc, ◌+◌, ◌<◌, ◌++◌, List, [], length, map, get_or, set, refl, sym, ◌∙◌, ap, subst, arith}
 use Rattle.std.proofs.lemmas.List.{length-map}
-use Rattle.log_codec.specs.Log.{path_log_text}
+use Rattle.lamport_clocks.specs.declared.header.Header.{Header}
+use Rattle.slot_rewriting.specs.declared.writer.CommandWriter.{CommandWriter}
+use Rattle.slot_rewriting.specs.Writing.{opening_writer, text_from, written_logs}
+use Rattle.host_world.specs.declared.settings.Settings.{Settings}
 use Rattle.host_core.specs.World.{Worker, World, fresh, logs_of}
 use Rattle.host_core.specs.WorldEvent.{with_worker}
 use Rattle.host_shard.specs.Content.{Content}
 use Rattle.host_world.specs.Shown.{shown_world}
 use Rattle.verifier_threads.specs.Running.{with_no_log}
-use Rattle.verifier_threads.specs.Serving.{texts_of}
 use Rattle.verifier_threads.proofs.RunningLemmas.{one_host}
 use Rattle.verifier_threads.proofs.HandingLemmas.{changed-length, changed-not, buffers-next, replaced-all, text-at, texts-length, front_handed_out, handed-next, handed-all}
 use Rattle.verifier_threads.proofs.handing.hand_out_all.Goals as goal
@@ -24,6 +26,9 @@ loop-worker-preserved g c =
     let old = shown_world c.args.world.now in
     let now = c.loop-worker.world in
     let d = fresh now.settings.header in
+    let header = c.args.world.now.settings.header in
+    let header_is : c.settings-header.result.header ≡ header = ap (λ (s : Settings). s.header) c.settings-header.ensures.value in
+    let writer_is : c.in_ok-writer.writer ≡ opening_writer n header = c.in_ok-writer.ensures.value ∙ ap (opening_writer n) header_is in
     let next : n + 1 ≡ suc n = omega arith in
     let there : n < length old.workers = omega (arith, c.loop-worker-test.true, c.requires.each) in
     let workers_are : now.workers.items ≡ (front_handed_out n old).workers = ap (λ (w : World Content). w.workers) c.loop-worker.invariant.shown in
@@ -33,24 +38,26 @@ loop-worker-preserved g c =
           ∙ ap (λ (w : World Content). with_worker w n (with_no_log (get_or w.workers n d))) c.loop-worker.invariant.shown
           ∙ handed-next n (n + 1) old d there next;
       buffers =
-          buffers-next n (n + 1) (texts_of (logs_of old)) c.args.buffers.now c.loop-worker.buffers c.clear.new.self c.hand_out.new.buffer _ _
+          buffers-next n (n + 1) (written_logs header (logs_of old)) c.args.buffers.now c.loop-worker.buffers c.clear.new.self c.hand_out.new.buffer _ _
           c.loop-worker.invariant.buffers
-          (texts-length old.workers ∙ sym c.requires.each)
-          (omega (arith, there, texts-length old.workers))
+          (texts-length header old.workers ∙ sym c.requires.each)
+          (omega (arith, there, texts-length header old.workers))
           c.clear.ensures.empty c.in_ok-hand_out.ensures.handed
-          (ap (λ (ws : List Worker). path_log_text (get_or ws n d).log) workers_are
-          ∙ ap (λ (w : Worker). path_log_text w.log) (changed-not with_no_log n old.workers d)
-          ∙ sym (text-at old.workers n d there))
+          (ap (λ (w : CommandWriter). text_from w (get_or now.workers.items n d).log) writer_is
+          ∙ ap (λ (ws : List Worker). text_from (opening_writer n header) (get_or ws n d).log) workers_are
+          ∙ ap (λ (w : Worker). text_from (opening_writer n header) w.log) (changed-not with_no_log n old.workers d)
+          ∙ sym (text-at header old.workers n d there))
           next;
     }
 
 pub returns-clause-handed : goal.returns-clause-handed
 returns-clause-handed g c =
     let old = shown_world c.args.world.now in
-    let size : length (texts_of (logs_of old)) ≡ length c.args.buffers.now = texts-length old.workers ∙ sym c.requires.each in
+    let header = c.args.world.now.settings.header in
+    let size : length (written_logs header (logs_of old)) ≡ length c.args.buffers.now = texts-length header old.workers ∙ sym c.requires.each in
     let over : c.loop-worker.worker ≡ length c.args.buffers.now = omega (arith, c.loop-worker-test.false, c.loop-worker.auto.worker-end) in
     c.loop-worker.invariant.buffers
-    ∙ replaced-all c.loop-worker.worker (texts_of (logs_of old)) c.args.buffers.now size (over ∙ sym size)
+    ∙ replaced-all c.loop-worker.worker (written_logs header (logs_of old)) c.args.buffers.now size (over ∙ sym size)
 
 pub returns-clause-forgotten : goal.returns-clause-forgotten
 returns-clause-forgotten g c =

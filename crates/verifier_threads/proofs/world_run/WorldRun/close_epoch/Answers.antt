@@ -17,7 +17,8 @@ use Rattle.host_serving.proofs.FormLaws.{on_by_close}
 use Rattle.host_rounds.specs.SoFar.{lines_counted, lines_due}
 use Rattle.verifier_threads.specs.declared.accounts.Account.TheVariants as accounts
 use Rattle.verifier_threads.specs.InRounds.{IsBehindRounds}
-use Rattle.verifier_threads.specs.Serving.{IsCutOff, IsCutInRound, texts_of}
+use Rattle.slot_rewriting.specs.Writing.{written_logs}
+use Rattle.verifier_threads.specs.Serving.{IsCutOff, IsCutInRound}
 use Rattle.verifier_threads.specs.Running.{IsAtPhase, IsAtEnd, all_handed_out}
 use Rattle.verifier_threads.proofs.RunningLemmas.{one_host, host_same, of_one_host, host-back}
 use Rattle.verifier_threads.proofs.PassingLemmas.{ok_any, ok_four, err_any, err_then, runs-behind, runs-led, behind-led, runs-certified}
@@ -136,7 +137,7 @@ returns-clause-runs g c = λ outputs behind held written.
     let twice : length past ≡ suc phase + suc phase = omega (arith, size, count) in
     let f = functions (digests_of c.pass_to_seal.new.self.world) in
     let header = c.pass_to_seal.new.self.world.settings.header in
-    let texts = texts_of next.running.logs in
+    let texts = written_logs header next.running.logs in
     let have = next.running.keeps.runs in
     let told = told_by c.args.receipts f header in
     let so_far = subst (λ (tell : EpochText). Grows outputs.out (g.O.Sink.held c.args.out.now) (lines_counted tell f header texts c.pass_to_seal.new.self.rounds)) (sym c.telling-telling.ensures.text)
@@ -205,7 +206,7 @@ returns-clause-cut g c = λ outputs behind held written.
     let next = c.in_ok-settled.ensures.runs c.args.receipts outputs led.past led.runs stands held in
     let f = functions (digests_of c.pass_to_seal.new.self.world) in
     let header = c.pass_to_seal.new.self.world.settings.header in
-    let texts = texts_of next.running.logs in
+    let texts = written_logs header next.running.logs in
     let have = next.running.keeps.runs in
     let told = told_by c.args.receipts f header in
     let so_far = subst (λ (tell : EpochText). Grows outputs.out (g.O.Sink.held c.args.out.now) (lines_counted tell f header texts c.pass_to_seal.new.self.rounds)) (sym c.telling-telling.ensures.text)

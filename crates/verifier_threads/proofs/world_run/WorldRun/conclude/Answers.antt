@@ -1,7 +1,8 @@
 use Rattle.std.proofs.Common.{◌≡◌, ℕ, length, sym, ◌∙◌, ap}
+use Rattle.slot_rewriting.specs.Writing.{written_logs}
 use Rattle.host_world.specs.Shown.{shown_world, digests_of, requests_of}
 use Rattle.verifier_threads.specs.declared.ending.RunEnd.TheVariants as ends
-use Rattle.verifier_threads.specs.Serving.{end_by, texts_of}
+use Rattle.verifier_threads.specs.Serving.{end_by}
 use Rattle.verifier_threads.proofs.EndingLemmas.{done-same, ended-due}
 use Rattle.verifier_threads.proofs.world_run.WorldRun.conclude.Goals as goal
 
@@ -14,7 +15,7 @@ unreachable-requires g c =
     let f = g.D.Digests.functions (digests_of old.world) in
     let whole = c.requires.runs.2 in
     let running = whole.runs.running in
-    let texts = texts_of running.logs in
+    let texts = written_logs old.world.settings.header running.logs in
     let is = c.end.ensures.end f old.world.settings.header texts running.keeps.runs whole.all in
     c.in_default.not-Done (length (requests_of old.world))
     (is
@@ -28,7 +29,7 @@ returns-in-Done-clause-end g c =
     let script = requests_of old.world in
     let whole = c.requires.runs.2 in
     let running = whole.runs.running in
-    let due = c.end.ensures.end f old.world.settings.header (texts_of running.logs) running.keeps.runs whole.all
+    let due = c.end.ensures.end f old.world.settings.header (written_logs old.world.settings.header running.logs) running.keeps.runs whole.all
     ∙ ended-due c.requires.runs.0 f old.world.settings script (shown_world old.world) old.rounds old.end whole.past c.requires.runs.1 running c.requires.ended
     c.a_check_of_the_logs_ends_as_the_host_promises.ensures.whole (λ text. (g.met.D.Digests.text_digest_shape old.world.d.now text).size) c.in-None.is in
     let count : c.in-Done.epochs ≡ length script = done-same c.in-Done.epochs (length script) (sym c.in-Done.is ∙ due) in

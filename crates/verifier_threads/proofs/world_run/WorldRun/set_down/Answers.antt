@@ -1,6 +1,7 @@
 use Rattle.std.proofs.Common.{◌≡◌, ℕ, inl, List, [], ◌∷◌, ◌++◌, length, map, Option, refl, sym, ◌∙◌, ap, subst, arith}
 use Rattle.std.proofs.lemmas.List.{length-map, with_items_is}
 use Rattle.record_hash.specs.Functions.{DigestFunctions}
+use Rattle.slot_rewriting.specs.Writing.{written_logs}
 use Rattle.host_core.specs.World.{World, logs_of}
 use Rattle.host_shard.specs.Content.{Content}
 use Rattle.script_text.specs.declared.task.Task.{Task}
@@ -9,10 +10,9 @@ use Rattle.host_world.specs.Shown.{shown_world, digests_of}
 use Rattle.host_rounds.specs.Feeding.{AllRead}
 use Rattle.host_rounds.specs.SoFar.{RunsSoFar, Keeps, with_runs}
 use Rattle.bundle_report.specs.Report.{told_by}
-use Rattle.verifier_threads.specs.Serving.{texts_of}
 use Rattle.verifier_threads.specs.Running.{IsRunning, with_no_log, with_runs_of}
 use Rattle.verifier_threads.proofs.HandingLemmas.{texts-length}
-use Rattle.verifier_threads.proofs.RunningLemmas.{of_one_host, running-workers}
+use Rattle.verifier_threads.proofs.RunningLemmas.{of_one_host, running-workers, running-rests}
 use Rattle.verifier_threads.proofs.PassingLemmas.{ok_both, ok_any, err_any, running-taken}
 use Rattle.verifier_threads.proofs.CutLemmas.{runs-cut, runs-cut_round, runs-cut_before, runs-cut_in_round}
 use Rattle.verifier_threads.proofs.world_run.WorldRun.set_down.Goals as goal
@@ -25,6 +25,7 @@ hand_out_all-requires g c =
     let size = ap length c.as_mut_slice.ensures.value in
     record {
       each = size ∙ runs.buffers;
+      header = runs.running.settings_fit.header;
       few = omega (arith, size, runs.buffers, workers, runs.running.settings_fit.header.verifiers);
     }
 
@@ -32,7 +33,7 @@ pub write-requires : goal.write-requires
 write-requires g c =
     let old = c.args.self.now in
     let runs = c.requires.runs.3.1 in
-    let size : length c.hand_out_all.new.buffers ≡ length old.world.workers.items = ap length c.in_ok-hand_out_all.ensures.handed ∙ texts-length old.world.workers.items in
+    let size : length c.hand_out_all.new.buffers ≡ length old.world.workers.items = ap length c.in_ok-hand_out_all.ensures.handed ∙ texts-length old.world.settings.header old.world.workers.items in
     let items = with_items_is old.buffers c.hand_out_all.new.buffers (size ∙ sym runs.buffers ∙ sym old.buffers.ok.0) in
     let count = ap length (c.as_slice.ensures.value ∙ items) ∙ size ∙ running-workers _ _ _ _ _ _ _ _ _ runs.running in
     record { few = omega (arith, count, runs.running.settings_fit.header.verifiers) }
@@ -51,25 +52,27 @@ returns-clause-runs g c = λ receipts outputs before past runs took stands held.
     let r = runs.running in
     let rounds : RunsSoFar = with_runs before old.rounds in
     let header = old.world.settings.header in
-    let logs = texts_of r.logs in
+    let logs = written_logs header r.logs in
     let host = c.hand_out_all.ensures.host in
     let new = c.hand_out_all.new.world in
     let vault = g.V.Sink.held c.args.vault.now in
     let vault' = g.V.Sink.held c.write.new.vault in
     let round = c.as_slice.result.now in
-    let size : length c.hand_out_all.new.buffers ≡ length old.world.workers.items = ap length c.in_ok-hand_out_all.ensures.handed ∙ texts-length old.world.workers.items in
+    let size : length c.hand_out_all.new.buffers ≡ length old.world.workers.items = ap length c.in_ok-hand_out_all.ensures.handed ∙ texts-length header old.world.workers.items in
     let items = with_items_is old.buffers c.hand_out_all.new.buffers (size ∙ sym runs.buffers ∙ sym old.buffers.ok.0) in
-    let round_is : round ≡ texts_of (logs_of (shown_world old.world)) = c.as_slice.ensures.value ∙ items ∙ c.in_ok-hand_out_all.ensures.handed in
-    let keeps = subst (λ (h : Option (List ℕ)). Keeps own header logs (map texts_of past) rounds outputs.vault h) held r.keeps in
+    let round_is : round ≡ written_logs header (logs_of (shown_world old.world)) = c.as_slice.ensures.value ∙ items ∙ c.in_ok-hand_out_all.ensures.handed in
+    let rests = running-rests _ _ _ _ (shown_world old.world) rounds old.end past outputs r c.logs_come_to_rest.ensures.rests
+    (λ text. (g.met.D.Digests.text_digest_shape old.world.d.now text).size) in
+    let keeps = subst (λ (h : Option (List ℕ)). Keeps own header logs (map (written_logs header) past) rounds outputs.vault h) held r.keeps in
     let taken = subst (λ (all : List (List ℕ)). AllRead own all before old.rounds.runs) (sym round_is) took in
-    ok_both c.write.result (c.write.ensures.keeps own header logs (map texts_of past) outputs.vault before keeps taken)
+    ok_both c.write.result (c.write.ensures.keeps own header logs (map (written_logs header) past) outputs.vault before keeps taken)
     (c.write.ensures.lines (told_by receipts own header) own header logs before r.keeps.runs)
     (λ keeps' lines. record {
       running =
           of_one_host functions old.world new host
           (λ (f : DigestFunctions) (settings : Settings) (script : List (List Task)). IsRunning receipts f settings script (shown_world new) c.write.new.self old.end (past ++ (logs_of (shown_world old.world) ∷ [])) (record outputs { vault_after = vault' }))
           (running-taken _ _ _ _ (shown_world old.world) rounds old.end past outputs r (shown_world new) round c.write.new.self vault'
-          stands c.in_ok-hand_out_all.ensures.forgotten round_is keeps' lines);
+          stands rests c.in_ok-hand_out_all.ensures.forgotten round_is keeps' lines);
       buffers = ap length items ∙ size ∙ sym (length-map old.world.workers.items with_no_log) ∙ sym (ap (λ (w : World Content). length w.workers) c.in_ok-hand_out_all.ensures.forgotten);
       counts = runs.counts ∙ sym (length-map old.world.workers.items with_no_log) ∙ sym (ap (λ (w : World Content). length w.workers) c.in_ok-hand_out_all.ensures.forgotten);
     })
@@ -80,7 +83,7 @@ returns-clause-handed g c = ok_any c.write.result c.in_ok-hand_out_all.ensures.f
 pub returns-clause-cut : goal.returns-clause-cut
 returns-clause-cut g c = λ receipts outputs before runs held.
     let old = c.args.self.now in
-    let size : length c.hand_out_all.new.buffers ≡ length old.world.workers.items = ap length c.in_ok-hand_out_all.ensures.handed ∙ texts-length old.world.workers.items in
+    let size : length c.hand_out_all.new.buffers ≡ length old.world.workers.items = ap length c.in_ok-hand_out_all.ensures.handed ∙ texts-length old.world.settings.header old.world.workers.items in
     let items = with_items_is old.buffers c.hand_out_all.new.buffers (size ∙ sym runs.1.buffers ∙ sym old.buffers.ok.0) in
     err_any c.write.result
     (runs-cut_round receipts g.D.Digests.functions (with_runs_of before old) outputs runs.0 runs.1 c.what_is_due_stays_due.ensures.stays c.rounds_make_a_bundle.ensures.more
@@ -96,7 +99,7 @@ returns-in_err-hand_out_all-clause-cut_round g c = λ receipts outputs before cl
 pub returns-clause-cut_round : goal.returns-clause-cut_round
 returns-clause-cut_round g c = λ receipts outputs before closes behind held.
     let old = c.args.self.now in
-    let size : length c.hand_out_all.new.buffers ≡ length old.world.workers.items = ap length c.in_ok-hand_out_all.ensures.handed ∙ texts-length old.world.workers.items in
+    let size : length c.hand_out_all.new.buffers ≡ length old.world.workers.items = ap length c.in_ok-hand_out_all.ensures.handed ∙ texts-length old.world.settings.header old.world.workers.items in
     let items = with_items_is old.buffers c.hand_out_all.new.buffers (size ∙ sym behind.runs.buffers ∙ sym old.buffers.ok.0) in
     err_any c.write.result
     (runs-cut_in_round receipts g.D.Digests.functions (with_runs_of before old) outputs behind.past behind.runs closes closes behind.count (inl refl) behind.told
