@@ -4,8 +4,8 @@ ghost use Rattle.std.specs.List.{flat_map, AllByRecursion};
 ghost use Rattle.lamport_clocks.specs.Clock.{last_epoch};
 ghost use Rattle.record_text.specs.Longest.{longest_blob};
 ghost use Rattle.log_codec.specs.Command.{IsPathCommand};
-ghost use Rattle.log_codec.specs.Log.{path_log_text};
 ghost use Rattle.log_codec.specs.declared.command.Command.TheVariants.{NextEpoch};
+ghost use Rattle.slot_rewriting.specs.Writing.{text_from, writer_behind};
 ghost use Rattle.host_core.specs.World.{idle, fresh};
 ghost use Rattle.host_core.specs.WorldEvent.{logging, next_clock};
 ghost use Rattle.host_shard.specs.Shown.{shown_content};
@@ -26,6 +26,7 @@ use log_codec::Command;
 use protection_moves::{MoveFault, migrate};
 use record_hash::Digests;
 use record_text::Request;
+use slot_rewriting::CommandWriter;
 use std::alloc::Global;
 use std::marker::Model;
 use std::mem::replace;
@@ -118,9 +119,14 @@ impl Worker {
         self.log.as_slice()
     }
 
-    // The texts of what it logged go behind what a buffer has, and it forgets them. For want of memory both are as before.
-    pub(crate) fn hand_out(&mut self, buffer: &mut LogBuffer) -> Result<(), Memory>
-        ensures handed { OnOk result (buffer.new ≡ buffer.old ++ path_log_text self.old.log) }
+    // The texts of what it logged go behind what a buffer has, as this writer writes them, and it forgets them. For want of memory
+    // both are as before.
+    pub(crate) fn hand_out(
+        &mut self,
+        writer: &mut CommandWriter,
+        buffer: &mut LogBuffer,
+    ) -> Result<(), Memory>
+        ensures handed { OnOk result (buffer.new ≡ buffer.old ++ text_from writer.old self.old.log) }
         ensures forgot { OnOk result (self.new ≡ record self.old { log = [] }) }
         ensures typed { AllByRecursion (IsPathCommand longest_blob) self.old.log }
         ensures as_before { OnErr result (self.new ≡ self.old) }
@@ -128,7 +134,7 @@ impl Worker {
     {
         let before = buffer.bytes().len();
         for commands in &self.log {
-            if push_all(buffer, commands.as_slice()).is_err() {
+            if push_all(writer, buffer, commands.as_slice()).is_err() {
                 buffer.truncate(before);
                 return Err(Memory);
             }
@@ -318,14 +324,19 @@ impl Worker {
     }
 }
 
-// The texts of commands, behind what a buffer has.
-fn push_all(buffer: &mut LogBuffer, commands: &[Command]) -> Result<(), Memory>
-    ensures pushed { OnOk result (buffer.new ≡ buffer.old ++ path_log_text commands.now) }
+// The texts of commands, as this writer writes them, behind what a buffer has.
+fn push_all(
+    writer: &mut CommandWriter,
+    buffer: &mut LogBuffer,
+    commands: &[Command],
+) -> Result<(), Memory>
+    ensures pushed { OnOk result (buffer.new ≡ buffer.old ++ text_from writer.old commands.now) }
+    ensures behind { OnOk result (writer.new ≡ writer_behind writer.old commands.now) }
     // What it had stays, also for want of memory.
     ensures kept { (count : ℕ) → count ≤ length buffer.old → take count buffer.new ≡ take count buffer.old }
 {
     for command in commands {
-        buffer.push(command)?;
+        buffer.push(writer, command)?;
     }
     Ok(())
 }

@@ -1,9 +1,8 @@
 -- What a check makes of the logs of the shipped host.
-use Rattle.std.proofs.Common.{◌≡◌, ℕ, zero, suc, ◌+◌, ◌<◌, ◌≤◌, ◌^◌, ◌==◌, false, List, [], ◌∷◌, ◌++◌, map, length, get_or, take, Some, None, refl, sym, ◌∙◌, ap, subst, arith, Bool}
+use Rattle.std.proofs.Common.{◌≡◌, ℕ, zero, suc, ◌+◌, ◌<◌, ◌≤◌, ◌^◌, ◌==◌, false, List, [], ◌∷◌, ◌++◌, map, length, get_or, take, Some, None, sym, ◌∙◌, ap, subst, arith, Bool}
 use Rattle.std.specs.List.{AllByRecursion}
 use Rattle.std.proofs.lemmas.Bool.{cond_both}
 use Rattle.std.proofs.lemmas.Grind.{flat_map-append}
-use Rattle.std.proofs.lemmas.List.{length-map}
 use Rattle.lamport_clocks.specs.Header.{IsHeader}
 use Rattle.record_hash.specs.Functions.{DigestFunctions}
 use Rattle.record_text.specs.declared.exhibit.Exhibit.TheVariants.{Clean}
@@ -14,18 +13,20 @@ use Rattle.record_text.specs.Tree.{wide_of}
 use Rattle.log_codec.specs.Command.{IsPathCommand, IsCommandIn}
 use Rattle.log_codec.specs.Log.{read_log}
 use Rattle.log_codec.specs.declared.command.Command.{Command}
+use Rattle.slot_rewriting.specs.Writing.{written_logs, ComeToRestFrom}
 use Rattle.merkle_records.specs.Merkle.{GivesDigests}
 use Rattle.report_text.specs.declared.ending.BundleEnd.TheVariants.{Done}
 use Rattle.script_text.specs.declared.task.Task.{Task}
 use Rattle.stamp_order.specs.Serial.{IsSerial}
 use Rattle.verifier_commands.specs.State.{opening, root_entry}
 use Rattle.soundness.specs.History.{Event}
-use Rattle.soundness.specs.PathHistory.{path_log_events, path_log_refusal, path_histories_from}
+use Rattle.soundness.specs.PathHistory.{path_log_events, path_histories_from}
 use Rattle.soundness.specs.StateHistory.{rules_under}
 use Rattle.soundness.specs.Certified.{all_events, added_by, certified_count, certified_operations}
 use Rattle.soundness.specs.Typed.{ArePathsTyped, IsPathTypedIn, ArePathsTypedIn}
 use Rattle.soundness.specs.Timed.{added_among}
 use Rattle.soundness.proofs.TypedLaws.{paths_typed}
+use Rattle.rewriting_laws.specs.RewrittenLog as rewritten
 use Rattle.bundle_report.specs.BundleReport.{histories_at, refused_among, end_of}
 use Rattle.bundle_report.specs.Headline.{certified_exhibit, exhibit_at}
 use Rattle.host_rounds.specs.SoFar.{end_due}
@@ -35,15 +36,16 @@ use Rattle.host_core.specs.Host.{Host, scheme, machinery, script_of}
 use Rattle.host_core.specs.World.{Worker, World, fresh, worker_at, logs_of, set_up}
 use Rattle.host_core.specs.WorldEvent.{WorldEvent, HasAdvanced, IsPhaseOver, AreEnabled, run_events}
 use Rattle.host_core.specs.Deeds.{answers_in}
-use Rattle.host_core.specs.Core.{histories, pending_in, AreAccepted}
+use Rattle.host_core.specs.Core.{histories, pending_in}
 use Rattle.host_world.specs.declared.settings.Settings.{Settings}
 use Rattle.host_world.specs.ShippedHost.{shipped_host}
 use Rattle.host_fits.specs.Promise.{CanRun, IsPromised}
 use Rattle.host_fits.proofs.TypedLaws.{logs_typed}
-use Rattle.run_reports.specs.Runs.{texts_of, HoldsOfRuns}
+use Rattle.run_reports.specs.Runs.{HoldsOfRuns}
 use Rattle.run_reports.proofs.StampLemmas.{IsStamped, opening_narrow, logs_evict, logs_add, every-first, every-second}
 use Rattle.run_reports.proofs.CommandLemmas.{IsKind, IsGood, accepted_spelled}
-use Rattle.run_reports.proofs.TextLemmas.{read_texts, histories_read_back, none_among, end_done}
+use Rattle.run_reports.proofs.TextLemmas.{all_of_kind, AreReadBack, all_read_back, histories_read_back, none_among, end_done}
+use Rattle.run_reports.proofs.RestLemmas.{LeftAtRest, logs_rest, shipped_is_bare}
 
 module _ {C R : Type 0} (host : Host C R) where
   -- a verifier begins with nothing, or with the root
@@ -91,18 +93,16 @@ module _ {C R : Type 0} (host : Host C R) where
       history_at (suc number) workers i d (omega (arith, within))
       ∙ ap (λ (n : ℕ). path_log_events (scheme host) host.header n (get_or workers i d).log) (omega arith)
 
-  log_at : (workers : List Worker) (i : ℕ) (d : Worker) → i < length workers → get_or (map (λ worker. worker.log) workers) i [] ≡ (get_or workers i d).log
-  log_at [] i d within = absurd (omega (arith, within))
-  log_at (worker ∷ workers) zero d within = refl
-  log_at (worker ∷ workers) (suc i) d within = log_at workers i d (omega (arith, within))
-
   -- no verifier refuses a log
-  log_accepted : (world : World C) → AreAccepted host world → (i : ℕ) → i < length world.workers
-      → path_log_refusal (scheme host) host.header (0 + i) (get_or (logs_of world) i []) ≡ None
-  log_accepted world accepted i within =
-      ap (λ (n : ℕ). path_log_refusal (scheme host) host.header n (get_or (logs_of world) i [])) (omega arith)
-      ∙ ap (path_log_refusal (scheme host) host.header i) (log_at world.workers i (fresh host.header) within)
-      ∙ (accepted i within).0
+  logs_accepted : (number : ℕ) (workers : List Worker) (d : Worker)
+      → ((i : ℕ) → i < length workers → IsAccepted (machinery host (number + i)) (opening (number + i) host.header) (get_or workers i d).log)
+      → rewritten.AreAccepted (scheme host) host.header number (map (λ worker. worker.log) workers)
+  logs_accepted number [] d accepted = tt
+  logs_accepted number (worker ∷ workers) d accepted = (
+    subst (λ (n : ℕ). IsAccepted (machinery host n) (opening n host.header) worker.log) (omega arith) (accepted 0 (omega arith)),
+    logs_accepted (suc number) workers d
+        (λ i within. subst (λ (n : ℕ). IsAccepted (machinery host n) (opening n host.header) (get_or workers i d).log) (omega arith) (accepted (suc i) (omega (arith, within)))),
+  )
 
 -- ---- the shipped host
 
@@ -133,7 +133,7 @@ module _ (keeps : KeepsPromise) (functions : DigestFunctions) (settings : Settin
   world = run_events host (set_up host) events
 
   abbrev texts : List (List ℕ)
-  texts = texts_of (logs_of world)
+  texts = written_logs host.header (logs_of world)
 
   module _ (can : CanRun functions settings script) (first : settings.header.first < 2 ^ 32) (enabled : AreEnabled host (set_up host) events) where
     promise : IsPromised host world
@@ -145,23 +145,33 @@ module _ (keeps : KeepsPromise) (functions : DigestFunctions) (settings : Settin
     within : AllByRecursion (AllByRecursion (IsCommandIn (wide_of settings.header))) (logs_of world)
     within = all_within (wide_of settings.header) longest_blob (logs_of world) typed
 
+    accepted : (i : ℕ) → i < length world.workers → IsAccepted (machinery host (0 + i)) (opening (0 + i) host.header) (worker_at host world i).log
+    accepted i within = subst (λ (n : ℕ). IsAccepted (machinery host n) (opening n host.header) (worker_at host world i).log) (omega arith) (promise.accepted i within).0
+
     spelled : AllByRecursion (AllByRecursion (IsPathCommand longest_blob)) (logs_of world)
     spelled =
-        logs_spelled host 0 world.workers (fresh host.header) can.digests first can.in_range.header
-        (λ i within. subst (λ (n : ℕ). IsAccepted (machinery host n) (opening n host.header) (worker_at host world i).log) (omega arith) (promise.accepted i within).0)
+        logs_spelled host 0 world.workers (fresh host.header) can.digests first can.in_range.header accepted
         (paths_typed (wide_of settings.header) longest_blob (logs_of world) typed)
         (logs_add (all_events (histories host world)) (pending_in host world)
         (logs_evict (scheme host) host.header 0 (logs_of world) first (omega (arith, can.in_range.header.end)))
         promise.even)
 
+    back : AreReadBack (scheme host) host.header 0 (logs_of world)
+    back =
+        all_read_back functions host.header 0 (logs_of world) can.in_range.header within spelled
+        (logs_accepted host 0 world.workers (fresh host.header) accepted)
+
     read : histories_at (scheme host) host.header texts ≡ histories host world
-    read = histories_read_back functions host.header (logs_of world) can.in_range.by_path within spelled
+    read = histories_read_back functions host.header (logs_of world) back
 
     refused : refused_among (scheme host) host.header 0 (map (read_log (format_of host.header)) texts) ≡ None
-    refused =
-        ap (refused_among (scheme host) host.header 0) (read_texts (format_of host.header) (logs_of world) can.in_range.by_path within spelled)
-        ∙ none_among (scheme host) host.header 0 (logs_of world) [] can.in_range.by_path
-        (λ i within. log_accepted host world promise.accepted i (subst (λ (n : ℕ). i < n) (length-map world.workers (λ (worker : Worker). worker.log)) within))
+    refused = none_among (scheme host) host.header 0 (logs_of world) back
+
+    rest : ComeToRestFrom host.header 0 (logs_of world)
+    rest =
+        logs_rest host (shipped_is_bare functions settings script) can.in_range.header 0 world.workers (fresh host.header)
+        (all_of_kind longest_blob (logs_of world) spelled)
+        (λ i within. subst (λ (n : ℕ). LeftAtRest host n (worker_at host world i)) (omega arith) (promise.accepted i within))
 
     ends : end_due functions settings.header texts ≡ Done (certified_count (scheme host) host.header.first (histories host world))
     ends =
@@ -187,31 +197,34 @@ module _ (keeps : KeepsPromise) (functions : DigestFunctions) (settings : Settin
 -- ---- the laws
 
 module _ (keeps : KeepsPromise) where
-  pub reads : HoldsOfRuns (λ host world. histories_at (scheme host) host.header (texts_of (logs_of world)) ≡ histories host world)
+  pub reads : HoldsOfRuns (λ host world. histories_at (scheme host) host.header (written_logs host.header (logs_of world)) ≡ histories host world)
   reads = read keeps
 
-  pub refuses_none : HoldsOfRuns (λ host world. refused_among (scheme host) host.header 0 (map (read_log (format_of host.header)) (texts_of (logs_of world))) ≡ None)
+  pub refuses_none : HoldsOfRuns (λ host world. refused_among (scheme host) host.header 0 (map (read_log (format_of host.header)) (written_logs host.header (logs_of world))) ≡ None)
   refuses_none = refused keeps
 
+  pub come_to_rest : HoldsOfRuns (λ host world. ComeToRestFrom host.header 0 (logs_of world))
+  come_to_rest = rest keeps
+
   pub comes_to_end : HoldsOfRuns (λ host world.
-      end_due host.functions host.header (texts_of (logs_of world)) ≡ Done (certified_count (scheme host) host.header.first (histories host world)))
+      end_due host.functions host.header (written_logs host.header (logs_of world)) ≡ Done (certified_count (scheme host) host.header.first (histories host world)))
   comes_to_end = ends keeps
 
   pub comes_to_whole : HoldsOfRuns (λ host world. ((i : ℕ) → i < length world.workers → HasAdvanced host world i 2)
-      → end_due host.functions host.header (texts_of (logs_of world)) ≡ Done (suc world.phase))
+      → end_due host.functions host.header (written_logs host.header (logs_of world)) ≡ Done (suc world.phase))
   comes_to_whole functions settings script events can first enabled turned =
       ends keeps functions settings script events can first enabled
       ∙ ap (λ (n : ℕ). Done n) ((promise keeps functions settings script events can first enabled).whole turned)
 
-  pub shows_nothing : HoldsOfRuns (λ host world. exhibit_at host.functions (Some host.header) (texts_of (logs_of world)) ≡ Clean)
+  pub shows_nothing : HoldsOfRuns (λ host world. exhibit_at host.functions (Some host.header) (written_logs host.header (logs_of world)) ≡ Clean)
   shows_nothing = clean keeps
 
   pub certifies_serial : HoldsOfRuns (λ host world.
-      IsSerial (certified_operations (scheme host) host.header.first (histories_at (scheme host) host.header (texts_of (logs_of world)))))
+      IsSerial (certified_operations (scheme host) host.header.first (histories_at (scheme host) host.header (written_logs host.header (logs_of world)))))
   certifies_serial = serial keeps
 
   pub finds_answers : HoldsOfRuns (λ host world. (i : ℕ) → i < length world.workers
-      → answers_in (get_or (histories_at (scheme host) host.header (texts_of (logs_of world))) i []) ≡ take (worker_at host world i).served (script_of host i))
+      → answers_in (get_or (histories_at (scheme host) host.header (written_logs host.header (logs_of world))) i []) ≡ take (worker_at host world i).served (script_of host i))
   finds_answers functions settings script events can first enabled i within =
       ap answers_in (history_read keeps functions settings script events can first enabled i within)
       ∙ (promise keeps functions settings script events can first enabled).answered i within
@@ -219,7 +232,7 @@ module _ (keeps : KeepsPromise) where
   pub finds_all_answers : HoldsOfRuns (λ host world. length host.script ≤ suc world.phase → IsPhaseOver host world
       → ((i : ℕ) → i < length world.workers → (worker_at host world i).stopped ≡ false)
       → (i : ℕ) → i < length world.workers
-      → answers_in (get_or (histories_at (scheme host) host.header (texts_of (logs_of world))) i []) ≡ script_of host i)
+      → answers_in (get_or (histories_at (scheme host) host.header (written_logs host.header (logs_of world))) i []) ≡ script_of host i)
   finds_all_answers functions settings script events can first enabled last over going i within =
       ap answers_in (history_read keeps functions settings script events can first enabled i within)
       ∙ (promise keeps functions settings script events can first enabled).done last over going i within

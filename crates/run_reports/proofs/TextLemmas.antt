@@ -1,5 +1,5 @@
--- Logs whose commands have texts are read back, and none of them is refused.
-use Rattle.std.proofs.Common.{◌≡◌, ℕ, zero, suc, ◌+◌, ◌<◌, true, false, List, [], ◌∷◌, map, length, replicate, get_or, min, Option, None, refl, sym, ◌∙◌, ap, subst, nat_lt, if◌then◌else◌, arith}
+-- Logs whose commands have texts are read back, in either version, and none of them is refused.
+use Rattle.std.proofs.Common.{◌≡◌, ℕ, zero, suc, ◌+◌, Bool, true, false, List, [], ◌∷◌, map, length, replicate, min, Option, None, refl, sym, ◌∙◌, ap, nat_lt, if◌then◌else◌, arith}
 use Rattle.record_text.specs.Longest.{longest_blob}
 use Rattle.record_text.specs.Format.{LogFormat, format_of}
 use Rattle.base_words.specs.Traced.{traced}
@@ -7,70 +7,140 @@ use Rattle.std.specs.List.{flat_map, AllByRecursion}
 use Rattle.std.specs.Option.{option_map, option_or}
 use Rattle.std.proofs.lemmas.Bool.Decides.{nat_tests}
 use Rattle.lamport_clocks.specs.declared.header.Header.{Header}
-use Rattle.lamport_clocks.specs.Header.{names_paths}
+use Rattle.lamport_clocks.specs.Header.{IsHeader, names_paths}
 use Rattle.record_hash.specs.Functions.{DigestFunctions}
 use Rattle.record_text.specs.declared.refusal.Refusal.{Refusal}
 use Rattle.record_text.specs.Tree.{wide_of}
 use Rattle.log_codec.specs.declared.command.Command.{Command}
+use Rattle.log_codec.specs.declared.command.Command.TheVariants.{AddM, EvictM, AddB, EvictB, EvictBM, Get, Put, NextEpoch}
 use Rattle.log_codec.specs.declared.log_command.LogCommand.{LogCommand}
-use Rattle.log_codec.specs.declared.log_command.LogCommand.TheVariants.{ByPath}
+use Rattle.log_codec.specs.declared.log_command.LogCommand.TheVariants.{ByPath, BySlot}
 use Rattle.log_codec.specs.Command.{IsPathCommand, IsCommandIn}
 use Rattle.log_codec.specs.Log.{Log, whole, read_log}
 use Rattle.log_codec.proofs.LogLaws.{read_log-path_text, read_log-empty}
+use Rattle.slot_rewriting.specs.Writing.{written_log, logs_written_from, written_logs}
+use Rattle.slot_rewriting.proofs.WritingLaws.{written_by_path}
+use Rattle.slot_rewriting.proofs.RangeLaws.{read_written}
 use Rattle.merkle_records.specs.Scheme.{Scheme, scheme_of}
 use Rattle.report_text.specs.declared.ending.BundleEnd.{BundleEnd}
 use Rattle.report_text.specs.declared.ending.BundleEnd.TheVariants.{Done}
 use Rattle.verifier_run.specs.LogCourse.{refusal_by}
-use Rattle.soundness.specs.History.{Event, log_events, histories_from}
-use Rattle.soundness.specs.PathHistory.{path_log_refusal, path_histories_of}
-use Rattle.soundness.proofs.VersionLaws.{log_refusal-by_path, histories-by_path}
+use Rattle.soundness.specs.History.{Event, log_events, log_refusal, histories_from}
+use Rattle.soundness.specs.PathHistory.{path_log_events, path_log_refusal, path_histories_from}
+use Rattle.soundness.proofs.VersionLaws.{log_events-by_path, log_refusal-by_path, log_events-by_slot, log_refusal-by_slot}
 use Rattle.soundness.specs.Certified.{order_of, sealed_by_all, balanced_from, certified_count, certified_operations, epochs_from}
+use Rattle.rewriting_laws.specs.RewrittenLog.{IsOfKind, rewritten_log, AreAccepted}
+use Rattle.rewriting_laws.proofs.RewritingLaws.{log_can, log_events_same, log_accepted_too}
 use Rattle.bundle_report.specs.Report.{EpochTold}
 use Rattle.bundle_report.specs.BundleReport.{refused_end, refused_among, unbalanced_end, done_or_bad, end_or, end_of, histories_in, histories_at, epoch_lines}
 use Rattle.host_rounds.specs.SoFar.{end_due, lines_due}
-use Rattle.run_reports.specs.Runs.{texts_of}
 
--- a log of these commands that ends whole
-abbrev pub whole_log : List Command → Log
-whole_log commands = record { commands = map ByPath commands; end = whole }
+-- ---- one log
 
--- What is written is read back, where commands name paths.
-pub read_texts : (format : LogFormat) (logs : List (List Command)) → format.by_path ≡ true
-    → AllByRecursion (AllByRecursion (IsCommandIn format.wide)) logs → AllByRecursion (AllByRecursion (IsPathCommand format.longest)) logs
-    → map (read_log format) (texts_of logs) ≡ map whole_log logs
-read_texts format [] by_path within spelled = refl
-read_texts format (log ∷ logs) by_path within spelled =
-    ap (λ (l : Log). l ∷ map (read_log format) (texts_of logs)) (read_log-path_text format log by_path within.0 spelled.0)
-    ∙ ap (λ (ls : List Log). whole_log log ∷ ls) (read_texts format logs by_path within.1 spelled.1)
+-- The bytes of a log are read as whole commands: these have the events that the log has by path, and none is refused.
+pub record IsReadBack (scheme : Scheme) (header : Header) (number : ℕ) (log : List Command) : Type 0 where
+  pub commands : List LogCommand
+  pub read : read_log (format_of header) (written_log header number log) ≡ record { commands = commands; end = whole }
+  pub events : log_events scheme header number commands ≡ path_log_events scheme header number log
+  pub accepted : log_refusal scheme header number commands ≡ None
 
-commands_of_whole : (logs : List (List Command)) → map (λ (log : Log). log.commands) (map whole_log logs) ≡ map (λ log. map ByPath log) logs
-commands_of_whole [] = refl
-commands_of_whole (log ∷ logs) = ap (λ (ls : List (List LogCommand)). map ByPath log ∷ ls) (commands_of_whole logs)
+-- what has a text by path has a value of its path's kind
+of_kind : (longest : ℕ) (command : Command) → IsPathCommand longest command → IsOfKind longest command
+of_kind longest (AddM path value parent) is = is.0
+of_kind longest (EvictM path parent) is = tt
+of_kind longest (AddB path value stamp verifier) is = is.0
+of_kind longest (EvictB path stamp) is = tt
+of_kind longest (EvictBM path parent stamp) is = tt
+of_kind longest (Get path value) is = is
+of_kind longest (Put path value) is = is
+of_kind longest NextEpoch is = tt
+
+are_of_kind : (longest : ℕ) (commands : List Command) → AllByRecursion (IsPathCommand longest) commands → AllByRecursion (IsOfKind longest) commands
+are_of_kind longest [] is = tt
+are_of_kind longest (command ∷ commands) is = (of_kind longest command is.0, are_of_kind longest commands is.1)
+
+pub all_of_kind : (longest : ℕ) (logs : List (List Command)) → AllByRecursion (AllByRecursion (IsPathCommand longest)) logs
+    → AllByRecursion (AllByRecursion (IsOfKind longest)) logs
+all_of_kind longest [] is = tt
+all_of_kind longest (log ∷ logs) is = (are_of_kind longest log is.0, all_of_kind longest logs is.1)
+
+module _ (functions : DigestFunctions) (header : Header) (in_range : IsHeader header) where
+  abbrev own : Scheme
+  own = scheme_of functions header
+
+  -- A log that is accepted by path is read back, where its commands have texts.
+  read_back : (number : ℕ) (log : List Command) → AllByRecursion (IsCommandIn (wide_of header)) log → AllByRecursion (IsPathCommand longest_blob) log
+      → path_log_refusal own header number log ≡ None → IsReadBack own header number log
+  read_back number log within spelled none = go (names_paths header) refl
+    where
+      kinds : AllByRecursion (IsOfKind longest_blob) log
+      kinds = are_of_kind longest_blob log spelled
+
+      go : (b : Bool) → names_paths header ≡ b → IsReadBack own header number log
+      go true version = record {
+        commands = map ByPath log;
+        read = ap (read_log (format_of header)) (written_by_path header number log version)
+            ∙ read_log-path_text (format_of header) log version within spelled;
+        events = log_events-by_path own header number log version;
+        accepted = log_refusal-by_path own header number log version ∙ none;
+      }
+      go false version = record {
+        commands = map BySlot (rewritten_log header number log);
+        read = read_written header number log in_range version (log_can own header number log in_range kinds none) within spelled;
+        events = log_events-by_slot own header number (rewritten_log header number log) version
+            ∙ log_events_same own header number log in_range kinds none;
+        accepted = log_refusal-by_slot own header number (rewritten_log header number log) version
+            ∙ log_accepted_too own header number log in_range kinds none;
+      }
+
+-- ---- all logs
+
+-- the same of logs, the first of which is of the verifier of this number
+abbrev pub AreReadBack : Scheme → Header → ℕ → List (List Command) → Type 0
+AreReadBack scheme header number [] = Unit {0}
+AreReadBack scheme header number (log ∷ logs) = IsReadBack scheme header number log × AreReadBack scheme header (suc number) logs
+
+pub all_read_back : (functions : DigestFunctions) (header : Header) (number : ℕ) (logs : List (List Command)) → IsHeader header
+    → AllByRecursion (AllByRecursion (IsCommandIn (wide_of header))) logs → AllByRecursion (AllByRecursion (IsPathCommand longest_blob)) logs
+    → AreAccepted (scheme_of functions header) header number logs → AreReadBack (scheme_of functions header) header number logs
+all_read_back functions header number [] in_range within spelled accepted = tt
+all_read_back functions header number (log ∷ logs) in_range within spelled accepted = (
+  read_back functions header in_range number log within.0 spelled.0 accepted.0,
+  all_read_back functions header (suc number) logs in_range within.1 spelled.1 accepted.1,
+)
+
+histories_from_texts : (scheme : Scheme) (header : Header) (number : ℕ) (logs : List (List Command)) → AreReadBack scheme header number logs
+    → histories_from scheme header number (map (λ (log : Log). log.commands) (map (read_log (format_of header)) (logs_written_from header number logs)))
+    ≡ path_histories_from scheme header number logs
+histories_from_texts scheme header number [] back = refl
+histories_from_texts scheme header number (log ∷ logs) back =
+    ap (λ (l : Log). log_events scheme header number l.commands ∷ histories_from scheme header (suc number) rest) back.0.read
+    ∙ (ap (λ (events : List Event). events ∷ histories_from scheme header (suc number) rest) back.0.events
+    ∙ ap (λ (histories : List (List Event)). path_log_events scheme header number log ∷ histories) (histories_from_texts scheme header (suc number) logs back.1))
+  where
+    rest : List (List LogCommand)
+    rest = map (λ (l : Log). l.commands) (map (read_log (format_of header)) (logs_written_from header (suc number) logs))
 
 -- So the histories of the bytes are those of the commands.
-pub histories_read_back : (functions : DigestFunctions) (header : Header) (logs : List (List Command)) → names_paths header ≡ true
-    → AllByRecursion (AllByRecursion (IsCommandIn (wide_of header))) logs → AllByRecursion (AllByRecursion (IsPathCommand longest_blob)) logs
-    → histories_at (scheme_of functions header) header (texts_of logs) ≡ path_histories_of (scheme_of functions header) header logs
-histories_read_back functions header logs by_path within spelled =
-    ap (histories_in (scheme_of functions header) header) (read_texts (format_of header) logs by_path within spelled)
-    ∙ ap (histories_from (scheme_of functions header) header 0) (commands_of_whole logs)
-    ∙ histories-by_path (scheme_of functions header) header 0 logs by_path
+pub histories_read_back : (functions : DigestFunctions) (header : Header) (logs : List (List Command)) → AreReadBack (scheme_of functions header) header 0 logs
+    → histories_at (scheme_of functions header) header (written_logs header logs) ≡ path_histories_from (scheme_of functions header) header 0 logs
+histories_read_back functions header logs back = histories_from_texts (scheme_of functions header) header 0 logs back
 
 -- ---- how a report ends
 
 -- whole logs that no verifier refuses
-pub none_among : (scheme : Scheme) (header : Header) (number : ℕ) (logs : List (List Command)) (d : List Command) → names_paths header ≡ true
-    → ((i : ℕ) → i < length logs → path_log_refusal scheme header (number + i) (get_or logs i d) ≡ None)
-    → refused_among scheme header number (map whole_log logs) ≡ None
-none_among scheme header number [] d by_path none = refl
-none_among scheme header number (log ∷ logs) d by_path none =
-    ap (λ (o : Option Refusal). option_or (option_map (refused_end number)
-    (option_map (λ refusal. (length (log_events scheme header number (map ByPath log)), refusal)) (refusal_by o whole)))
-    (refused_among scheme header (suc number) (map whole_log logs)))
-    (log_refusal-by_path scheme header number log by_path
-    ∙ subst (λ (n : ℕ). path_log_refusal scheme header n log ≡ None) (omega arith) (none 0 (omega arith)))
-    ∙ none_among scheme header (suc number) logs d by_path
-    (λ i within. subst (λ (n : ℕ). path_log_refusal scheme header n (get_or logs i d) ≡ None) (omega arith) (none (suc i) (omega (arith, within))))
+pub none_among : (scheme : Scheme) (header : Header) (number : ℕ) (logs : List (List Command)) → AreReadBack scheme header number logs
+    → refused_among scheme header number (map (read_log (format_of header)) (logs_written_from header number logs)) ≡ None
+none_among scheme header number [] back = refl
+none_among scheme header number (log ∷ logs) back =
+    ap (λ (l : Log). option_or (option_map (refused_end number)
+    (option_map (λ refusal. (length (log_events scheme header number l.commands), refusal)) (refusal_by (log_refusal scheme header number l.commands) l.end))) more) back.0.read
+    ∙ (ap (λ (o : Option Refusal). option_or (option_map (refused_end number)
+    (option_map (λ refusal. (length (log_events scheme header number back.0.commands), refusal)) (refusal_by o whole))) more) back.0.accepted
+    ∙ none_among scheme header (suc number) logs back.1)
+  where
+    more : Option BundleEnd
+    more = refused_among scheme header (suc number) (map (read_log (format_of header)) (logs_written_from header (suc number) logs))
 
 -- Where all that is sealed is certified, and no log is refused, a check of whole logs comes to the end.
 pub end_done : (scheme : Scheme) (header : Header) (logs : List Log) (hs : List (List Event))
@@ -99,9 +169,12 @@ empty_texts format (suc n) =
     ∙ ap (λ (ls : List Log). empty_log ∷ ls) (empty_texts format n)
 
 -- logs with no commands have no bytes
-pub texts_of_none : (n : ℕ) → texts_of (replicate n []) ≡ replicate n []
-texts_of_none zero = refl
-texts_of_none (suc n) = ap (λ (texts : List (List ℕ)). [] ∷ texts) (texts_of_none n)
+texts_from_none : (header : Header) (number n : ℕ) → logs_written_from header number (replicate n []) ≡ replicate n []
+texts_from_none header number zero = refl
+texts_from_none header number (suc n) = ap (λ (texts : List (List ℕ)). [] ∷ texts) (texts_from_none header (suc number) n)
+
+pub texts_of_none : (header : Header) (n : ℕ) → written_logs header (replicate n []) ≡ replicate n []
+texts_of_none header n = texts_from_none header 0 n
 
 none_sealed : (scheme : Scheme) (header : Header) (number n : ℕ)
     → sealed_by_all (histories_from scheme header number (map (λ (log : Log). log.commands) (replicate n empty_log))) ≡ 0

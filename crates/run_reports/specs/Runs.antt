@@ -1,9 +1,7 @@
--- The worlds of runs, and the bytes of their logs.
-use Rattle.std.specs.Prelude.{ℕ, ◌^◌, ◌<◌, List, map}
+-- The worlds of runs.
+use Rattle.std.specs.Prelude.{◌^◌, ◌<◌, List}
 use Rattle.record_hash.specs.Functions.{DigestFunctions}
 use Rattle.record_text.specs.declared.request.Request.{Request}
-use Rattle.log_codec.specs.declared.command.Command.{Command}
-use Rattle.log_codec.specs.Log.{path_log_text}
 use Rattle.script_text.specs.declared.task.Task.{Task}
 use Rattle.host_shard.specs.Content.{Content}
 use Rattle.host_core.specs.Host.{Host}
@@ -12,10 +10,6 @@ use Rattle.host_core.specs.WorldEvent.{WorldEvent, AreEnabled, run_events}
 use Rattle.host_world.specs.declared.settings.Settings.{Settings}
 use Rattle.host_world.specs.ShippedHost.{shipped_host}
 use Rattle.host_fits.specs.Promise.{CanRun}
-
--- the bytes of logs
-abbrev pub texts_of : List (List Command) → List (List ℕ)
-texts_of logs = map path_log_text logs
 
 -- P holds of whatever shipped host can run, and of the world behind every list of events that are enabled from its setup
 -- on. The first epoch has 32 bits, as many as a log spells.

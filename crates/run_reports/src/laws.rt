@@ -1,11 +1,12 @@
-//! What a check makes of the bytes of the shipped host's logs, behind whatever events. The functions do nothing: their
-//! contracts are the laws.
+//! What a check makes of the bytes of the shipped host's logs, in either version and behind whatever events. The functions
+//! do nothing: their contracts are the laws.
 ghost use Rattle.std.specs.Prelude.{◌≡◌, ℕ, suc, ◌<◌, ◌≤◌, false, List, [], length, map, take, replicate, get_or, Some, None};
 ghost use Rattle.record_hash.specs.Functions.{DigestFunctions};
 ghost use Rattle.lamport_clocks.specs.declared.header.Header.{Header};
 ghost use Rattle.record_text.specs.declared.exhibit.Exhibit.TheVariants.{Clean};
 ghost use Rattle.record_text.specs.Format.{format_of};
 ghost use Rattle.log_codec.specs.Log.{read_log};
+ghost use Rattle.slot_rewriting.specs.Writing.{written_logs, ComeToRestFrom};
 ghost use Rattle.merkle_records.specs.Merkle.{GivesDigests};
 ghost use Rattle.report_text.specs.declared.ending.BundleEnd.TheVariants.{Done};
 ghost use Rattle.stamp_order.specs.Serial.{IsSerial};
@@ -19,16 +20,23 @@ ghost use Rattle.host_core.specs.Deeds.{answers_in};
 ghost use Rattle.host_core.specs.Core.{histories};
 ghost use Rattle.bundle_report.specs.Report.{EpochText};
 ghost use Rattle.host_rounds.specs.SoFar.{lines_due, operations_due, epochs_due, end_due};
-ghost use Rattle.run_reports.specs.Runs.{texts_of, HoldsOfRuns};
+ghost use Rattle.run_reports.specs.Runs.{HoldsOfRuns};
 
 use host_fits::the_shipped_host_keeps_its_promise;
 
 /// The histories that a check reads of the bytes of the logs are those of the host's world, and it refuses no log.
 pub fn a_check_reads_what_the_host_logged()
     ensures histories { HoldsOfRuns (λ host world.
-        histories_at (scheme host) host.header (texts_of (logs_of world)) ≡ histories host world) }
+        histories_at (scheme host) host.header (written_logs host.header (logs_of world)) ≡ histories host world) }
     ensures none_refused { HoldsOfRuns (λ host world.
-        refused_among (scheme host) host.header 0 (map (read_log (format_of host.header)) (texts_of (logs_of world))) ≡ None) }
+        refused_among (scheme host) host.header 0 (map (read_log (format_of host.header)) (written_logs host.header (logs_of world))) ≡ None) }
+{
+    the_shipped_host_keeps_its_promise();
+}
+
+/// Behind each log the slots of its verifier are as at the start, so what is logged next is written as a log of its own.
+pub fn logs_come_to_rest()
+    ensures rests { HoldsOfRuns (λ host world. ComeToRestFrom host.header 0 (logs_of world)) }
 {
     the_shipped_host_keeps_its_promise();
 }
@@ -37,11 +45,11 @@ pub fn a_check_reads_what_the_host_logged()
 /// twice, behind a whole last close, these are the epochs of all phases.
 pub fn a_check_of_the_logs_ends_as_the_host_promises()
     ensures end { HoldsOfRuns (λ host world.
-        end_due host.functions host.header (texts_of (logs_of world))
+        end_due host.functions host.header (written_logs host.header (logs_of world))
         ≡ Done (certified_count (scheme host) host.header.first (histories host world))) }
     ensures whole { HoldsOfRuns (λ host world.
         ((i : ℕ) → i < length world.workers → HasAdvanced host world i 2)
-        → end_due host.functions host.header (texts_of (logs_of world)) ≡ Done (suc world.phase)) }
+        → end_due host.functions host.header (written_logs host.header (logs_of world)) ≡ Done (suc world.phase)) }
 {
     the_shipped_host_keeps_its_promise();
 }
@@ -53,14 +61,14 @@ pub fn logs_of_no_bytes_certify_nothing()
     ensures lines { (tell : EpochText) (functions : DigestFunctions) (header : Header) → lines_due tell functions header (replicate header.verifiers []) ≡ [] }
     ensures epochs { (functions : DigestFunctions) (header : Header) → epochs_due functions header (replicate header.verifiers []) ≡ 0 }
     ensures operations { (functions : DigestFunctions) (header : Header) → operations_due functions header (replicate header.verifiers []) ≡ [] }
-    ensures texts { (count : ℕ) → texts_of (replicate count []) ≡ replicate count [] }
+    ensures texts { (header : Header) (count : ℕ) → written_logs header (replicate count []) ≡ replicate count [] }
 {}
 
 /// An audit of the logs has nothing to show, and the operations that a check certifies are serial.
 pub fn a_check_finds_nothing_to_show()
-    ensures clean { HoldsOfRuns (λ host world. exhibit_at host.functions (Some host.header) (texts_of (logs_of world)) ≡ Clean) }
+    ensures clean { HoldsOfRuns (λ host world. exhibit_at host.functions (Some host.header) (written_logs host.header (logs_of world)) ≡ Clean) }
     ensures serial { HoldsOfRuns (λ host world.
-        IsSerial (certified_operations (scheme host) host.header.first (histories_at (scheme host) host.header (texts_of (logs_of world))))) }
+        IsSerial (certified_operations (scheme host) host.header.first (histories_at (scheme host) host.header (written_logs host.header (logs_of world))))) }
 {
     the_shipped_host_keeps_its_promise();
 }
@@ -69,12 +77,12 @@ pub fn a_check_finds_nothing_to_show()
 /// and no clock ended, they are all that it asks.
 pub fn a_check_finds_what_the_script_asks()
     ensures answered { HoldsOfRuns (λ host world. (i : ℕ) → i < length world.workers
-        → answers_in (get_or (histories_at (scheme host) host.header (texts_of (logs_of world))) i [])
+        → answers_in (get_or (histories_at (scheme host) host.header (written_logs host.header (logs_of world))) i [])
         ≡ take (worker_at host world i).served (script_of host i)) }
     ensures done { HoldsOfRuns (λ host world. length host.script ≤ suc world.phase → IsPhaseOver host world
         → ((i : ℕ) → i < length world.workers → (worker_at host world i).stopped ≡ false)
         → (i : ℕ) → i < length world.workers
-        → answers_in (get_or (histories_at (scheme host) host.header (texts_of (logs_of world))) i []) ≡ script_of host i) }
+        → answers_in (get_or (histories_at (scheme host) host.header (written_logs host.header (logs_of world))) i []) ≡ script_of host i) }
 {
     the_shipped_host_keeps_its_promise();
 }

@@ -1,7 +1,8 @@
 -- What is written of logs, part by part, by path and by slot.
-use Rattle.std.proofs.Common.{◌≡◌, ℕ, zero, suc, ◌+◌, ◌<◌, Bool, true, false, not, ◌&&◌, List, [], ◌∷◌, ◌++◌, length, get_or, if◌then◌else◌, refl, sym, ◌∙◌, ap, arith}
+use Rattle.std.proofs.Common.{◌≡◌, ℕ, zero, suc, ◌+◌, ◌<◌, Bool, true, false, not, ◌&&◌, List, [], ◌∷◌, ◌++◌, length, take, get_or, if◌then◌else◌, append-nil, take-suc, refl, sym, ◌∙◌, ap, arith}
 use Rattle.std.specs.List.{flat_map}
 use Rattle.std.proofs.lemmas.List.{append_assoc}
+use Rattle.std.proofs.lemmas.List.Concat.{flat_map-append}
 use Rattle.std.proofs.lemmas.Bool.{and_from}
 use Rattle.lamport_clocks.specs.declared.header.Header.{Header}
 use Rattle.lamport_clocks.specs.Header.{names_paths}
@@ -30,6 +31,51 @@ pub writer_behind-append : (writer : CommandWriter) (commands more : List Comman
     → writer_behind writer (commands ++ more) ≡ writer_behind (writer_behind writer commands) more
 writer_behind-append writer [] more = refl
 writer_behind-append writer (command ∷ commands) more = writer_behind-append (writer_after writer command) commands more
+
+-- the front of a list with one more
+next_front : {X : Type 0} (xs : List X) (k n : ℕ) (x : X) → n ≡ suc k → k < length xs → x ≡ get_or xs k x → take n xs ≡ take k xs ++ x ∷ []
+next_front {X} xs k n x next there is = ap (λ (m : ℕ). take m xs) next ∙ take-suc xs k x there ∙ ap (λ (y : X). take k xs ++ y ∷ []) (sym is)
+
+pub text_from-next : (writer : CommandWriter) (commands : List Command) (k n : ℕ) (command : Command) → n ≡ suc k → k < length commands → command ≡ get_or commands k command
+    → text_from writer (take n commands) ≡ text_from writer (take k commands) ++ text_by (writer_behind writer (take k commands)) command
+text_from-next writer commands k n command next there is =
+    ap (text_from writer) (next_front commands k n command next there is)
+    ∙ text_from-append writer (take k commands) (command ∷ [])
+    ∙ ap (λ (text : List ℕ). text_from writer (take k commands) ++ text) (append-nil (text_by (writer_behind writer (take k commands)) command))
+
+pub writer_behind-next : (writer : CommandWriter) (commands : List Command) (k n : ℕ) (command : Command) → n ≡ suc k → k < length commands → command ≡ get_or commands k command
+    → writer_behind writer (take n commands) ≡ writer_after (writer_behind writer (take k commands)) command
+writer_behind-next writer commands k n command next there is =
+    ap (writer_behind writer) (next_front commands k n command next there is) ∙ writer_behind-append writer (take k commands) (command ∷ [])
+
+-- bytes behind which the text of a log so far stands, and the next text behind them
+pub grown-by : (first some text more before after : List ℕ) → before ≡ first ++ some → after ≡ before ++ text → more ≡ some ++ text → after ≡ first ++ more
+grown-by first some text more before after so_far next is =
+    next ∙ ap (λ (bytes : List ℕ). bytes ++ text) so_far ∙ append_assoc first some text ∙ ap (λ (bytes : List ℕ). first ++ bytes) (sym is)
+
+-- the same of commands in parts, one part behind another
+one_part_more : (parts : List (List Command)) (part : List Command) → flat_map (λ c. c) (parts ++ part ∷ []) ≡ flat_map (λ c. c) parts ++ part
+one_part_more parts part =
+    flat_map-append (λ (c : List Command). c) parts (part ∷ []) ∙ ap (λ (commands : List Command). flat_map (λ c. c) parts ++ commands) (append-nil part)
+
+pub text_from-part : (writer : CommandWriter) (parts : List (List Command)) (part : List Command)
+    → text_from writer (flat_map (λ c. c) (parts ++ part ∷ [])) ≡ text_from writer (flat_map (λ c. c) parts) ++ text_from (writer_behind writer (flat_map (λ c. c) parts)) part
+text_from-part writer parts part = ap (text_from writer) (one_part_more parts part) ∙ text_from-append writer (flat_map (λ c. c) parts) part
+
+pub writer_behind-part : (writer : CommandWriter) (parts : List (List Command)) (part : List Command)
+    → writer_behind writer (flat_map (λ c. c) (parts ++ part ∷ [])) ≡ writer_behind (writer_behind writer (flat_map (λ c. c) parts)) part
+writer_behind-part writer parts part = ap (writer_behind writer) (one_part_more parts part) ∙ writer_behind-append writer (flat_map (λ c. c) parts) part
+
+pub text_from-next_part : (writer : CommandWriter) (parts : List (List Command)) (k n : ℕ) (part : List Command) → n ≡ suc k → k < length parts → part ≡ get_or parts k part
+    → text_from writer (flat_map (λ c. c) (take n parts))
+    ≡ text_from writer (flat_map (λ c. c) (take k parts)) ++ text_from (writer_behind writer (flat_map (λ c. c) (take k parts))) part
+text_from-next_part writer parts k n part next there is =
+    ap (λ (ps : List (List Command)). text_from writer (flat_map (λ c. c) ps)) (next_front parts k n part next there is) ∙ text_from-part writer (take k parts) part
+
+pub writer_behind-next_part : (writer : CommandWriter) (parts : List (List Command)) (k n : ℕ) (part : List Command) → n ≡ suc k → k < length parts → part ≡ get_or parts k part
+    → writer_behind writer (flat_map (λ c. c) (take n parts)) ≡ writer_behind (writer_behind writer (flat_map (λ c. c) (take k parts))) part
+writer_behind-next_part writer parts k n part next there is =
+    ap (λ (ps : List (List Command)). writer_behind writer (flat_map (λ c. c) ps)) (next_front parts k n part next there is) ∙ writer_behind-part writer (take k parts) part
 
 -- behind a log that comes to rest a log goes on as one of its own
 pub written_log-append : (header : Header) (number : ℕ) (commands more : List Command) → ComesToRest header number commands

@@ -1,5 +1,5 @@
 -- What a run has read, piece by piece, and what a worker put in.
-use Rattle.std.proofs.Common.{◌≡◌, ℕ, suc, ◌+◌, ◌-◌, ◌^◌, ◌<◌, ◌≤◌, false, min, length-append, List, [], ◌∷◌, ◌++◌, length, take, get_or, Option, Some, take-suc, refl, sym, ◌∙◌, ap, subst, append_assoc, append-nil, arith}
+use Rattle.std.proofs.Common.{◌≡◌, ℕ, suc, ◌+◌, ◌-◌, ◌^◌, ◌<◌, ◌≤◌, false, min, length-append, List, [], ◌∷◌, ◌++◌, length, take, get_or, Option, Some, refl, sym, ◌∙◌, ap, subst, append_assoc, append-nil, arith}
 use Rattle.std.specs.List.{All}
 use Rattle.std.specs.Option.{option_to_list}
 use Rattle.std.proofs.lemmas.List.Elements.{All-push}
@@ -7,8 +7,9 @@ use Rattle.std.proofs.lemmas.Grind.{flat_map-append}
 use Rattle.record_hash.specs.Functions.{DigestFunctions}
 use Rattle.record_text.specs.declared.operation.Operation.{Operation}
 use Rattle.log_codec.specs.declared.command.Command.{Command}
-use Rattle.log_codec.specs.Command.{path_command_text}
-use Rattle.log_codec.specs.Log.{path_log_text}
+use Rattle.slot_rewriting.specs.declared.writer.CommandWriter.{CommandWriter}
+use Rattle.slot_rewriting.specs.Writing.{text_by, text_from, writer_behind}
+use Rattle.slot_rewriting.proofs.WritingLaws.{text_from-next}
 use Rattle.merkle_records.specs.Scheme.{Scheme, scheme_of}
 use Rattle.lamport_clocks.specs.declared.header.Header.{Header}
 use Rattle.verifier_run.specs.Kept.{keeps_operations}
@@ -103,19 +104,16 @@ pub oldest : {X : Type 0} (old new : List X) (found : Option X) (x : X) → foun
 oldest old new found x some is = is ∙ ap (λ (o : Option _). option_to_list o ++ new) some
 
 -- commands that are written, with one more
-pub written-more : (commands : List Command) (k n : ℕ) (command : Command) (queued buffer after first : List ℕ) → n ≡ suc k → k < length commands
-    → command ≡ get_or commands k command → queued ++ buffer ≡ first ++ path_log_text (take k commands) → after ≡ buffer ++ path_command_text command
-    → queued ++ after ≡ first ++ path_log_text (take n commands)
-written-more commands k n command queued buffer after first next there is so_far pushed =
+pub written-more : (writer : CommandWriter) (commands : List Command) (k n : ℕ) (command : Command) (queued buffer after first : List ℕ) → n ≡ suc k → k < length commands
+    → command ≡ get_or commands k command → queued ++ buffer ≡ first ++ text_from writer (take k commands)
+    → after ≡ buffer ++ text_by (writer_behind writer (take k commands)) command → queued ++ after ≡ first ++ text_from writer (take n commands)
+written-more writer commands k n command queued buffer after first next there is so_far pushed =
+    let text : List ℕ = text_by (writer_behind writer (take k commands)) command in
     ap (λ (bytes : List ℕ). queued ++ bytes) pushed
-    ∙ sym (append_assoc queued buffer (path_command_text command))
-    ∙ ap (λ (bytes : List ℕ). bytes ++ path_command_text command) so_far
-    ∙ append_assoc first (path_log_text (take k commands)) (path_command_text command)
-    ∙ ap (λ (bytes : List ℕ). first ++ bytes)
-    (ap (λ (bytes : List ℕ). path_log_text (take k commands) ++ bytes) (sym (append-nil (path_command_text command)))
-    ∙ sym (flat_map-append path_command_text (take k commands) (command ∷ []))
-    ∙ sym (ap (λ (m : ℕ). path_log_text (take m commands)) next
-    ∙ ap path_log_text (take-suc commands k command there ∙ ap (λ (c : Command). take k commands ++ c ∷ []) (sym is))))
+    ∙ sym (append_assoc queued buffer text)
+    ∙ ap (λ (bytes : List ℕ). bytes ++ text) so_far
+    ∙ append_assoc first (text_from writer (take k commands)) text
+    ∙ ap (λ (bytes : List ℕ). first ++ bytes) (sym (text_from-next writer commands k n command next there is))
 
 -- ---- how long parcels are
 

@@ -2,6 +2,7 @@
 use Rattle.std.specs.Prelude.{◌≡◌, ℕ, ◌+◌, ◌-◌, ◌^◌, ◌≤◌, Bool, true, false, List, [], ◌∷◌, ◌++◌, length, min}
 use Rattle.std.specs.List.{All, flat_map}
 use Rattle.record_hash.specs.Functions.{DigestFunctions}
+use Rattle.slot_rewriting.specs.declared.writer.CommandWriter.{CommandWriter}
 use Rattle.merkle_records.specs.Scheme.{scheme_of}
 use Rattle.verifier_run.specs.Kept.{keeps_operations}
 use Rattle.verifier_run.specs.Progress.{fed, weight}
@@ -30,6 +31,10 @@ rest_of outbox = outbox.buffer
 -- all bytes that were put in
 abbrev pub put_in : Outbox → List ℕ
 put_in outbox = bytes_of (queued outbox) ++ outbox.buffer
+
+-- what writes the next command
+abbrev pub writer_of : Outbox → CommandWriter
+writer_of outbox = outbox.writer
 
 -- both are the sending end of one lane
 abbrev pub SameOutbox : Outbox → Outbox → Type 0
@@ -106,10 +111,11 @@ ReadsOn functions more old new =
 abbrev pub AreEndsOfOne : Outbox → Inbox → Type 0
 AreEndsOfOne outbox inbox = AreEnds outbox.sender inbox.receiver
 
--- A feed that is open: nothing was put in, nothing came out, and this is its run.
-pub record IsOpen (run : FedRun) (outbox : Outbox) (inbox : Inbox) : Type 0 where
+-- A feed that is open: nothing was put in, nothing came out, and these are its run and its writer.
+pub record IsOpen (run : FedRun) (writer : CommandWriter) (outbox : Outbox) (inbox : Inbox) : Type 0 where
   pub ends : AreEndsOfOne outbox inbox
   pub empty : put_in outbox ≡ []
+  pub writer_is : writer_of outbox ≡ writer
   pub capacity : free_room outbox ≡ 16
   pub fresh : received_by inbox.receiver ≡ []
   pub run_is : run_of inbox ≡ run

@@ -1,6 +1,6 @@
 //! How a verifier is fed while its worker serves.
 //!
-//! A worker puts the texts of its commands into an `Outbox`, which sends them through a lane of `log_rings` in parcels. The
+//! A worker puts its commands into an `Outbox`, which writes their texts by a writer of `slot_rewriting` and sends them through a lane of `log_rings` in parcels. The
 //! verifier's `Inbox` polls the lane and feeds the run what comes. Neither waits for the other, so once both threads have come
 //! together `settle` feeds the run what is left. `specs/Feeds.antt` says what is known of both ends. Begin with `open` in
 //! `opening.rt`.

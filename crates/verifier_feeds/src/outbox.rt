@@ -8,17 +8,19 @@ use base_words::Memory;
 use host_log::LogBuffer;
 use log_codec::Command;
 use log_rings::{Parcel, Sender};
+use slot_rewriting::CommandWriter;
 use std::collections::VecDeque;
 
 /// From so many bytes on a parcel is sent.
 const LEAST_PARCEL: usize = 4_096;
 
-/// Where a worker puts what it logs, on the way to its verifier: what was sent, what waits for room in the lane, and what is
-/// in no parcel yet. Only a worker's last parcel of the round may be short, and none waits where there is room.
+/// Where a worker puts what it logs, on the way to its verifier: the writer of its log, what was sent, what waits for room in the
+/// lane, and what is in no parcel yet. Only a worker's last parcel of the round may be short, and none waits where there is room.
 ///
 /// After want of memory it is of no more use.
 #[derive(Drop)]
 pub struct Outbox {
+    pub(crate) writer: CommandWriter,
     pub(crate) sender: Sender,
     pub(crate) backlog: VecDeque<Parcel>,
     pub(crate) buffer: LogBuffer,
@@ -30,12 +32,14 @@ pub struct Outbox {
 impl Outbox {
     ghost use Rattle.std.specs.Prelude.{◌≡◌, ◌<◌, ◌≤◌, false, [], ◌∷◌, ◌++◌, length, OnOk};
     ghost use Rattle.record_text.specs.Longest.{longest_blob};
-    ghost use Rattle.log_codec.specs.Log.{path_log_text};
-    ghost use Rattle.verifier_feeds.specs.Feeds.{put_in, queued, rest_of, AreLongEnough, HasEnded, SameOutbox, WaitsForRoom};
+    ghost use Rattle.slot_rewriting.specs.Writing.{text_from, writer_behind};
+    ghost use Rattle.verifier_feeds.specs.Feeds.{put_in, queued, rest_of, writer_of, AreLongEnough, HasEnded, SameOutbox, WaitsForRoom};
 
-    /// Puts commands in, behind what is there. Where that makes a parcel of 4,096 bytes or more, it goes on its way.
+    /// Puts commands in, as its writer writes them, behind what is there. Where that makes a parcel of 4,096 bytes or more, it goes on
+    /// its way.
     pub fn put(&mut self, commands: &[Command]) -> Result<(), Memory>
-        ensures put { OnOk result (put_in self.new ≡ put_in self.old ++ path_log_text commands.now) }
+        ensures put { OnOk result (put_in self.new ≡ put_in self.old ++ text_from (writer_of self.old) commands.now) }
+        ensures behind { OnOk result (writer_of self.new ≡ writer_behind (writer_of self.old) commands.now) }
         ensures rest { OnOk result (length (rest_of self.new) < 4096) }
         ensures enough { AreLongEnough self.new }
         ensures waits { WaitsForRoom self.new }
@@ -52,6 +56,7 @@ impl Outbox {
     pub fn end(&mut self) -> Result<(), Memory>
         ensures put { OnOk result (put_in self.new ≡ put_in self.old) }
         ensures ended { OnOk result (HasEnded self.new) }
+        ensures writer { writer_of self.new ≡ writer_of self.old }
         ensures enough { AreLongEnough self.new }
         ensures waits { WaitsForRoom self.new }
         ensures lane { SameOutbox self.old self.new }
@@ -61,11 +66,12 @@ impl Outbox {
 
     // Writes commands behind what is in no parcel yet.
     fn write(&mut self, commands: &[Command]) -> Result<(), Memory>
-        ensures put { OnOk result (put_in self.new ≡ put_in self.old ++ path_log_text commands.now) }
+        ensures put { OnOk result (put_in self.new ≡ put_in self.old ++ text_from (writer_of self.old) commands.now) }
+        ensures behind { OnOk result (writer_of self.new ≡ writer_behind (writer_of self.old) commands.now) }
         ensures lane { SameOutbox self.old self.new }
     {
         for command in commands {
-            self.buffer.push(command)?;
+            self.buffer.push(&mut self.writer, command)?;
         }
         Ok(())
     }
@@ -77,6 +83,7 @@ impl Outbox {
         ensures queued { OnOk result (queued self.new
             ≡ queued self.old ++ (record { number = self.old.parcels; buffer = self.old.buffer; last = last }) ∷ []) }
         ensures rest { OnOk result (self.new.buffer ≡ []) }
+        ensures writer { writer_of self.new ≡ writer_of self.old }
         ensures lane { SameOutbox self.old self.new }
     {
         let parcel = Parcel {

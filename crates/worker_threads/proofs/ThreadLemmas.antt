@@ -5,7 +5,9 @@ use Rattle.std.proofs.lemmas.List as lists
 use Rattle.std.proofs.lemmas.List.{length-map, map_push, get_or_default}
 use Rattle.std.proofs.lemmas.List.Elements.{All-push, All-get_or, All-from_get_or}
 use Rattle.record_hash.specs.Functions.{DigestFunctions}
-use Rattle.log_codec.specs.Log.{path_log_text}
+use Rattle.lamport_clocks.specs.declared.header.Header.{Header}
+use Rattle.slot_rewriting.specs.declared.writer.CommandWriter.{CommandWriter}
+use Rattle.slot_rewriting.specs.Writing.{opening_writer, text_from, written_log}
 use Rattle.verifier_run.specs.Progress.{weight}
 use Rattle.certified_epochs.specs.declared.fed_run.FedRun.{FedRun}
 use Rattle.host_rounds.specs.Feeding.{Reads}
@@ -21,7 +23,7 @@ use Rattle.host_table.specs.Phase.{row_at}
 use Rattle.host_table.specs.Terms.{Terms, IsClockOf}
 use Rattle.worker_threads.specs.declared.worker_pair.WorkerPair.{WorkerPair}
 use Rattle.worker_threads.specs.Parts.{asked_of, HasDone, IsThrough}
-use Rattle.worker_threads.specs.Pairs.{HasFed, IsPairReady, IsOpened, parcels_in, run_in}
+use Rattle.worker_threads.specs.Pairs.{HasFed, IsPairReady, IsOpened, parcels_in, run_in, writer_in}
 use Rattle.worker_threads.specs.Participants.{worker_in, hand_in, AreToServe, HaveAll, HaveServed, HaveReadLogs}
 
 -- ---- threads that are ready
@@ -62,8 +64,9 @@ few_left bytes runs left run few is = λ i d there. subst (λ (rs : List FedRun)
 pub few_first : (bytes : ℕ) (runs left : List FedRun) (run : FedRun) → All (λ fed. weight fed.run ≤ bytes) runs → runs ≡ run ∷ left → weight run.run ≤ bytes
 few_first bytes runs left run few is = subst (λ (rs : List FedRun). All (λ fed. weight fed.run ≤ bytes) rs) is few 0 run (omega arith)
 
-pub opened_all : (threads after : List WorkerPair) (thread : WorkerPair) → All IsOpened threads → IsOpened thread → after ≡ threads ++ thread ∷ [] → All IsOpened after
-opened_all threads after thread all one pushed = subst (All IsOpened) (sym pushed) (All-push IsOpened threads thread all one)
+pub opened_all : (header : Header) (threads after : List WorkerPair) (thread : WorkerPair) → All (IsOpened header) threads → IsOpened header thread
+    → after ≡ threads ++ thread ∷ [] → All (IsOpened header) after
+opened_all header threads after thread all one pushed = subst (All (IsOpened header)) (sym pushed) (All-push (IsOpened header) threads thread all one)
 
 -- ---- before they serve
 
@@ -86,16 +89,27 @@ module _ (terms : Terms) (table : TableId) (threads : List WorkerPair) (workers 
     ap (λ (hs : List Hand). length hs) (sym hands_are) ∙ length-map threads hand_in,
   )
 
+  -- the hand at a thread is that of its number
+  number_at : AreToServe terms table workers hands → (i : ℕ) (d : WorkerPair) → i < length threads → worker_of (get_or threads i d).thread.hand ≡ i
+  number_at ready i d there =
+      ap worker_of (sym (hand_at i d)) ∙ ready.all.numbers i d.thread.hand (let counts = threads_are in omega (arith, there, counts.1))
+
+  -- and so is its writer
+  pub writer_at : AreToServe terms table workers hands → (header : Header) → All (IsOpened header) threads
+      → (i : ℕ) (d : WorkerPair) → i < length threads → writer_in (get_or threads i d) ≡ opening_writer i header
+  writer_at ready header opened i d there =
+      (All-get_or (IsOpened header) threads i d there opened).writer ∙ ap (λ (n : ℕ). opening_writer n header) (number_at ready i d there)
+
   -- Workers that are to serve are at their threads.
-  pub are_ready : AreToServe terms table workers hands → All IsOpened threads → All (IsPairReady terms table) threads
-  are_ready ready opened = go threads refl
+  pub are_ready : AreToServe terms table workers hands → (header : Header) → All (IsOpened header) threads → All (IsPairReady terms table) threads
+  are_ready ready header opened = go threads refl
     where
       one : (d : WorkerPair) (i : ℕ) → i < length threads → IsPairReady terms table (get_or threads i d)
       one d i there =
           let counts = threads_are in
           let in_workers : i < length workers = omega (arith, there, counts.0) in
           let in_hands : i < length hands = omega (arith, there, counts.1) in
-          let feed = All-get_or IsOpened threads i d there opened in
+          let feed = All-get_or (IsOpened header) threads i d there opened in
           record {
             ready = record {
               free = subst (IsFree table) (hand_at i d) (All-get_or (IsFree table) hands i d.thread.hand in_hands ready.all.free);
@@ -128,10 +142,8 @@ module _ (terms : Terms) (table : TableId) (threads : List WorkerPair) (workers 
     left_count : length left ≡ length threads
     left_count = ap (λ (hs : List Hand). length hs) left_are ∙ length-map later hand_in ∙ many
 
-    -- the hand at a thread is that of its number
     number_is : (i : ℕ) (d : WorkerPair) → i < length threads → worker_of (get_or threads i d).thread.hand ≡ i
-    number_is i d there =
-        ap worker_of (sym (hand_at i d)) ∙ ready.all.numbers i d.thread.hand (let counts = threads_are in omega (arith, there, counts.1))
+    number_is i d there = number_at ready i d there
 
     numbers : (i : ℕ) (e : Hand) → i < length left → worker_of (get_or left i e) ≡ i
     numbers i e within =
@@ -185,7 +197,8 @@ module _ (terms : Terms) (table : TableId) (threads : List WorkerPair) (workers 
 
 -- ---- what the runs took
 
-module _ (functions : DigestFunctions) (threads later : List WorkerPair) (workers : List Worker) (old new : List FedRun) (olds_are : map run_in threads ≡ old)
+module _ (functions : DigestFunctions) (header : Header) (threads later : List WorkerPair) (workers : List Worker) (old new : List FedRun)
+    (writers : (i : ℕ) (d : WorkerPair) → i < length threads → writer_in (get_or threads i d) ≡ opening_writer i header) (olds_are : map run_in threads ≡ old)
     (workers_are : workers ≡ map worker_in later) (news_are : new ≡ map run_in later) (none : All HaveAll later) (many : length later ≡ length threads)
     (fed : (i : ℕ) (d : WorkerPair) → i < length threads → HasFed functions (get_or threads i d) (get_or later i d)) where
   counts : (length old ≡ length threads) × (length workers ≡ length threads) × (length new ≡ length threads)
@@ -195,7 +208,7 @@ module _ (functions : DigestFunctions) (threads later : List WorkerPair) (worker
     ap (λ (rs : List FedRun). length rs) news_are ∙ length-map later run_in ∙ many,
   )
 
-  each_took : (i : ℕ) (e : Worker) (run : FedRun) → i < length workers → Reads functions (path_log_text (get_or workers i e).log) (get_or old i run) (get_or new i run)
+  each_took : (i : ℕ) (e : Worker) (run : FedRun) → i < length workers → Reads functions (written_log header i (get_or workers i e).log) (get_or old i run) (get_or new i run)
   each_took i e run within =
       let there : i < length threads = omega (arith, within, counts.1) in
       let d = first_of threads i there in
@@ -206,13 +219,15 @@ module _ (functions : DigestFunctions) (threads later : List WorkerPair) (worker
       get_or_default old i run (run_in d) (omega (arith, there, counts.0)) ∙ ap (λ (rs : List FedRun). get_or rs i (run_in d)) (sym olds_are) ∙ get_or-map run_in threads i d in
       let after : get_or new i run ≡ run_in (get_or later i d) =
       get_or_default new i run (run_in d) (omega (arith, there, counts.2)) ∙ ap (λ (rs : List FedRun). get_or rs i (run_in d)) news_are ∙ get_or-map run_in later i d in
-      subst (λ (w : Worker). Reads functions (path_log_text w.log) (get_or old i run) (get_or new i run)) (sym worker)
-      (subst (λ (r : FedRun). Reads functions (path_log_text (get_or later i d).thread.worker.log) r (get_or new i run)) (sym before)
-      (subst (λ (r : FedRun). Reads functions (path_log_text (get_or later i d).thread.worker.log) (run_in (get_or threads i d)) r) (sym after)
-      (fed i d there all.worker all.verifier)))
+      let log = (get_or later i d).thread.worker.log in
+      subst (λ (w : Worker). Reads functions (written_log header i w.log) (get_or old i run) (get_or new i run)) (sym worker)
+      (subst (λ (r : FedRun). Reads functions (written_log header i log) r (get_or new i run)) (sym before)
+      (subst (λ (r : FedRun). Reads functions (written_log header i log) (run_in (get_or threads i d)) r) (sym after)
+      (subst (λ (w : CommandWriter). Reads functions (text_from w log) (run_in (get_or threads i d)) (run_in (get_or later i d))) (writers i d there)
+      (fed i d there all.worker all.verifier))))
 
   -- Each took what is in its worker's log.
-  pub have_taken : HaveReadLogs functions workers old new
+  pub have_taken : HaveReadLogs functions header workers old new
   have_taken = record {
     olds = counts.0 ∙ sym counts.1;
     news = counts.2 ∙ sym counts.1;
@@ -220,15 +235,16 @@ module _ (functions : DigestFunctions) (threads later : List WorkerPair) (worker
   }
 
 -- The same where the pairs were left well.
-pub taken_well : {X E : Type 0} (functions : DigestFunctions) (threads : List WorkerPair) (old : List FedRun) (r : Result X E) (workers_in : X → List Worker) (runs_in : X → List FedRun)
+pub taken_well : {X E : Type 0} (functions : DigestFunctions) (header : Header) (threads : List WorkerPair)
+    (writers : (i : ℕ) (d : WorkerPair) → i < length threads → writer_in (get_or threads i d) ≡ opening_writer i header) (old : List FedRun) (r : Result X E) (workers_in : X → List Worker) (runs_in : X → List FedRun)
     (later seen : List WorkerPair) → map run_in threads ≡ old → seen ≡ later → IfOk r (λ x. workers_in x ≡ map worker_in seen) → IfOk r (λ x. runs_in x ≡ map run_in seen)
     → OnOk r (All HaveAll seen) → length later ≡ length threads
     → ((i : ℕ) (d : WorkerPair) → i < length threads → HasFed functions (get_or threads i d) (get_or later i d))
-    → IfOk r (λ x. HaveReadLogs functions (workers_in x) old (runs_in x))
-taken_well functions threads old (Ok x) workers_in runs_in later seen olds same workers_are news_are none many fed =
-    have_taken functions threads later (workers_in x) old (runs_in x) olds (workers_are ∙ ap (map worker_in) same) (news_are ∙ ap (map run_in) same)
+    → IfOk r (λ x. HaveReadLogs functions header (workers_in x) old (runs_in x))
+taken_well functions header threads writers old (Ok x) workers_in runs_in later seen olds same workers_are news_are none many fed =
+    have_taken functions header threads later (workers_in x) old (runs_in x) writers olds (workers_are ∙ ap (map worker_in) same) (news_are ∙ ap (map run_in) same)
     (subst (All HaveAll) same none) many fed
-taken_well functions threads old (Err fault) workers_in runs_in later seen olds same workers_are news_are none many fed = tt
+taken_well functions header threads writers old (Err fault) workers_in runs_in later seen olds same workers_are news_are none many fed = tt
 
 -- ---- how many parcels were taken
 

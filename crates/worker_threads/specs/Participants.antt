@@ -1,7 +1,8 @@
 -- The workers, hands and runs of pairs, and what all workers did at a table.
 use Rattle.std.specs.Prelude.{◌≡◌, ℕ, ◌<◌, ◌≤◌, false, List, length, map, get_or, All}
 use Rattle.record_hash.specs.Functions.{DigestFunctions}
-use Rattle.log_codec.specs.Log.{path_log_text}
+use Rattle.lamport_clocks.specs.declared.header.Header.{Header}
+use Rattle.slot_rewriting.specs.Writing.{written_log}
 use Rattle.atomic_table.specs.Seated.{TableId}
 use Rattle.script_text.specs.declared.task.Task.{Task}
 use Rattle.verifier_run.specs.Progress.{weight}
@@ -48,8 +49,8 @@ pub record HaveServed (terms : Terms) (table : TableId) (tasks : List Task) (old
       → HasDone (asked_of i tasks) (row_at (map told_by hands) i) (get_or old i d) (get_or new i d)
 
 -- Each verifier's run took just what is in its worker's log.
-pub record HaveReadLogs (functions : DigestFunctions) (workers : List Worker) (old new : List FedRun) : Type 0 where
+pub record HaveReadLogs (functions : DigestFunctions) (header : Header) (workers : List Worker) (old new : List FedRun) : Type 0 where
   pub olds : length old ≡ length workers
   pub news : length new ≡ length workers
   pub each : (i : ℕ) (d : Worker) (run : FedRun) → i < length workers
-      → Reads functions (path_log_text (get_or workers i d).log) (get_or old i run) (get_or new i run)
+      → Reads functions (written_log header i (get_or workers i d).log) (get_or old i run) (get_or new i run)

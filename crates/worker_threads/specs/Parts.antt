@@ -5,7 +5,7 @@ use Rattle.std.specs.Option.{ForSome}
 use Rattle.lamport_clocks.specs.Reading.{Reading}
 use Rattle.record_text.specs.declared.request.Request.{Request}
 use Rattle.log_codec.specs.declared.command.Command.{Command}
-use Rattle.log_codec.specs.Log.{path_log_text}
+use Rattle.slot_rewriting.specs.Writing.{text_from}
 use Rattle.atomic_table.specs.Seated.{TableId}
 use Rattle.script_text.specs.declared.task.Task.{Task}
 use Rattle.host_core.specs.World.{Worker}
@@ -16,7 +16,7 @@ use Rattle.host_table.specs.Calls.{IsNew, told_by}
 use Rattle.host_table.specs.Hands.{worker_of, IsFree}
 use Rattle.host_table.specs.Terms.{Terms, IsClockOf, IsPlaceOf}
 use Rattle.table_order.specs.Phases.{first_clock}
-use Rattle.verifier_feeds.specs.Feeds.{SameOutbox, put_in}
+use Rattle.verifier_feeds.specs.Feeds.{SameOutbox, put_in, writer_of}
 use Rattle.worker_threads.specs.declared.worker_thread.WorkerThread.{WorkerThread}
 
 -- ---- what is asked
@@ -79,7 +79,7 @@ pub record IsThrough (table : TableId) (tasks : List Task) (old new : WorkerThre
   pub number : worker_of new.hand ≡ worker_of old.hand
   pub part : new.wanting ≡ false → HasDone (asked_of (worker_of old.hand) tasks) (told_by new.hand) old.worker new.worker
 
--- Where memory was not wanting its outbox has just what is in its log.
+-- Where memory was not wanting its outbox has just what is in its log, written by the writer that it had before.
 pub record HasPutAll (old new : WorkerThread) : Type 0 where
-  pub put : new.wanting ≡ false → put_in new.outbox ≡ path_log_text new.worker.log
+  pub put : new.wanting ≡ false → put_in new.outbox ≡ text_from (writer_of old.outbox) new.worker.log
   pub lane : SameOutbox old.outbox new.outbox

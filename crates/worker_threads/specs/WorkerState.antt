@@ -1,12 +1,15 @@
 -- A worker in the middle of its part of a phase.
 use Rattle.std.specs.Prelude.{◌≡◌, ℕ, false, List, ◌++◌, Option, Some, None, Result, Ok, Err}
 use Rattle.std.specs.List.{flat_map, AllByRecursion}
+use Rattle.lamport_clocks.specs.Header.{IsHeader}
 use Rattle.lamport_clocks.specs.Reading.{Reading}
 use Rattle.record_hash.specs.Functions.{DigestFunctions}
 use Rattle.record_text.specs.declared.request.Request.{Request}
 use Rattle.record_text.specs.Longest.{longest_blob}
+use Rattle.log_codec.specs.declared.command.Command.{Command}
 use Rattle.log_codec.specs.Command.{IsPathCommand}
-use Rattle.log_codec.specs.Log.{path_log_text}
+use Rattle.slot_rewriting.specs.declared.writer.CommandWriter.{CommandWriter}
+use Rattle.slot_rewriting.specs.Writing.{text_from, writer_behind}
 use Rattle.base_words.specs.declared.memory.Memory.{Memory}
 use Rattle.atomic_table.specs.Seated.{TableId}
 use Rattle.host_core.specs.World.{Worker}
@@ -18,7 +21,7 @@ use Rattle.host_table.specs.Table.{table, terms}
 use Rattle.host_table.specs.Terms.{Terms, IsClockOf}
 use Rattle.host_table.specs.Told.{TakesUp}
 use Rattle.verifier_feeds.specs.declared.outbox.Outbox.{Outbox}
-use Rattle.verifier_feeds.specs.Feeds.{put_in}
+use Rattle.verifier_feeds.specs.Feeds.{put_in, writer_of}
 use Rattle.worker_threads.specs.declared.worker_thread.WorkerThread.{WorkerThread}
 use Rattle.worker_threads.specs.declared.shared_phase.SharedPhase.{SharedPhase}
 use Rattle.worker_threads.specs.declared.worker_state.WorkerState.{WorkerState}
@@ -26,10 +29,11 @@ use Rattle.worker_threads.specs.Parts.{ArePlaces, HasDone, IsReady}
 
 -- ---- what the workers share
 
--- The digests are the table's, and the places are those of the tasks' keys.
+-- The digests are the table's, the places are those of the tasks' keys, and the bundle's numbers are in their ranges.
 pub record IsSharedPhase {D : Type 0} (functions : D → DigestFunctions) (shared : SharedPhase D) : Type 0 where
   pub digests : (functions shared.d.now).digest ≡ (terms functions shared.records.now).digest
   pub places : ArePlaces (terms functions shared.records.now) shared.tasks.now shared.places.now
+  pub header : IsHeader shared.header
 
 -- what a worker asks of what it has in its thread
 pub record CanServe {D : Type 0} (functions : D → DigestFunctions) (shared : SharedPhase D) (thread : WorkerThread) : Type 0 where
@@ -63,13 +67,14 @@ pub record IsAtWork (terms : Terms) (table : TableId) (hand : Hand) (state : Wor
   pub going : state.stopped ≡ false → stop hand ≡ None
   pub typed : AllByRecursion (AllByRecursion (IsPathCommand longest_blob)) state.log.items
 
--- the bytes of what it logged
-abbrev pub logged_by : WorkerState → List ℕ
-logged_by state = path_log_text (flat_map (λ commands. commands) state.log.items)
+-- what it logged
+abbrev pub logged_by : WorkerState → List Command
+logged_by state = flat_map (λ commands. commands) state.log.items
 
--- the outbox has just these
-abbrev pub HasPutIn : WorkerState → Outbox → Type 0
-HasPutIn state outbox = put_in outbox ≡ logged_by state
+-- The outbox has just the text of this, from its writer on when it was empty, and its writer stands behind it.
+pub record HasPutIn (writer : CommandWriter) (state : WorkerState) (outbox : Outbox) : Type 0 where
+  pub put : put_in outbox ≡ text_from writer (logged_by state)
+  pub behind : writer_of outbox ≡ writer_behind writer (logged_by state)
 
 -- the worker with what it did
 abbrev pub noted : Worker → WorkerState → Worker

@@ -2,7 +2,7 @@
 ghost use Rattle.std.specs.Prelude.{◌≡◌, ◌≤◌, ◌<◌, List, IfOk, IfSome, OnOk, Ok, None, length, map, get_or};
 ghost use Rattle.std.specs.List.{AllByRecursion};
 ghost use Rattle.log_codec.specs.declared.command.Command.{Command};
-ghost use Rattle.log_codec.specs.Log.{path_log_text};
+ghost use Rattle.slot_rewriting.specs.Writing.{written_logs};
 ghost use Rattle.verifier_run.specs.Progress.{weight};
 ghost use Rattle.host_core.specs.World.{logs_of};
 ghost use Rattle.host_rounds.specs.Feeding.{AllRead};
@@ -68,9 +68,10 @@ fn first_end_of(workers: &[Worker]) -> Option<ClockEnd>
 /// order, past the gate. A worker whose clock ends serves no more in this phase. What they did was one list of events, those of a
 /// phase in their one order, and the answer is the first end that these come to. After want of memory the world is of no more use.
 ///
-/// Each worker's verifier takes what is in the worker's log, as it comes: its run is that of the worker's number, and was fed so
-/// many bytes at most. Before each poll it enters the gate, by its number behind those of the workers and with the number of
-/// parcels that it took so far, here and before: it goes on with its count of these, and leaves it as it then is.
+/// Each worker's verifier takes what is in the worker's log, as it comes, in the version that the header says: its run is that of
+/// the worker's number, and was fed so many bytes at most. Before each poll it enters the gate, by its number behind those of the
+/// workers and with the number of parcels that it took so far, here and before: it goes on with its count of these, and leaves it as
+/// it then is.
 pub fn serve_phase_at_once<R: Threads + Wait + Sync, D: Digests + Sync, G: Gate + Sync>(
     rt: &R,
     alloc: Global,
@@ -106,8 +107,8 @@ pub fn serve_phase_at_once<R: Threads + Wait + Sync, D: Digests + Sync, G: Gate 
     ensures behind { OnOk result (StandsBehind (D.functions (digests_of world.new)) world.new) }
     ensures goes_on { OnOk result ((logs : List (List Command)) → StandsWith (D.functions (digests_of world.old)) world.old logs
         → StandsWith (D.functions (digests_of world.new)) world.new logs) }
-    ensures taken { OnOk result (AllRead (D.functions (digests_of world.old)) (map path_log_text (logs_of (shown_world world.new)))
-        runs.old.items runs.new.items) }
+    ensures taken { OnOk result (AllRead (D.functions (digests_of world.old))
+        (written_logs (settings_of world.old).header (logs_of (shown_world world.new))) runs.old.items runs.new.items) }
     ensures parcels { OnOk result (length parcels.new.items ≡ length parcels.old.items) }
 {
     tables_can_be_made();
@@ -129,7 +130,7 @@ pub fn serve_phase_at_once<R: Threads + Wait + Sync, D: Digests + Sync, G: Gate 
         tasks,
         places: places.as_slice(),
         records: &records,
-        workers: header.verifiers,
+        header,
     };
     let participants = Participants {
         workers,

@@ -2,7 +2,7 @@
 use base_words::Memory;
 use host_plan::Plan;
 use host_table::{Attempt, Hand, Records};
-use lamport_clocks::Clock;
+use lamport_clocks::{Clock, Header};
 use record_hash::Digests;
 use record_text::Request;
 use script_text::Task;
@@ -10,7 +10,7 @@ use std::alloc::Global;
 use std::sync::Wait;
 use std::thread::yield_now;
 
-/// What all workers of a phase share: what it asks of them, the place of each request's key, and the table.
+/// What all workers of a phase share: what it asks of them, the place of each request's key, the table, and the bundle's numbers.
 #[derive(Drop)]
 pub(crate) struct SharedPhase<'a, D: Digests> {
     pub(crate) alloc: Global,
@@ -18,8 +18,8 @@ pub(crate) struct SharedPhase<'a, D: Digests> {
     pub(crate) tasks: &'a [Task],
     pub(crate) places: &'a [u32],
     pub(crate) records: &'a Records<D>,
-    // How many workers there are.
-    pub(crate) workers: u16,
+    // What the bundle begins with.
+    pub(crate) header: Header,
 }
 
 impl<D: Digests> SharedPhase<'_, D> {

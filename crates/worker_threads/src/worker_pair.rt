@@ -19,7 +19,6 @@ pub struct WorkerPair {
 impl WorkerPair {
     ghost use Rattle.std.specs.Prelude.{◌≡◌, [], false};
     ghost use Rattle.record_text.specs.Longest.{longest_blob};
-    ghost use Rattle.log_codec.specs.Log.{path_log_text};
     ghost use Rattle.host_table.specs.Table.{table, terms};
     ghost use Rattle.host_rounds.specs.Feeding.{Reads};
     ghost use Rattle.log_rings.specs.Lanes.{received_by};
@@ -61,7 +60,10 @@ impl WorkerPair {
         ensures taken { is_wanting self.new.inbox ≡ false
             → HasRead (D.functions shared.now.d.now) (bytes_of (received_by self.new.inbox.receiver)) (run_of self.old.inbox) (run_of self.new.inbox) }
     {
-        let number = shared.workers.saturating_add(self.thread.hand.worker());
+        let number = shared
+            .header
+            .verifiers
+            .saturating_add(self.thread.hand.worker());
         let thread = &mut self.thread;
         let inbox = &mut self.inbox;
         let mut watch = ||

@@ -27,11 +27,13 @@ impl WorkerState {
     ghost use Rattle.std.specs.List.{AllByRecursion};
     ghost use Rattle.record_text.specs.Longest.{longest_blob};
     ghost use Rattle.log_codec.specs.Command.{IsPathCommand};
+    ghost use Rattle.slot_rewriting.specs.declared.writer.CommandWriter.{CommandWriter};
+    ghost use Rattle.slot_rewriting.specs.Writing.{text_from, writer_behind};
     ghost use Rattle.host_table.specs.Hands.{worker_of};
     ghost use Rattle.host_table.specs.Table.{table, terms};
     ghost use Rattle.host_table.specs.Terms.{IsPlaceOf};
     ghost use Rattle.worker_threads.specs.Parts.{asked_of};
-    ghost use Rattle.verifier_feeds.specs.Feeds.{SameOutbox, put_in};
+    ghost use Rattle.verifier_feeds.specs.Feeds.{SameOutbox, put_in, writer_of};
     ghost use Rattle.worker_threads.specs.WorkerState.{GoesOn, HasPutIn, IsAtWork, IsSharedPhase, logged_by, noted};
 
     /// What a worker has that has done nothing in the phase yet. The worker lends its log.
@@ -73,7 +75,7 @@ impl WorkerState {
         ensures at_work { IsAtWork (terms D.functions shared.now.records.now) (table shared.now.records.now) hand.new self.new }
         ensures worker { worker_of hand.new ≡ worker_of hand.old }
         ensures goes_on { OnOk result (GoesOn (asked_of (worker_of hand.old) shared.now.tasks.now) hand.old self.old hand.new self.new) }
-        ensures put { OnOk result (HasPutIn self.new outbox.new) }
+        ensures put { OnOk result (HasPutIn (writer_of outbox.old) self.new outbox.new) }
         ensures lane { SameOutbox outbox.old outbox.new }
     {
         self.put_all(outbox)?;
@@ -83,7 +85,8 @@ impl WorkerState {
 
     // Puts all that is logged so far into the outbox.
     fn put_all(&self, outbox: &mut Outbox) -> Result<(), Memory>
-        ensures put { OnOk result (put_in outbox.new ≡ put_in outbox.old ++ logged_by self.now) }
+        ensures put { OnOk result (put_in outbox.new ≡ put_in outbox.old ++ text_from (writer_of outbox.old) (logged_by self.now)) }
+        ensures behind { OnOk result (writer_of outbox.new ≡ writer_behind (writer_of outbox.old) (logged_by self.now)) }
         ensures lane { SameOutbox outbox.old outbox.new }
     {
         for commands in &self.log {
@@ -103,7 +106,7 @@ impl WorkerState {
     ) -> Result<(), Memory>
         requires shared { IsSharedPhase D.functions shared.now }
         requires at_work { IsAtWork (terms D.functions shared.now.records.now) (table shared.now.records.now) hand.old self.old }
-        ensures put { HasPutIn self.old outbox.old → OnOk result (HasPutIn self.new outbox.new) }
+        ensures put { (writer : CommandWriter) → HasPutIn writer self.old outbox.old → OnOk result (HasPutIn writer self.new outbox.new) }
         ensures lane { SameOutbox outbox.old outbox.new }
         ensures at_work { IsAtWork (terms D.functions shared.now.records.now) (table shared.now.records.now) hand.new self.new }
         ensures worker { worker_of hand.new ≡ worker_of hand.old }
@@ -143,7 +146,7 @@ impl WorkerState {
         ensures at_work { IsAtWork (terms D.functions shared.now.records.now) (table shared.now.records.now) hand.new self.new }
         ensures worker { worker_of hand.new ≡ worker_of hand.old }
         ensures goes_on { OnOk result (GoesOn (request.now ∷ []) hand.old self.old hand.new self.new) }
-        ensures put { HasPutIn self.old outbox.old → OnOk result (HasPutIn self.new outbox.new) }
+        ensures put { (writer : CommandWriter) → HasPutIn writer self.old outbox.old → OnOk result (HasPutIn writer self.new outbox.new) }
         ensures lane { SameOutbox outbox.old outbox.new }
     {
         if self.stopped {

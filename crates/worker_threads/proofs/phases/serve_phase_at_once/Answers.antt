@@ -1,6 +1,8 @@
 use Rattle.std.proofs.Common.{◌≡◌, ℕ, ◌≤◌, List, [], map, length, get_or, sym, ◌∙◌, ap, subst, arith}
 use Rattle.std.proofs.lemmas.List.{length-map}
 use Rattle.std.specs.List.{AllByRecursion}
+use Rattle.lamport_clocks.specs.declared.header.Header.{Header}
+use Rattle.lamport_clocks.specs.Header.{IsHeader}
 use Rattle.verifier_run.specs.Progress.{weight}
 use Rattle.merkle_records.specs.Merkle.{GivesDigests}
 use Rattle.script_text.specs.declared.task.Task.{Task}
@@ -68,6 +70,7 @@ serve_at_table-requires-clause-shared g c κs within =
           (phase_places host (shown_world old) (requests_of old) made c.in_ok-places.places.items stands.1.behind.keys are
           (c.tables_are_of_their_worlds.ensures.places functions old.settings (requests_of old) stands.0 (shown_world old) made sized
           stands.1.behind c.requires.begins.phase lent)));
+      header = subst (λ (settings : Settings). IsHeader settings.header) (sym c.settings.ensures.value) stands.1.behind.settings_fit.header;
     }
 
 pub serve_at_table-requires-clause-ready : goal.serve_at_table-requires-clause-ready
@@ -173,12 +176,13 @@ returns g c =
     (hosts_then old c.lend_workers-workers.new.self c.take_back.new.self (hosts_then old c.lend.new.self c.lend_workers-workers.new.self c.lend.ensures.host c.lend_workers-workers.ensures.host)
     c.take_back.ensures.host) c.take_workers.ensures.host in
     let on = goes_on g.D.Digests.functions old new c.first_end_of-end.result one_host at_once.count leads in
-    let took : HaveReadLogs functions (shown_world new).workers c.args.runs.now.items c.in_ok-left.left.runs.items =
-    subst (λ d. HaveReadLogs (g.D.Digests.functions d) (shown_world new).workers c.args.runs.now.items c.in_ok-left.left.runs.items) c.digests-d.ensures.value
-    (subst (λ (runs : List FedRun). HaveReadLogs (g.D.Digests.functions c.digests-d.result.now) (shown_world new).workers runs c.in_ok-left.left.runs.items)
+    let took : HaveReadLogs functions old.settings.header (shown_world new).workers c.args.runs.now.items c.in_ok-left.left.runs.items =
+    subst (λ d. HaveReadLogs (g.D.Digests.functions d) old.settings.header (shown_world new).workers c.args.runs.now.items c.in_ok-left.left.runs.items) c.digests-d.ensures.value
+    (subst (λ (h : Header). HaveReadLogs (g.D.Digests.functions c.digests-d.result.now) h (shown_world new).workers c.args.runs.now.items c.in_ok-left.left.runs.items) header
+    (subst (λ (runs : List FedRun). HaveReadLogs (g.D.Digests.functions c.digests-d.result.now) c.settings.result.header (shown_world new).workers runs c.in_ok-left.left.runs.items)
     (ap (λ rs. rs.items) c.replace.ensures.value)
-    (subst (λ (workers : List Worker). HaveReadLogs (g.D.Digests.functions c.digests-d.result.now) workers c.replace.result.items c.in_ok-left.left.runs.items) (sym workers_are)
-    c.in_ok-left.ensures.taken)) in
+    (subst (λ (workers : List Worker). HaveReadLogs (g.D.Digests.functions c.digests-d.result.now) c.settings.result.header workers c.replace.result.items c.in_ok-left.left.runs.items)
+    (sym workers_are) c.in_ok-left.ensures.taken))) in
     record {
       leads = leads;
       form = way;
@@ -192,5 +196,5 @@ returns g c =
       behind = (stands.0, on stands.0 stands.1);
       goes_on = on;
       parcels = c.in_ok-left.ensures.parcels ∙ ap (λ ns. length ns.items) c.replace-2.ensures.value;
-      taken = all_take functions (shown_world new).workers c.args.runs.now.items c.in_ok-left.left.runs.items took;
+      taken = all_take functions old.settings.header (shown_world new).workers c.args.runs.now.items c.in_ok-left.left.runs.items took;
     }

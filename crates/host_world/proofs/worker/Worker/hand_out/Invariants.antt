@@ -1,7 +1,11 @@
 use Rattle.std.proofs.Common.{◌≡◌, ◌++◌, take}
 use Rattle.std.specs.List.{flat_map}
-use Rattle.log_codec.specs.Log.{path_log_text}
+use Rattle.slot_rewriting.specs.Writing.{text_from, writer_behind}
 use Rattle.host_world.proofs.worker.Worker.hand_out.Given as goal
 
+-- the deeds so far are written
 abbrev pub invariant-loop-commands : goal.invariant-loop-commands
-invariant-loop-commands l = l.buffer ≡ l.initial.buffer ++ path_log_text (flat_map (λ commands. commands) (take l.commands-index l.commands-items))
+invariant-loop-commands l = record {
+  pushed : l.buffer ≡ l.initial.buffer ++ text_from l.initial.writer (flat_map (λ commands. commands) (take l.commands-index l.commands-items));
+  behind : l.writer ≡ writer_behind l.initial.writer (flat_map (λ commands. commands) (take l.commands-index l.commands-items));
+}

@@ -1,11 +1,9 @@
-use Rattle.std.proofs.Common.{◌≡◌, ℕ, ◌+◌, true, List, [], ◌∷◌, ◌++◌, refl, sym, ◌∙◌, ap, rules}
-use Rattle.std.specs.List.{flat_map}
-use Rattle.log_codec.specs.declared.command.Command.{Command}
-use Rattle.log_codec.specs.Log.{path_log_text}
-use Rattle.verifier_feeds.specs.Feeds.{put_in}
+use Rattle.std.proofs.Common.{◌≡◌, ◌+◌, true, [], ◌∷◌, ◌++◌, refl, rules}
+use Rattle.slot_rewriting.specs.Writing.{text_from, writer_behind}
+use Rattle.verifier_feeds.specs.Feeds.{put_in, writer_of}
 use Rattle.host_table.specs.Calls.{told_by}
 use Rattle.worker_threads.specs.declared.worker_state.WorkerState.{WorkerState}
-use Rattle.worker_threads.proofs.FeedLemmas.{logged-more}
+use Rattle.worker_threads.proofs.FeedLemmas.{put-more}
 use Rattle.worker_threads.proofs.WorkerStateLemmas.{has-passed, goes-served, goes-ended}
 use Rattle.worker_threads.proofs.worker_state.WorkerState.serve.Goals as goal
 
@@ -22,11 +20,15 @@ returns-in_ok-put-in-Some-2-clause-goes_on g c = λ before worker has.
     comes_to.0 comes_to.1 c.in-Some-2.plan comes_to.2 log served refl has
 
 pub returns-in_ok-put-in-Some-2-clause-put : goal.returns-in_ok-put-in-Some-2-clause-put
-returns-in_ok-put-in-Some-2-clause-put g c = λ before.
-    let log : c.push_reserved.new.self.items ≡ c.args.self.now.log.items ++ c.in-Some-2.plan.commands ∷ [] = search rules in
-    let put : put_in c.put.new.self ≡ put_in c.args.outbox.now ++ path_log_text c.in-Some-2.plan.commands = search rules in
-    put ∙ ap (λ (bytes : List ℕ). bytes ++ path_log_text c.in-Some-2.plan.commands) before
-    ∙ sym (ap (λ (deeds : List (List Command)). path_log_text (flat_map (λ c. c) deeds)) log ∙ logged-more c.args.self.now.log.items c.in-Some-2.plan.commands)
+returns-in_ok-put-in-Some-2-clause-put g c = λ writer before.
+    let outbox = c.args.outbox.now in
+    let after = c.put.new.self in
+    let commands = c.in-Some-2.plan.commands in
+    let later : WorkerState = record { log = c.push_reserved.new.self; clock = c.attempt_until.new.clock; served = c.in-Some.served; stopped = c.args.self.now.stopped } in
+    let log : later.log.items ≡ c.args.self.now.log.items ++ commands ∷ [] = search rules in
+    let put : put_in after ≡ put_in outbox ++ text_from (writer_of outbox) commands = search rules in
+    let behind : writer_of after ≡ writer_behind (writer_of outbox) commands = search rules in
+    put-more writer c.args.self.now later outbox after commands before log put behind
 
 pub returns-in-None-clause-goes_on : goal.returns-in-None-clause-goes_on
 returns-in-None-clause-goes_on g c = λ before worker has.

@@ -30,7 +30,7 @@ loop-task-preserved-in-Continue-1 g c =
     record {
       at_work = c.serve.ensures.at_work;
       worker = c.serve.ensures.worker ∙ c.loop-task.invariant.worker;
-      put = λ before. c.in_ok-serve.ensures.put (c.loop-task.invariant.put before);
+      put = λ writer before. c.in_ok-serve.ensures.put writer (c.loop-task.invariant.put writer before);
       lane = search rules;
       goes_on = λ before worker has.
           subst (λ (requests : List Request). HasDone requests (told_by c.serve.new.hand) worker (noted worker c.serve.new.self))

@@ -1,5 +1,6 @@
 use Rattle.std.proofs.Common.{[], ◌∙◌, sym, ap, subst}
-use Rattle.log_codec.specs.Log.{path_log_text}
+use Rattle.slot_rewriting.specs.Writing.{text_from}
+use Rattle.verifier_feeds.specs.Feeds.{writer_of}
 use Rattle.host_core.specs.World.{Worker}
 use Rattle.host_table.specs.Calls.{told_by}
 use Rattle.host_table.specs.Hands.{worker_of}
@@ -24,8 +25,8 @@ returns g c =
       };
       put = record {
         put = λ fine.
-            at_ok c.serve_part.result (sym c.is_err-self.ensures.value ∙ fine) c.serve_part.ensures.put
-            ∙ sym (ap (λ (w : Worker). path_log_text w.log) has);
+            (at_ok c.serve_part.result (sym c.is_err-self.ensures.value ∙ fine) c.serve_part.ensures.put).put
+            ∙ sym (ap (λ (w : Worker). text_from (writer_of old.outbox) w.log) has);
         lane = c.serve_part.ensures.lane;
       };
     }
