@@ -1,7 +1,7 @@
 -- What the bundle of logs certifies stays due, whatever bytes follow it.
-use Rattle.std.proofs.Common.{◌≡◌, Bool, ℕ, zero, suc, ◌+◌, ◌^◌, ◌<◌, ◌≤◌, List, [], ◌∷◌, ◌++◌, length, drop, Option, Some, None, refl, sym, ◌∙◌, ap, subst, append_assoc, length-append, arith}
+use Rattle.std.proofs.Common.{◌≡◌, Bool, ℕ, zero, suc, ◌+◌, ◌<◌, ◌≤◌, List, [], ◌∷◌, ◌++◌, length, drop, Option, Some, None, refl, sym, ◌∙◌, ap, append_assoc, length-append, arith}
 use Rattle.std.proofs.Math.Seq.{drop-append_seam}
-use Rattle.std.specs.List.{flat_map, AllByRecursion}
+use Rattle.std.specs.List.{AllByRecursion}
 use Rattle.std.proofs.lemmas.List.{length-drop}
 use Rattle.std.proofs.lemmas.List.Concat.{flat_map-append}
 use Rattle.record_hash.specs.Functions.{DigestFunctions}
@@ -10,7 +10,7 @@ use Rattle.lamport_clocks.specs.Header.{IsHeader}
 use Rattle.merkle_records.specs.Scheme.{scheme_of}
 use Rattle.bundle_frames.specs.Bundle.{Frame, Frames, Bundle, IsFrame, header_bytes, header_text, header_in, longest_body, frame_in, frame_text, frame_bytes, frames_behind, with_frame, frames_up_to, frames_from, bundle_of, bundle_behind, body_for, log_of}
 use Rattle.bundle_report.specs.Logs.{empty_logs, joined_from}
-use Rattle.bundle_report.specs.Logged.{Logged, behind, logged_of}
+use Rattle.bundle_report.specs.Logged.{behind}
 use Rattle.bundle_report.specs.Report.{told_by}
 use Rattle.bundle_report.specs.Answer.{answer_by, check_answer}
 use Rattle.bundle_report.proofs.DueLaws.{due-stays}

@@ -1,5 +1,5 @@
 -- Logs that are handed out: they stand in front of the world, and nothing else changes.
-use Rattle.std.proofs.Common.{◌≡◌, ℕ, zero, suc, ◌<◌, List, [], ◌∷◌, ◌++◌, length, map, get_or, set, refl, sym, ◌∙◌, ap, subst, arith}
+use Rattle.std.proofs.Common.{◌≡◌, ℕ, zero, suc, ◌+◌, ◌<◌, List, [], ◌∷◌, ◌++◌, length, map, get_or, set, refl, sym, ◌∙◌, ap, arith}
 use Rattle.std.specs.List.{AllByRecursion}
 use Rattle.std.proofs.lemmas.List.{append-nil, length-map}
 use Rattle.lamport_clocks.specs.declared.header.Header.{Header}
@@ -112,7 +112,8 @@ pub text-at : (header : Header) (workers : List Worker) (n : ℕ) (d : Worker) �
 text-at header workers n d there =
     let many = length-map workers (λ worker. worker.log) in
     written_at header 0 n (map (λ worker. worker.log) workers) (omega (arith, there, many))
-    ∙ ap (λ (log : List Command). written_log header n log) (log-at workers n d there)
+    ∙ ap (λ (log : List Command). written_log header (0 + n) log) (log-at workers n d there)
+    ∙ ap (λ (k : ℕ). written_log header k (get_or workers n d).log) (omega arith)
 
 pub texts-length : (header : Header) (workers : List Worker) → length (written_logs header (map (λ worker. worker.log) workers)) ≡ length workers
 texts-length header workers = written-length header 0 (map (λ worker. worker.log) workers) ∙ length-map workers (λ worker. worker.log)

@@ -1,12 +1,11 @@
 -- A run goes on through rounds.
-use Rattle.std.proofs.Common.{◌≡◌, ◌⊎◌, inl, inr, ℕ, zero, suc, ◌+◌, ◌*◌, ◌≤◌, List, [], ◌∷◌, ◌++◌, length, map, take, refl, ap, subst, arith}
+use Rattle.std.proofs.Common.{◌≡◌, inl, inr, ℕ, zero, suc, ◌+◌, ◌≤◌, List, [], ◌∷◌, ◌++◌, length, map, take, refl, ap, subst, arith}
 use Rattle.lamport_clocks.specs.declared.header.Header.{Header}
 use Rattle.slot_rewriting.specs.Writing.{written_logs}
 use Rattle.host_core.specs.Host.{Host}
 use Rattle.host_core.specs.World.{World, logs_of}
 use Rattle.host_world.specs.Behind.{with_logs}
-use Rattle.host_serving.specs.Leading.{LeadsTo, CanDoNoMore, first_of}
-use Rattle.host_serving.specs.Standing.{IsServedUpTo, IsServedOut}
+use Rattle.host_serving.specs.Leading.{LeadsTo, first_of}
 use Rattle.host_serving.proofs.LeadingLaws.{leads-none, leads-then}
 use Rattle.std.proofs.Common.{None}
 use Rattle.verifier_threads.specs.InRounds.{Logs, logged_with, logged_behind, IsBehindRounds, LeadThrough}

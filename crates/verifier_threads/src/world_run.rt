@@ -34,6 +34,7 @@ use host_log::LogBuffer;
 use host_rounds::{Rounds, rounds_make_a_bundle, write_end};
 use host_serving::close_phase;
 use host_world::{ClockEnd, World};
+use merkle_records::digests_have_32_bytes;
 use record_hash::Digests;
 use report_text::BundleEnd;
 use run_reports::{
@@ -313,6 +314,7 @@ impl<'a, D: Digests + Sync> WorldRun<'a, D> {
         logs_come_to_rest();
         hand_out_all(self.alloc, &mut self.world, self.buffers.as_mut_slice())?;
         let d = self.world.digests();
+        digests_have_32_bytes(d);
         self.rounds
             .seal(rt, self.alloc, d, self.buffers.as_slice(), last, vault)
     }

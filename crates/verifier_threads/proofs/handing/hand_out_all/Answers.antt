@@ -1,6 +1,4 @@
-use Rattle.std.proofs.Common.{◌≡◌, ℕ, suc, ◌+◌, ◌<◌, ◌++◌, List, [], length, map, get_or, set, refl, sym, ◌∙◌, ap, subst, arith}
-use Rattle.std.proofs.lemmas.List.{length-map}
-use Rattle.lamport_clocks.specs.declared.header.Header.{Header}
+use Rattle.std.proofs.Common.{◌≡◌, suc, ◌+◌, ◌<◌, List, length, get_or, sym, ◌∙◌, ap, arith}
 use Rattle.slot_rewriting.specs.declared.writer.CommandWriter.{CommandWriter}
 use Rattle.slot_rewriting.specs.Writing.{opening_writer, text_from, written_logs}
 use Rattle.host_world.specs.declared.settings.Settings.{Settings}
@@ -27,7 +25,7 @@ loop-worker-preserved g c =
     let now = c.loop-worker.world in
     let d = fresh now.settings.header in
     let header = c.args.world.now.settings.header in
-    let header_is : c.settings-header.result.header ≡ header = ap (λ (s : Settings). s.header) c.settings-header.ensures.value in
+    let header_is : c.settings.result.header ≡ header = ap (λ (s : Settings). s.header) c.settings.ensures.value in
     let writer_is : c.in_ok-writer.writer ≡ opening_writer n header = c.in_ok-writer.ensures.value ∙ ap (opening_writer n) header_is in
     let next : n + 1 ≡ suc n = omega arith in
     let there : n < length old.workers = omega (arith, c.loop-worker-test.true, c.requires.each) in

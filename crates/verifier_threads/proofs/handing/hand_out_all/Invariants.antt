@@ -1,4 +1,4 @@
-use Rattle.std.proofs.Common.{◌≡◌, ◌≤◌, length}
+use Rattle.std.proofs.Common.{◌≡◌}
 use Rattle.slot_rewriting.specs.Writing.{written_logs}
 use Rattle.host_core.specs.World.{logs_of}
 use Rattle.host_world.specs.Shown.{shown_world}

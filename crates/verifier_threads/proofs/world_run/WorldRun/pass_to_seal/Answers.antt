@@ -1,6 +1,7 @@
 use Rattle.std.proofs.Common.{◌≡◌, ℕ, suc, inr, List, [], ◌∷◌, ◌++◌, length, map, Option, refl, sym, ◌∙◌, ap, subst, arith}
 use Rattle.std.proofs.lemmas.List.{length-map, with_items_is}
 use Rattle.record_hash.specs.Functions.{DigestFunctions}
+use Rattle.merkle_records.specs.Merkle.{GivesDigests}
 use Rattle.slot_rewriting.specs.Writing.{written_logs}
 use Rattle.host_core.specs.World.{World, logs_of}
 use Rattle.host_shard.specs.Content.{Content}
@@ -71,7 +72,7 @@ returns-clause-runs g c = λ receipts outputs past runs stands held.
     let items = with_items_is old.buffers c.hand_out_all.new.buffers (size ∙ sym runs.buffers ∙ sym old.buffers.ok.0) in
     let round_is : round ≡ written_logs header (logs_of (shown_world old.world)) = c.as_slice.ensures.value ∙ items ∙ c.in_ok-hand_out_all.ensures.handed in
     let rests = running-rests _ _ _ _ (shown_world old.world) old.rounds old.end past outputs r c.logs_come_to_rest.ensures.rests
-    (λ text. (g.met.D.Digests.text_digest_shape old.world.d.now text).size) in
+    (subst (λ d. GivesDigests (functions d).digest) d_is c.digests_have_32_bytes.ensures.sized) in
     let keeps = subst (λ d. Keeps (functions d) header before (map (written_logs header) past) old.rounds outputs.vault vault) (sym d_is)
     (subst (λ (h : Option (List ℕ)). Keeps (functions (digests_of old.world)) header before (map (written_logs header) past) old.rounds outputs.vault h) held r.keeps) in
     ok_both c.seal.result (c.seal.ensures.keeps header before (map (written_logs header) past) outputs.vault keeps) (c.seal.ensures.lines (told_by receipts (functions (digests_of old.world)) header) (functions (digests_of old.world)) header before r.keeps.runs)
