@@ -20,7 +20,8 @@ use std::thread::{Threads, join_mut};
 /// The most batches that are read before what they certify is written.
 pub const PASSED_BATCHES: usize = 4;
 
-/// Reads some batches and feeds them to the runs: while one is fed, the next is read, of two that take turns. After want of memory batches and reader are of no more use.
+/// Reads some batches and feeds them to the runs: while one is fed, the next is read, of two that take turns. After want of memory
+/// batches and reader are of no more use.
 pub fn pass_batches<R: Threads + Sync, D: Digests + Sync, S: Source>(
     rt: &R,
     alloc: Global,
@@ -88,7 +89,7 @@ fn pass_more<R: Threads + Sync, D: Digests + Sync, S: Source>(
     Ok(filled)
 }
 
-// Feeds a batch while the next is read, each in a thread of its own where there are many bytes to be fed.
+// Feeds a batch while the next is read: in other threads, where there are many bytes to be fed.
 fn feed_and_fill<R: Threads + Sync, D: Digests + Sync, S: Source>(
     rt: &R,
     alloc: Global,

@@ -1,4 +1,5 @@
-//! Calls of which one allocation may be refused: all is then as before, and the same call again is made.
+//! Calls of which one allocation may be refused: all is then as before, or a front of what was to be made is there, and the same
+//! call again is made.
 //!
 //! A line of the input is a call's name and how many allocations are made first, to no use: `fork 12`. So a run in which some
 //! allocation is refused refuses an earlier one of the call's the more are made first, and `tools/fuzzer/refuse_memory.py` has each
