@@ -33,6 +33,10 @@ pub on_ok_always : {T E : Type 0} (B : Type 0) (r : Result T E) → B → OnOk r
 on_ok_always B (Ok value) holds = holds
 on_ok_always B (Err error) holds = tt
 
+-- with an error there is none
+pub on_ok_never : {T E : Type 0} (B : Type 0) (r : Result T E) (error : E) → r ≡ Err error → OnOk r B
+on_ok_never B r error is = subst (λ (o : Result _ _). OnOk o B) (sym is) tt
+
 -- what holds with an answer, where this is it
 pub in_ok : {T E : Type 0} {A : Type 0} {r : Result T E} (value : T) → r ≡ Ok value → OnOk r A → A
 in_ok {A = A} value is holds = subst (λ (o : Result _ _). OnOk o A) is holds
@@ -66,8 +70,15 @@ pub bytes_kept : (frames all : List FrameOf) (frame : FrameOf) → all ≡ frame
 bytes_kept frames all frame is = ap bytes_of is ∙ bytes_more frames frame
 
 -- so there are more
-pub more_kept : (frames all : List FrameOf) (frame : FrameOf) → all ≡ frames ++ frame ∷ [] → length frames < 16 → 16 - length all < 16 - length frames
-more_kept frames all frame is room =
+pub more_kept : (most : ℕ) (frames all : List FrameOf) (frame : FrameOf) → all ≡ frames ++ frame ∷ [] → length frames < most → most - length all < most - length frames
+more_kept most frames all frame is room =
+    let count = ap length is in
+    let sum = length-append frames (frame ∷ []) in
+    omega (arith, count, sum, room)
+
+-- and still no more than so many
+pub count_kept : (most : ℕ) (frames all : List FrameOf) (frame : FrameOf) → all ≡ frames ++ frame ∷ [] → length frames < most → length all ≤ most
+count_kept most frames all frame is room =
     let count = ap length is in
     let sum = length-append frames (frame ∷ []) in
     omega (arith, count, sum, room)
@@ -146,9 +157,6 @@ stopped_not_whole stop same = cc
 
 pub end_not_stopped : (stop : Failure) → filled_is (Stopped stop) ≡ filled_is Ended → ⊥
 end_not_stopped stop same = cc
-
-pub whole_is : (filled : Filled) → filled_is filled ≡ filled_is Whole → filled ≡ Whole
-whole_is filled is = cc
 
 pub stop_is : (stop other : Failure) → filled_is (Stopped stop) ≡ filled_is (Stopped other) → stop ≡ other
 stop_is stop other same = cc
@@ -271,30 +279,3 @@ module _ (most most' : ℕ) (some more : List FrameOf) (whole result : Result Fi
         fault = λ stopped. rose_before _ _ _ first.never_falls (then.fault stopped);
         never_falls = omega (arith, first.never_falls, then.never_falls);
       }
-
--- how many were to be read matters only where all came
-pub filled_most : (most most' : ℕ) (frames : List FrameOf) (result : Result Filled Memory) (old new : Reading) (x y : Option (List ℕ)) (faults faults' : ℕ)
-    → HasFilled most frames result old new x y faults faults' → (result ≡ Ok Whole → most ≡ most')
-    → HasFilled most' frames result old new x y faults faults'
-filled_most most most' frames result old new x y faults faults' filled same =
-    record {
-      whole = λ is. filled.whole is ∙ same is;
-      goes_on = filled.goes_on;
-      ranges = filled.ranges;
-      having_read = filled.having_read;
-      limit = filled.limit;
-      full = filled.full;
-      rises = filled.rises;
-      within = filled.within;
-      same_limit = filled.same_limit;
-      split = filled.split;
-      near = filled.near;
-      beyond = filled.beyond;
-      end = filled.end;
-      reached = filled.reached;
-      spent = filled.spent;
-      due = filled.due;
-      stopped = filled.stopped;
-      fault = filled.fault;
-      never_falls = filled.never_falls;
-    }

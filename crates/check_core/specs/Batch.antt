@@ -32,7 +32,7 @@ bytes_of (frame ∷ frames) = length frame.body + bytes_of frames
 -- as many frames as are counted, and as many bytes
 pub record IsBatch (b : Inside) : Type 0 where
   pub count : b.count ≤ vec_len b.holders
-  pub few : b.count ≤ 16
+  pub few : b.count ≤ 64
   pub bytes : b.bytes ≡ bytes_of (frames_of b)
   pub bounded : b.bytes ≤ b.count * longest_body
 

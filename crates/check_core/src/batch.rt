@@ -11,7 +11,7 @@ use std::alloc::Global;
 use std::marker::Model;
 
 /// The most frames that are read before they are fed.
-pub const BATCH_FRAMES: usize = 16;
+pub const BATCH_FRAMES: usize = 64;
 
 /// How far frames were read.
 #[derive(Clone, Copy, Debug, PartialEq, Eq)]
@@ -78,23 +78,25 @@ impl Batch {
         self.bytes
     }
 
-    /// Reads the next frames, in place of those that are there: as many as a batch has, or up to the end or to where
-    /// reading stops. After want of memory batch and reader are of no more use.
+    /// Reads the next frames, in place of those that are there: so many, or up to the end or to where reading stops. After want of memory batch and reader are of no more use.
     pub fn fill<S: Source>(
         &mut self,
         alloc: Global,
         reader: &mut BundleReader,
         source: &mut S,
+        most: usize,
     ) -> Result<Filled, Memory>
+        requires some { 0 < most }
+        requires most { most ≤ 64 }
         requires due { IsDue reader.old.progress }
         requires header { IsSome reader.old.progress.header }
 
         // What was read are these frames, and so much was taken for them.
-        ensures filled { HasFilled 16 self.new result reader.old reader.new
+        ensures filled { HasFilled most self.new result reader.old reader.new
             (S.left source.old) (S.left source.new) (S.faults source.old) (S.faults source.new) }
     {
         self.clear();
-        'frames: while !self.is_full() {
+        'frames: while self.lacks(most) {
             let next = match reader.next(source) {
                 Ok(next) => next,
                 Err(stop) => return Ok(Filled::Stopped(stop)),
@@ -116,12 +118,12 @@ impl Batch {
         self.bytes = 0;
     }
 
-    // Whether there are as many frames as a batch has.
-    fn is_full(&self) -> bool
-        ensures full { result ≡ true → length self.now ≡ 16 }
-        ensures room { result ≡ false → length self.now < 16 }
+    // Whether there are fewer frames than so many.
+    fn lacks(&self, most: usize) -> bool
+        ensures full { result ≡ false → most ≤ length self.now }
+        ensures room { result ≡ true → length self.now < most }
     {
-        self.count >= BATCH_FRAMES
+        self.count < most
     }
 
     // Keeps the frame that was read last, of this verifier.
@@ -131,7 +133,7 @@ impl Batch {
         reader: &mut BundleReader,
         verifier: u16,
     ) -> Result<(), Memory>
-        requires room { length self.old < 16 }
+        requires room { length self.old < 64 }
         requires body { length reader.old.progress.body ≤ longest_body }
         ensures kept { OnOk result (self.new ≡ self.old ++ record { verifier = verifier; body = reader.old.progress.body } ∷ []) }
         ensures same { OnErr result (self.new ≡ self.old) }

@@ -14,7 +14,7 @@ ghost use Rattle.check_core.specs.Outcomes.{IsCheckStatus, check_status};
 ghost use Rattle.check_core.specs.Stream.{HasCome};
 
 use crate::batch::{Batch, Filled};
-use crate::passing::pass_batches;
+use crate::passing::pass_batch;
 use bundle_frames::{BundleReader, Next};
 use certified_epochs::{Certifier, Telling, open_runs};
 use fv_outside::{Failure, Sink, Source};
@@ -91,7 +91,7 @@ fn check_bundle<R: Threads + Sync, D: Digests + Sync, S: Source, O: Sink>(
     }
 }
 
-// Reads the frames behind a header, some batches at a time, and writes what these certify before more is read.
+// Reads the frames behind a header, a batch at a time, and writes what each certifies before more is read.
 fn check_frames<R: Threads + Sync, D: Digests + Sync, S: Source, O: Sink>(
     rt: &R,
     alloc: Global,
@@ -123,10 +123,10 @@ fn check_frames<R: Threads + Sync, D: Digests + Sync, S: Source, O: Sink>(
     let mut certifier = Certifier::new(alloc);
     // Of no workers: a check counts nobody's operations.
     let mut summary = Summary::new(alloc, 0)?;
-    let mut behind = Batch::new(alloc);
-    let mut ahead = Batch::new(alloc);
+    let mut first = Batch::new(alloc);
+    let mut rest = Batch::new(alloc);
     'batches: loop {
-        let filled = pass_batches(rt, alloc, d, reader, source, runs, &mut behind, &mut ahead)?;
+        let filled = pass_batch(rt, alloc, d, reader, source, runs, &mut first, &mut rest)?;
         certifier.certify(&[], runs, &telling, &mut summary, out)?;
         match filled {
             Filled::Whole => {}

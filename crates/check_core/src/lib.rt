@@ -3,8 +3,8 @@
 //! `check` reads a bundle from a source and writes its report to a sink. Its contract says that this is the
 //! report by `specs/BundleReport.antt` of `bundle_report`, and what it means by `specs/Headline.antt` there: the certified
 //! answers are serial, or the exhibit defined from the bundle is a real collision. It keeps no log: `batch.rt` reads some
-//! frames, `feeding.rt` feeds them to the runs of their verifiers, side by side, while `passing.rt` reads the next, a few
-//! times; and the lines of each epoch that they then certify are written before more is read.
+//! frames, `feeding.rt` feeds them to the runs of their verifiers, side by side, and the lines of each epoch that they then
+//! certify are written before more is read. While the first frames of a batch are fed, `passing.rt` reads the rest.
 //!
 //! An audit keeps whole logs. `reading.rt` reads a source to the joined logs, and `conclude` says how many epochs they
 //! certify, writes nothing, and hands on the runs of the logs with what they kept.
@@ -27,6 +27,6 @@ pub use checking::check;
 pub use concluding::{Concluded, Conclusion, conclude};
 pub use feeding::{FEW_BYTES, feed_batch};
 pub use intake::Intake;
-pub use passing::{PASSED_BATCHES, pass_batches};
+pub use passing::{FIRST_FRAMES, pass_batch};
 pub use reading::read_bundle;
 pub use report_text::Status;

@@ -138,7 +138,7 @@ fn what_was_read_is_certified_before_a_fault(rt: HostRuntime) {
 }
 
 #[test]
-fn what_64_frames_certify_is_written_before_more_is_read(rt: HostRuntime) {
+fn a_full_batch_is_written_before_more_is_read(rt: HostRuntime) {
     // 64 frames, and the read behind them fails, but the first write does so before.
     let bytes = with_more_frames(&rt, rt.alloc(), 63);
     same(&rt, "bytes", 0, &bytes.len(), &557);
@@ -178,8 +178,8 @@ fn assert_long_report<R: Threads + Wait + Sync + Abort>(
 }
 
 #[test]
-fn more_than_64_frames_come_to_one_report(rt: HostRuntime) {
-    // 130 frames are twice 64 and 2 more; 129 epochs follow the first, all empty.
+fn more_than_a_batch_comes_to_one_report(rt: HostRuntime) {
+    // 130 frames are two batches and 2 frames more; 129 epochs follow the first, all empty.
     let report = long_report(&rt, rt.alloc());
     assert_long_report(&rt, rt.alloc(), &report, 1);
     assert_long_report(&rt, rt.alloc(), &report, 100_000);

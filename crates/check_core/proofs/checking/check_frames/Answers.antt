@@ -127,39 +127,39 @@ batches-init g c =
 pub certify-requires-clause-few : goal.certify-requires-clause-few
 certify-requires-clause-few g c =
     let functions = g.D.Digests.functions c.args.d.now in
-    let passed = c.pass_batches.ensures.passed in
+    let passed = c.pass_batch.ensures.passed in
     let read = in_ok _ c.in_ok-filled.was passed.2 in
-    omega (arith, c.batches.invariant.few, length_of_all functions 0 passed.0 c.batches.runs c.pass_batches.new.runs read)
+    omega (arith, c.batches.invariant.few, length_of_all functions 0 passed.0 c.batches.runs c.pass_batch.new.runs read)
 
 pub certify-requires-clause-logs : goal.certify-requires-clause-logs
 certify-requires-clause-logs g c = λ fine.
     let functions = g.D.Digests.functions c.args.d.now in
     let header = c.args.header.now in
     let inv = c.batches.invariant in
-    let passed = c.pass_batches.ensures.passed in
+    let passed = c.pass_batch.ensures.passed in
     let read = in_ok _ c.in_ok-filled.was passed.2 in (
       scheme_of functions header,
       header,
       joined_from 0 inv.logs passed.0,
-      read_checked functions header inv.logs passed.0 c.batches.certifier c.batches.runs c.pass_batches.new.runs inv.checked read fine,
+      read_checked functions header inv.logs passed.0 c.batches.certifier c.batches.runs c.pass_batch.new.runs inv.checked read fine,
     )
 
 pub returns-in_err-filled-clause-answers : goal.returns-in_err-filled-clause-answers
 returns-in_err-filled-clause-answers g c = λ left faults come.
     let functions = g.D.Digests.functions c.args.d.now in
     let inv = c.batches.invariant in
-    let passed = c.pass_batches.ensures.passed in
+    let passed = c.pass_batch.ensures.passed in
     let fill = passed.1 in
     let old = c.batches.reader in
-    let new = c.pass_batches.new.reader in
+    let new = c.pass_batch.new.reader in
     let now = inv.come left faults come in
     let sum : new.taken ≡ old.taken + (new.taken - old.taken) = omega (arith, fill.rises) in
-    let having_read = HasRead-then _ _ _ _ _ _ now.having_read (fill.having_read (no_stop c.pass_batches.result c.in_err-filled.field-0.0 c.in_err-filled.was)) sum in
+    let having_read = HasRead-then _ _ _ _ _ _ now.having_read (fill.having_read (no_stop c.pass_batch.result c.in_err-filled.field-0.0 c.in_err-filled.was)) sum in
     let read : Reading = record {
       left = left;
-      left_after = g.S.Source.left c.pass_batches.new.source;
+      left_after = g.S.Source.left c.pass_batch.new.source;
       faults = faults;
-      faults_after = g.S.Source.faults c.pass_batches.new.source;
+      faults_after = g.S.Source.faults c.pass_batch.new.source;
     } in
     let wrote : Writing = record {
       held = g.O.Sink.held c.args.out.now;
@@ -182,30 +182,30 @@ returns-in_err-certify-clause-answers g c = λ left faults come.
     let header = c.args.header.now in
     let limit = c.args.reader.now.limit in
     let inv = c.batches.invariant in
-    let passed = c.pass_batches.ensures.passed in
+    let passed = c.pass_batch.ensures.passed in
     let fill = passed.1 in
     let on = in_ok _ c.in_ok-filled.was fill.goes_on in
     let old = c.batches.reader in
-    let new = c.pass_batches.new.reader in
+    let new = c.pass_batch.new.reader in
     let frames = passed.0 in
     let read = in_ok _ c.in_ok-filled.was passed.2 in
     let tell = text_by g.D.Digests.functions c.new-telling.result in
     let held = g.O.Sink.held c.args.out.now in
     let front = ⊎_elim
     (λ fine.
-    let fed = read_checked functions header inv.logs frames c.batches.certifier c.batches.runs c.pass_batches.new.runs inv.checked read fine in
-    front_more tell functions header inv.logs frames c.batches.certifier c.batches.runs inv.checked c.pass_batches.new.runs held (g.O.Sink.held c.batches.out) (g.O.Sink.held c.certify.new.out) fed inv.written
+    let fed = read_checked functions header inv.logs frames c.batches.certifier c.batches.runs c.pass_batch.new.runs inv.checked read fine in
+    front_more tell functions header inv.logs frames c.batches.certifier c.batches.runs inv.checked c.pass_batch.new.runs held (g.O.Sink.held c.batches.out) (g.O.Sink.held c.certify.new.out) fed inv.written
     (c.in_err-certify.ensures.front (scheme_of functions header) header (joined_from 0 inv.logs frames) fed))
     (λ starved.
     front_none tell functions header inv.logs frames c.batches.certifier c.batches.runs inv.checked held (g.O.Sink.held c.batches.out) (g.O.Sink.held c.certify.new.out) inv.written
     (ap g.O.Sink.held (c.certify.ensures.starved starved).1))
-    (fed_or_not c.pass_batches.new.runs) in
+    (fed_or_not c.pass_batch.new.runs) in
     let now = inv.come left faults come in
     let read : Reading = record {
       left = left;
-      left_after = g.S.Source.left c.pass_batches.new.source;
+      left_after = g.S.Source.left c.pass_batch.new.source;
       faults = faults;
-      faults_after = g.S.Source.faults c.pass_batches.new.source;
+      faults_after = g.S.Source.faults c.pass_batch.new.source;
     } in
     let wrote : Writing = record {
       held = g.O.Sink.held c.args.out.now;
@@ -215,10 +215,10 @@ returns-in_err-certify-clause-answers g c = λ left faults come.
     } in
     subst (λ (r : Result BundleEnd Failure). AnswersTo (check_answer c.args.receipts functions) reading_end limit (check_status limit r) read wrote)
     (sym (handed_on c.from_residual-in_err-certify.result c.in_err-certify.field-0.0 c.from_residual-in_err-certify.ensures.1))
-    (stop_answers c.args.receipts functions header limit left (g.S.Source.left c.pass_batches.new.source) faults (g.S.Source.faults c.pass_batches.new.source) (joined_from 0 inv.logs frames) new
+    (stop_answers c.args.receipts functions header limit left (g.S.Source.left c.pass_batch.new.source) faults (g.S.Source.faults c.pass_batch.new.source) (joined_from 0 inv.logs frames) new
     (on.header ∙ inv.known) (means-more left _ faults _ inv.logs old new now fill.rises header frames inv.known on) wrote c.certify.result c.in_err-certify.field-0.0 c.in_err-certify.was c.certify.ensures.failure
     (took_batch limit left _ _ faults _ inv.logs old new now fill.rises (fill.same_limit ∙ inv.limit) fill.within fill.near
-    c.pass_batches.result c.in_ok-filled.filled c.in_ok-filled.was fill.having_read fill.limit fill.full fill.beyond)
+    c.pass_batch.result c.in_ok-filled.filled c.in_ok-filled.was fill.having_read fill.limit fill.full fill.beyond)
     c.requires.header (taken-more (scheme_of functions header) header inv.logs c.batches.certifier _ frames inv.checked).whole
     (subst (λ (tell : EpochText). GrowsByFront (g.O.Sink.held c.args.out.now) (g.O.Sink.held c.certify.new.out) (lines_due tell functions header (joined_from 0 inv.logs frames)))
     c.new-telling.ensures.text front)
@@ -227,7 +227,7 @@ returns-in_err-certify-clause-answers g c = λ left faults come.
 pub batches-smaller : goal.batches-smaller
 batches-smaller g c =
     let inv = c.batches.invariant in
-    let passed = c.pass_batches.ensures.passed in
+    let passed = c.pass_batch.ensures.passed in
     let fill = passed.1 in
     let on = in_ok _ c.in_ok-filled.was fill.goes_on in
     let some = frames_bytes c.args.header.now.verifiers passed.0 (fill.ranges c.args.header.now inv.known) in
@@ -240,18 +240,18 @@ batches-preserved g c =
     let header = c.args.header.now in
     let scheme = scheme_of functions header in
     let inv = c.batches.invariant in
-    let passed = c.pass_batches.ensures.passed in
+    let passed = c.pass_batch.ensures.passed in
     let fill = passed.1 in
     let on = in_ok _ c.in_ok-filled.was fill.goes_on in
     let old = c.batches.reader in
-    let new = c.pass_batches.new.reader in
+    let new = c.pass_batch.new.reader in
     let frames = passed.0 in
     let all = joined_from 0 inv.logs frames in
     let read = in_ok _ c.in_ok-filled.was passed.2 in
-    let fed = read_checked functions header inv.logs frames c.batches.certifier c.batches.runs c.pass_batches.new.runs inv.checked read c.in_ok-certify.ensures.fed.0 in
+    let fed = read_checked functions header inv.logs frames c.batches.certifier c.batches.runs c.pass_batch.new.runs inv.checked read c.in_ok-certify.ensures.fed.0 in
     let taken = c.in_ok-certify.ensures.taken scheme header all fed in
     let counted = c.in_ok-certify.ensures.judged scheme header all fed in
-    let due = due_more (text_by g.D.Digests.functions c.new-telling.result) functions header inv.logs frames c.batches.certifier c.batches.runs inv.checked c.certify.new.self c.pass_batches.new.runs c.certify.new.runs
+    let due = due_more (text_by g.D.Digests.functions c.new-telling.result) functions header inv.logs frames c.batches.certifier c.batches.runs inv.checked c.certify.new.self c.pass_batch.new.runs c.certify.new.runs
     (g.O.Sink.held c.args.out.now) (g.O.Sink.held c.batches.out) (g.O.Sink.held c.certify.new.out) fed taken counted inv.written (c.in_ok-certify.ensures.lines scheme header all fed) in
     let whole = c.in_ok-filled.was ∙ ap Ok c.in-Whole.is in
     record {
@@ -261,13 +261,13 @@ batches-preserved g c =
           subst (Grows (g.O.Sink.held c.args.out.now) (g.O.Sink.held c.certify.new.out))
           (sym (lines-due (text_by g.D.Digests.functions c.new-telling.result) scheme header all c.certify.new.self _ taken counted)) due;
       weights =
-          runs_weights functions header all c.batches.certifier c.certify.new.self c.pass_batches.new.runs c.certify.new.runs new.progress.offset fed taken
-          (weights_more c.pass_batches.new.runs (old.progress.offset + bytes_of frames) new.progress.offset (omega (arith, on.bytes))
-          (weights_of_all functions frames 0 old.progress.offset c.batches.runs c.pass_batches.new.runs read inv.weights));
-      few = omega (arith, inv.few, c.certify.ensures.len, length_of_all functions 0 frames c.batches.runs c.pass_batches.new.runs read);
+          runs_weights functions header all c.batches.certifier c.certify.new.self c.pass_batch.new.runs c.certify.new.runs new.progress.offset fed taken
+          (weights_more c.pass_batch.new.runs (old.progress.offset + bytes_of frames) new.progress.offset (omega (arith, on.bytes))
+          (weights_of_all functions frames 0 old.progress.offset c.batches.runs c.pass_batch.new.runs read inv.weights));
+      few = omega (arith, inv.few, c.certify.ensures.len, length_of_all functions 0 frames c.batches.runs c.pass_batch.new.runs read);
       come = λ left faults come.
           let now = inv.come left faults come in
-          come-more left _ faults _ inv.logs old new now fill.rises all _ _ (fill.having_read (whole_no_stop c.pass_batches.result whole))
+          come-more left _ faults _ inv.logs old new now fill.rises all _ _ (fill.having_read (whole_no_stop c.pass_batch.result whole))
           (means-more left _ faults _ inv.logs old new now fill.rises header frames inv.known on) on.extent fill.near fill.never_falls;
       known = on.header ∙ inv.known;
       due = fill.due whole;
@@ -284,18 +284,18 @@ returns-in-Stopped-clause-answers g c = λ left faults come.
     let scheme = scheme_of functions header in
     let limit = c.args.reader.now.limit in
     let inv = c.batches.invariant in
-    let passed = c.pass_batches.ensures.passed in
+    let passed = c.pass_batch.ensures.passed in
     let fill = passed.1 in
     let on = in_ok _ c.in_ok-filled.was fill.goes_on in
     let old = c.batches.reader in
-    let new = c.pass_batches.new.reader in
+    let new = c.pass_batch.new.reader in
     let frames = passed.0 in
     let all = joined_from 0 inv.logs frames in
     let read = in_ok _ c.in_ok-filled.was passed.2 in
-    let fed = read_checked functions header inv.logs frames c.batches.certifier c.batches.runs c.pass_batches.new.runs inv.checked read c.in_ok-certify.ensures.fed.0 in
+    let fed = read_checked functions header inv.logs frames c.batches.certifier c.batches.runs c.pass_batch.new.runs inv.checked read c.in_ok-certify.ensures.fed.0 in
     let taken = c.in_ok-certify.ensures.taken scheme header all fed in
     let counted = c.in_ok-certify.ensures.judged scheme header all fed in
-    let due = due_more (text_by g.D.Digests.functions c.new-telling.result) functions header inv.logs frames c.batches.certifier c.batches.runs inv.checked c.certify.new.self c.pass_batches.new.runs c.certify.new.runs
+    let due = due_more (text_by g.D.Digests.functions c.new-telling.result) functions header inv.logs frames c.batches.certifier c.batches.runs inv.checked c.certify.new.self c.pass_batch.new.runs c.certify.new.runs
     (g.O.Sink.held c.args.out.now) (g.O.Sink.held c.batches.out) (g.O.Sink.held c.certify.new.out) fed taken counted inv.written (c.in_ok-certify.ensures.lines scheme header all fed) in
     let now = inv.come left faults come in
     let stopped = c.in_ok-filled.was ∙ ap Ok c.in-Stopped.is in
@@ -304,9 +304,9 @@ returns-in-Stopped-clause-answers g c = λ left faults come.
     let sum' : limit + 1 ≡ old.taken + (new.limit + 1 - old.taken) = omega (arith, fill.rises, fill.within, same) in
     let read : Reading = record {
       left = left;
-      left_after = g.S.Source.left c.pass_batches.new.source;
+      left_after = g.S.Source.left c.pass_batch.new.source;
       faults = faults;
-      faults_after = g.S.Source.faults c.pass_batches.new.source;
+      faults_after = g.S.Source.faults c.pass_batch.new.source;
     } in
     let wrote : Writing = record {
       held = g.O.Sink.held c.args.out.now;
@@ -314,19 +314,19 @@ returns-in-Stopped-clause-answers g c = λ left faults come.
       faults = g.O.Sink.faults c.args.out.now;
       faults_after = g.O.Sink.faults c.certify.new.out;
     } in
-    cut_answers c.args.receipts functions limit left (g.S.Source.left c.pass_batches.new.source) faults (g.S.Source.faults c.pass_batches.new.source) new wrote c.in-Stopped.stop
+    cut_answers c.args.receipts functions limit left (g.S.Source.left c.pass_batch.new.source) faults (g.S.Source.faults c.pass_batch.new.source) new wrote c.in-Stopped.stop
     (took_batch limit left _ _ faults _ inv.logs old new now fill.rises same fill.within fill.near
-    c.pass_batches.result c.in_ok-filled.filled c.in_ok-filled.was fill.having_read fill.limit fill.full fill.beyond)
-    (due_taken c.args.receipts functions header limit left (g.S.Source.left c.pass_batches.new.source) faults (g.S.Source.faults c.pass_batches.new.source) all new
+    c.pass_batch.result c.in_ok-filled.filled c.in_ok-filled.was fill.having_read fill.limit fill.full fill.beyond)
+    (due_taken c.args.receipts functions header limit left (g.S.Source.left c.pass_batch.new.source) faults (g.S.Source.faults c.pass_batch.new.source) all new
     (on.header ∙ inv.known) (means-more left _ faults _ inv.logs old new now fill.rises header frames inv.known on) wrote
     (spent_at _ _ _ c.in_ok-filled.was fill.spent (stopped_not_whole c.in_ok-filled.filled c.in-Stopped.stop c.in-Stopped.is)).no_frames (joined_none 0 all)
     (subst (λ (tell : EpochText). Grows (g.O.Sink.held c.args.out.now) (g.O.Sink.held c.certify.new.out) (lines_due tell functions header all))
     c.new-telling.ensures.text due))
     (λ is. rose_before _ _ _ now.never_falls (fill.fault (stopped ∙ ap stopped_at is)))
-    (λ is. TookAtMost-from_read new.taken limit _ _ (HasRead-then _ _ _ _ _ _ now.having_read (fill.having_read (fault_no_limit c.pass_batches.result (stopped ∙ ap stopped_at is))) sum)
+    (λ is. TookAtMost-from_read new.taken limit _ _ (HasRead-then _ _ _ _ _ _ now.having_read (fill.having_read (fault_no_limit c.pass_batch.result (stopped ∙ ap stopped_at is))) sum)
     (omega (arith, fill.within, same)))
     (λ is. TookJust-from_read (limit + 1) _ _ (HasRead-then _ _ _ _ _ _ now.having_read (fill.limit (stopped ∙ ap stopped_at is)) sum'))
-    (λ is. ends_behind limit left (g.S.Source.left c.batches.source) (g.S.Source.left c.pass_batches.new.source) faults _ inv.logs old new now fill.rises same fill.within fill.near (fill.beyond (stopped ∙ ap stopped_at is)))
+    (λ is. ends_behind limit left (g.S.Source.left c.batches.source) (g.S.Source.left c.pass_batch.new.source) faults _ inv.logs old new now fill.rises same fill.within fill.near (fill.beyond (stopped ∙ ap stopped_at is)))
     (fill.stopped c.in-Stopped.stop stopped)
 
 pub returns-in_err-finish-clause-answers : goal.returns-in_err-finish-clause-answers
@@ -336,30 +336,30 @@ returns-in_err-finish-clause-answers g c = λ left faults come.
     let scheme = scheme_of functions header in
     let limit = c.args.reader.now.limit in
     let inv = c.batches.invariant in
-    let passed = c.pass_batches.ensures.passed in
+    let passed = c.pass_batch.ensures.passed in
     let fill = passed.1 in
     let on = in_ok _ c.in_ok-filled.was fill.goes_on in
     let old = c.batches.reader in
-    let new = c.pass_batches.new.reader in
+    let new = c.pass_batch.new.reader in
     let frames = passed.0 in
     let all = joined_from 0 inv.logs frames in
     let read = in_ok _ c.in_ok-filled.was passed.2 in
-    let fed = read_checked functions header inv.logs frames c.batches.certifier c.batches.runs c.pass_batches.new.runs inv.checked read c.in_ok-certify.ensures.fed.0 in
+    let fed = read_checked functions header inv.logs frames c.batches.certifier c.batches.runs c.pass_batch.new.runs inv.checked read c.in_ok-certify.ensures.fed.0 in
     let taken = c.in_ok-certify.ensures.taken scheme header all fed in
     let counted = c.in_ok-certify.ensures.judged scheme header all fed in
-    let due = due_more (text_by g.D.Digests.functions c.new-telling.result) functions header inv.logs frames c.batches.certifier c.batches.runs inv.checked c.certify.new.self c.pass_batches.new.runs c.certify.new.runs
+    let due = due_more (text_by g.D.Digests.functions c.new-telling.result) functions header inv.logs frames c.batches.certifier c.batches.runs inv.checked c.certify.new.self c.pass_batch.new.runs c.certify.new.runs
     (g.O.Sink.held c.args.out.now) (g.O.Sink.held c.batches.out) (g.O.Sink.held c.certify.new.out) fed taken counted inv.written (c.in_ok-certify.ensures.lines scheme header all fed) in
     let now = inv.come left faults come in
     let ended = c.in_ok-filled.was ∙ ap Ok c.in-End.is in
     let sum : new.taken ≡ old.taken + (new.taken - old.taken) = omega (arith, fill.rises) in
-    let having_read = HasRead-then _ _ _ _ _ _ now.having_read (fill.having_read (end_no_stop c.pass_batches.result ended)) sum in
+    let having_read = HasRead-then _ _ _ _ _ _ now.having_read (fill.having_read (end_no_stop c.pass_batch.result ended)) sum in
     let spent = spent_at _ _ _ c.in_ok-filled.was fill.spent (end_not_whole c.in_ok-filled.filled c.in-End.is) in
     let whole = (taken-more scheme header inv.logs c.batches.certifier _ frames inv.checked).whole in
     let read : Reading = record {
       left = left;
-      left_after = g.S.Source.left c.pass_batches.new.source;
+      left_after = g.S.Source.left c.pass_batch.new.source;
       faults = faults;
-      faults_after = g.S.Source.faults c.pass_batches.new.source;
+      faults_after = g.S.Source.faults c.pass_batch.new.source;
     } in
     let wrote : Writing = record {
       held = g.O.Sink.held c.args.out.now;
@@ -370,7 +370,7 @@ returns-in_err-finish-clause-answers g c = λ left faults come.
     subst (λ (r : Result BundleEnd Failure). AnswersTo (check_answer c.args.receipts functions) reading_end limit (check_status limit r) read wrote)
     (sym (handed_on c.from_residual-in_err-finish.result c.in_err-finish.field-0.0 c.from_residual-in_err-finish.ensures.1
     ∙ ap Err (sink_alone c.in_err-finish.field-0.0 c.in_err-finish.ensures.stop)))
-    (last_answers c.args.receipts functions header limit left (g.S.Source.left c.pass_batches.new.source) faults (g.S.Source.faults c.pass_batches.new.source) all new
+    (last_answers c.args.receipts functions header limit left (g.S.Source.left c.pass_batch.new.source) faults (g.S.Source.faults c.pass_batch.new.source) all new
     (on.header ∙ inv.known) (means-more left _ faults _ inv.logs old new now fill.rises header frames inv.known on) wrote c.bad.result having_read
     (omega (arith, fill.within, fill.same_limit, inv.limit))
     (joined_end all new _ (Some header) c.bad.result (fill.end ended) (sym (on.header ∙ inv.known)) (c.bad.ensures.ahead spent.unread) whole)
@@ -387,28 +387,28 @@ returns-clause-answers g c = λ left faults come.
     let scheme = scheme_of functions header in
     let limit = c.args.reader.now.limit in
     let inv = c.batches.invariant in
-    let passed = c.pass_batches.ensures.passed in
+    let passed = c.pass_batch.ensures.passed in
     let fill = passed.1 in
     let on = in_ok _ c.in_ok-filled.was fill.goes_on in
     let old = c.batches.reader in
-    let new = c.pass_batches.new.reader in
+    let new = c.pass_batch.new.reader in
     let frames = passed.0 in
     let all = joined_from 0 inv.logs frames in
     let read = in_ok _ c.in_ok-filled.was passed.2 in
-    let fed = read_checked functions header inv.logs frames c.batches.certifier c.batches.runs c.pass_batches.new.runs inv.checked read c.in_ok-certify.ensures.fed.0 in
+    let fed = read_checked functions header inv.logs frames c.batches.certifier c.batches.runs c.pass_batch.new.runs inv.checked read c.in_ok-certify.ensures.fed.0 in
     let taken = c.in_ok-certify.ensures.taken scheme header all fed in
     let counted = c.in_ok-certify.ensures.judged scheme header all fed in
-    let due = due_more (text_by g.D.Digests.functions c.new-telling.result) functions header inv.logs frames c.batches.certifier c.batches.runs inv.checked c.certify.new.self c.pass_batches.new.runs c.certify.new.runs
+    let due = due_more (text_by g.D.Digests.functions c.new-telling.result) functions header inv.logs frames c.batches.certifier c.batches.runs inv.checked c.certify.new.self c.pass_batch.new.runs c.certify.new.runs
     (g.O.Sink.held c.args.out.now) (g.O.Sink.held c.batches.out) (g.O.Sink.held c.certify.new.out) fed taken counted inv.written (c.in_ok-certify.ensures.lines scheme header all fed) in
     let now = inv.come left faults come in
     let ended = c.in_ok-filled.was ∙ ap Ok c.in-End.is in
     let sum : new.taken ≡ old.taken + (new.taken - old.taken) = omega (arith, fill.rises) in
-    let having_read = HasRead-then _ _ _ _ _ _ now.having_read (fill.having_read (end_no_stop c.pass_batches.result ended)) sum in
+    let having_read = HasRead-then _ _ _ _ _ _ now.having_read (fill.having_read (end_no_stop c.pass_batch.result ended)) sum in
     let spent = spent_at _ _ _ c.in_ok-filled.was fill.spent (end_not_whole c.in_ok-filled.filled c.in-End.is) in
     let whole = (taken-more scheme header inv.logs c.batches.certifier _ frames inv.checked).whole in
     let end = c.in_ok-finish.field-0 in
     let end_is = c.in_ok-finish.ensures.end scheme header all taken counted in
-    end_answers c.args.receipts functions header limit left (g.S.Source.left c.pass_batches.new.source) faults (g.S.Source.faults c.pass_batches.new.source) all new
+    end_answers c.args.receipts functions header limit left (g.S.Source.left c.pass_batch.new.source) faults (g.S.Source.faults c.pass_batch.new.source) all new
     (on.header ∙ inv.known) (means-more left _ faults _ inv.logs old new now fill.rises header frames inv.known on)
     (record {
       held = g.O.Sink.held c.args.out.now;
@@ -419,7 +419,7 @@ returns-clause-answers g c = λ left faults come.
     c.bad.result end having_read
     (omega (arith, fill.within, fill.same_limit, inv.limit))
     (joined_end all new _ (Some header) c.bad.result (fill.end ended) (sym (on.header ∙ inv.known)) (c.bad.ensures.ahead spent.unread) whole)
-    (took_to_end new.taken left (g.S.Source.left c.pass_batches.new.source) reading_end (end_ahead new) having_read
+    (took_to_end new.taken left (g.S.Source.left c.pass_batch.new.source) reading_end (end_ahead new) having_read
     (extent-more left _ faults _ inv.logs old new now fill.rises on.extent) (fill.reached ended))
     (stops_near _ _ _ reading_end having_read (near-then _ _ _ _ _ _ _ _ _ now.having_read now.extent fill.rises refl now.near fill.near))
     (ap status_of end_is)

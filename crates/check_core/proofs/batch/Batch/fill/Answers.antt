@@ -1,4 +1,4 @@
-use Rattle.std.proofs.Common.{◌≡◌, ◌⊎◌, ◌<◌, ℕ, Result, Ok, Err, is_ok, true≢false, refl, sym, ap, subst, ◌∙◌, arith}
+use Rattle.std.proofs.Common.{length, ◌≡◌, ◌⊎◌, ◌<◌, ℕ, Result, Ok, Err, is_ok, true≢false, refl, sym, ap, subst, ◌∙◌, arith}
 use Rattle.std.specs.List.{AllByRecursion}
 use Rattle.fv_outside.specs.declared.failure.Failure.{Failure}
 use Rattle.fv_outside.specs.declared.failure.Failure.TheVariants as failures
@@ -10,7 +10,7 @@ use Rattle.base_words.specs.declared.memory.Memory.{Memory}
 use Rattle.check_core.specs.declared.batch.Filled.{Filled}
 use Rattle.check_core.specs.declared.batch.Filled.TheVariants.{Stopped}
 use Rattle.check_core.specs.Batch.{HasFilled}
-use Rattle.check_core.proofs.BatchLemmas.{handed_on, memory_not_ok, bytes_kept, more_kept, all_kept, known_frame, known_bounded, no_header, frame_not_end, frame_keeps, end_keeps, end_adds_none, whole_not_end, stopped_not_end, stopped_not_whole, end_not_stopped, stop_is, by_source, handed_over, reads_frame, reads_none}
+use Rattle.check_core.proofs.BatchLemmas.{handed_on, memory_not_ok, bytes_kept, more_kept, count_kept, all_kept, known_frame, known_bounded, no_header, frame_not_end, frame_keeps, end_keeps, end_adds_none, whole_not_end, stopped_not_end, stopped_not_whole, end_not_stopped, stop_is, by_source, handed_over, reads_frame, reads_none}
 use Rattle.report_text.proofs.AnsweringLaws.{rose_before}
 use Rattle.check_core.proofs.batch.Batch.fill.Goals as goal
 
@@ -96,8 +96,8 @@ returns-in-End g c =
 pub returns : goal.returns
 returns g c =
     let last = c.frames.invariant in
-    let many = c.frames-test.ensures.full refl in
-    let read = last.read (omega (arith, many)) in
+    let many : length c.frames.self ≡ c.args.most = omega (arith, c.frames-test.ensures.full refl, last.count) in
+    let read = last.read (omega (arith, many, c.requires.some)) in
     record {
       filled = record {
         goes_on = record {
@@ -138,7 +138,7 @@ returns-in_err-keep-in-Frame g c =
     let split = ap (λ (r : Reading). position r.progress) same in
     let memory = c.in_err-keep-in-Frame.field-0.0 in
     record {
-      filled = subst (λ (result : Result Filled Memory). HasFilled 16 c.keep.new.self result c.args.reader.now c.keep.new.reader
+      filled = subst (λ (result : Result Filled Memory). HasFilled c.args.most c.keep.new.self result c.args.reader.now c.keep.new.reader
           (g.S.Source.left c.args.source.now) (g.S.Source.left c.next.new.source) (g.S.Source.faults c.args.source.now) (g.S.Source.faults c.next.new.source))
           (sym (handed_on c.from_residual.result memory c.from_residual.ensures.1))
           (record {
@@ -179,6 +179,7 @@ frames-preserved g c =
     let same = handed_over new c.keep.new.reader handed in
     let frame : Frame = record { verifier = c.in-Frame.verifier; body = new.progress.body } in
     record {
+      count = count_kept _ _ _ _ kept (c.frames-test.ensures.room refl);
       due = same.due due;
       header = same.header ∙ next.header ∙ frame_keeps _ _ _ c.in-Frame.is ∙ last.header;
       limit = same.limit ∙ next.same_limit ∙ last.limit;
@@ -199,7 +200,7 @@ frames-preserved g c =
     }
 
 pub frames-smaller : goal.frames-smaller
-frames-smaller g c = more_kept _ _ _ c.in_ok-keep-in-Frame.ensures.kept (c.frames-test.ensures.room refl)
+frames-smaller g c = more_kept _ _ _ _ c.in_ok-keep-in-Frame.ensures.kept (c.frames-test.ensures.room refl)
 
 pub returns-in-Head : goal.returns-in-Head
 returns-in-Head g c = absurd (no_header _ _ c.frames.invariant.header c.requires.header (c.in-Ok.ensures.head _ (ap Ok c.in-Head.is)).0)

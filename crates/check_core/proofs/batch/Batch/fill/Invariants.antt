@@ -12,6 +12,7 @@ use Rattle.check_core.proofs.batch.Batch.fill.Given as goal
 -- what was read are the frames so far
 abbrev pub invariant-frames : goal.invariant-frames
 invariant-frames g l = record {
+  count : length l.self ≤ l.most;
   due : IsDue l.reader.progress;
   header : l.reader.progress.header ≡ l.fn.reader.progress.header;
   limit : l.reader.limit ≡ l.fn.reader.limit;
@@ -28,4 +29,4 @@ invariant-frames g l = record {
 
 -- how many frames may still come
 abbrev pub decreases-frames : goal.decreases-frames
-decreases-frames g l = 16 - length l.self
+decreases-frames g l = l.most - length l.self
