@@ -11,7 +11,6 @@ use Rattle.bundle_frames.specs.Extent.{reading_end}
 use Rattle.check_core.specs.Outcomes.{IsCheckStatus}
 use Rattle.script_text.specs.declared.task.Task.{Task}
 use Rattle.script_text.specs.Script.{script_of}
-use Rattle.log_codec.specs.declared.command.Command.{Command}
 use Rattle.host_world.specs.declared.fault.ClockEnd.{ClockEnd}
 use Rattle.host_world.specs.declared.settings.Settings.{Settings}
 use Rattle.verifier_threads.specs.declared.ending.RunEnd.{RunEnd}

@@ -7,7 +7,6 @@ use Rattle.report_text.specs.declared.status.Status.{Status}
 use Rattle.report_text.specs.declared.status.Status.TheVariants as statuses
 use Rattle.report_text.specs.Answer.{Reading, Writing}
 use Rattle.script_text.specs.declared.task.Task.{Task}
-use Rattle.log_codec.specs.declared.command.Command.{Command}
 use Rattle.host_world.specs.declared.fault.ClockEnd.{ClockEnd}
 use Rattle.host_world.specs.declared.settings.Settings.{Settings}
 use Rattle.verifier_threads.specs.InRounds.{Logs}
