@@ -63,7 +63,12 @@ fn reports_are_the_same_by_slot(rt: HostRuntime) {
 }
 
 // The vault of a run with these words begins so.
-fn assert_begins<R: Threads + Wait + Sync + Abort>(rt: &R, alloc: Global, words: &str, magic: &str) {
+fn assert_begins<R: Threads + Wait + Sync + Abort>(
+    rt: &R,
+    alloc: Global,
+    words: &str,
+    magic: &str,
+) {
     let line = line_of(rt, alloc, words);
     let (objects, _) = served(rt, alloc, &line, SCRIPT, 10);
     let front = objects.vault.bytes().starts_with(magic.as_bytes());
