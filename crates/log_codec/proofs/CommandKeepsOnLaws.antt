@@ -5,8 +5,8 @@ use Rattle.record_text.specs.Fields.{KeepsOn}
 use Rattle.record_text.specs.Reading.{path_at, value_at, stamp_at, u16_at}
 use Rattle.record_text.proofs.KeepsOnLaws.{keeps_on-nothing, keeps_on-path, keeps_on-value, keeps_on-stamp, keeps_on-u16}
 use Rattle.log_codec.specs.declared.command.Command.{Command}
-use Rattle.log_codec.specs.declared.command.Command.TheVariants.{AddM, EvictM, AddB, EvictB, EvictBM, Get, Put, NextEpoch}
-use Rattle.log_codec.specs.Command.{add_m_at, evict_m_at, add_b_at, evict_b_at, evict_bm_at, get_at, put_at, path_command_behind, path_command_at}
+use Rattle.log_codec.specs.declared.command.Command.TheVariants.{AddM, EvictM, AddB, EvictB, EvictBM, Get, Put, NextEpoch, Absent}
+use Rattle.log_codec.specs.Command.{add_m_at, evict_m_at, add_b_at, evict_b_at, evict_bm_at, get_at, put_at, absent_at, path_command_behind, path_command_at}
 use Rattle.log_codec.proofs.StepLaws.{keeps_on-if, keeps_on-malformed, keeps_on-two, keeps_on-three, keeps_on-four}
 use Rattle.log_codec.proofs.GrammarLaws.{IsExact, keeps_on-tagged, tagged_shorter}
 use Rattle.log_codec.proofs.CommandLaws.{path_grammar, path_command_begins, path_command_again}
@@ -22,7 +22,8 @@ keeps_on-behind wide longest tag =
     (keeps_on-if (tag == 5) (λ bytes. evict_bm_at wide bytes) _ (keeps_on-three EvictBM (path_at wide) (λ p. path_at wide) stamp_at path (λ p. path) keeps_on-stamp)
     (keeps_on-if (tag == 6) (λ bytes. get_at wide longest bytes) _ (keeps_on-two Get (path_at wide) (value_at longest) path value)
     (keeps_on-if (tag == 7) (λ bytes. put_at wide longest bytes) _ (keeps_on-two Put (path_at wide) (value_at longest) path value)
-    (keeps_on-if (tag == 8) (λ bytes. Ok (NextEpoch, bytes)) (λ bytes. Err Malformed) (keeps_on-nothing NextEpoch) keeps_on-malformed)))))))
+    (keeps_on-if (tag == 8) (λ bytes. Ok (NextEpoch, bytes)) _ (keeps_on-nothing NextEpoch)
+    (keeps_on-if (tag == 9) (λ bytes. absent_at wide bytes) (λ bytes. Err Malformed) (keeps_on-two Absent (path_at wide) (λ p. path_at wide) path (λ p. path)) keeps_on-malformed))))))))
 
 pub keeps_on-path_command : (wide : Bool) (longest : ℕ) → KeepsOn (path_command_at wide longest)
 unfolding path_command_at

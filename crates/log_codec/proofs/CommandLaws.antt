@@ -8,8 +8,8 @@ use Rattle.record_text.specs.Texts.{path_text, value_text, stamp_text}
 use Rattle.record_text.proofs.FieldLaws.{AreBytes, Begins}
 use Rattle.record_text.proofs.ValueTextLaws.{path_of_value}
 use Rattle.log_codec.specs.declared.command.Command.{Command}
-use Rattle.log_codec.specs.declared.command.Command.TheVariants.{AddM, EvictM, AddB, EvictB, EvictBM, Get, Put, NextEpoch}
-use Rattle.log_codec.specs.Command.{path_command_text, add_m_at, evict_m_at, add_b_at, evict_b_at, evict_bm_at, get_at, put_at, path_command_behind, path_command_at, IsPathCommand, IsCommandIn}
+use Rattle.log_codec.specs.declared.command.Command.TheVariants.{AddM, EvictM, AddB, EvictB, EvictBM, Get, Put, NextEpoch, Absent}
+use Rattle.log_codec.specs.Command.{path_command_text, add_m_at, evict_m_at, add_b_at, evict_b_at, evict_bm_at, get_at, put_at, absent_at, path_command_behind, path_command_at, IsPathCommand, IsCommandIn}
 use Rattle.log_codec.proofs.StepLaws.{then_at, two_at, three_at}
 use Rattle.log_codec.proofs.GrammarLaws.{Grammar, Spells, Spells-done, Spells-malformed, Spells-if, Spells-path, Spells-value, Spells-stamp, Spells-u16, Again, Again-done, Again-path, Again-value, Again-stamp, Again-u16, two_texts, three_texts, four_texts, tagged_at, tagged_begins, tagged_again}
 
@@ -65,6 +65,12 @@ put_spells wide longest =
     Spells-value (path_grammar wide longest) longest (7 ∷ path_text path) path short (λ value rest. Ok (Put path value, rest)) (λ value kind.
     Spells-done (path_grammar wide longest) _ (Put path value) refl (within, kind)))
 
+absent_spells : (wide : Bool) (longest : ℕ) → Spells (path_grammar wide longest) (9 ∷ []) (λ bytes. absent_at wide bytes)
+absent_spells wide longest =
+    Spells-path (path_grammar wide longest) wide (9 ∷ []) (λ path left. then_at (path_at wide left) (λ parent rest. Ok (Absent path parent, rest))) (λ path within short.
+    Spells-path (path_grammar wide longest) wide (9 ∷ path_text path) (λ parent rest. Ok (Absent path parent, rest)) (λ parent inside below.
+    Spells-done (path_grammar wide longest) _ (Absent path parent) refl ((within, inside), (short, below))))
+
 behind_spells : (wide : Bool) (longest : ℕ) (tag : ℕ) → Spells (path_grammar wide longest) (tag ∷ []) (λ bytes. path_command_behind wide longest tag bytes)
 behind_spells wide longest tag =
     Spells-if (path_grammar wide longest) tag 1 (λ bytes. add_m_at wide longest bytes) _ (add_m_spells wide longest)
@@ -74,8 +80,9 @@ behind_spells wide longest tag =
     (Spells-if (path_grammar wide longest) tag 5 (λ bytes. evict_bm_at wide bytes) _ (evict_bm_spells wide longest)
     (Spells-if (path_grammar wide longest) tag 6 (λ bytes. get_at wide longest bytes) _ (get_spells wide longest)
     (Spells-if (path_grammar wide longest) tag 7 (λ bytes. put_at wide longest bytes) _ (put_spells wide longest)
-    (Spells-if (path_grammar wide longest) tag 8 (λ bytes. Ok (NextEpoch, bytes)) (λ bytes. Err Malformed) (Spells-done (path_grammar wide longest) (8 ∷ []) NextEpoch refl (tt, tt))
-    (Spells-malformed (path_grammar wide longest) (tag ∷ [])))))))))
+    (Spells-if (path_grammar wide longest) tag 8 (λ bytes. Ok (NextEpoch, bytes)) _ (Spells-done (path_grammar wide longest) (8 ∷ []) NextEpoch refl (tt, tt))
+    (Spells-if (path_grammar wide longest) tag 9 (λ bytes. absent_at wide bytes) (λ bytes. Err Malformed) (absent_spells wide longest)
+    (Spells-malformed (path_grammar wide longest) (tag ∷ []))))))))))
 
 -- What is read as a command is spelled so, and in its ranges.
 pub path_command_begins : (wide : Bool) (longest : ℕ) (bytes : List ℕ) (command : Command) (rest : List ℕ) → AreBytes bytes → path_command_at wide longest bytes ≡ Ok (command, rest) → Begins bytes (path_command_text command) rest × (IsCommandIn wide command × IsPathCommand longest command)
@@ -127,6 +134,11 @@ all_again wide longest (Put path value) inside is =
     (two_texts 7 (path_text path) (value_text value))
 all_again wide longest NextEpoch inside is =
     tagged_again (λ tag bytes. path_command_behind wide longest tag bytes) 8 (λ bytes. Ok (NextEpoch, bytes)) [] _ NextEpoch (λ bytes. refl) (Again-done NextEpoch) refl
+all_again wide longest (Absent path parent) inside is =
+    tagged_again (λ tag bytes. path_command_behind wide longest tag bytes) 9 (λ bytes. absent_at wide bytes) (path_text path ++ (path_text parent ++ [])) _ (Absent path parent) (λ bytes. refl)
+    (Again-path wide path inside.0 is.0 (λ path left. then_at (path_at wide left) (λ parent rest. Ok (Absent path parent, rest))) _ _
+    (Again-path wide parent inside.1 is.1 (λ parent rest. Ok (Absent path parent, rest)) [] _ (Again-done (Absent path parent))))
+    (two_texts 9 (path_text path) (path_text parent))
 
 -- What is spelled as a command is read, whatever follows.
 pub path_command_again : (wide : Bool) (longest : ℕ) (command : Command) (rest : List ℕ) → IsCommandIn wide command × IsPathCommand longest command → path_command_at wide longest (path_command_text command ++ rest) ≡ Ok (command, rest)

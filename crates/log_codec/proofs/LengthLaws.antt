@@ -16,8 +16,8 @@ use Rattle.record_text.specs.Reading.{first_byte, byte_at, run_at, path_in, path
 use Rattle.record_text.proofs.FieldLaws.{field_ok, Ok-is}
 use Rattle.record_text.specs.Longest.{longest_blob}
 use Rattle.log_codec.specs.declared.command.Command.{Command}
-use Rattle.log_codec.specs.declared.command.Command.TheVariants.{AddM, EvictM, AddB, EvictB, EvictBM, Get, Put, NextEpoch}
-use Rattle.log_codec.specs.Command.{add_m_at, evict_m_at, add_b_at, evict_b_at, evict_bm_at, get_at, put_at, path_command_behind, path_command_at, path_command_text, IsPathCommand, IsCommandIn}
+use Rattle.log_codec.specs.declared.command.Command.TheVariants.{AddM, EvictM, AddB, EvictB, EvictBM, Get, Put, NextEpoch, Absent}
+use Rattle.log_codec.specs.Command.{add_m_at, evict_m_at, add_b_at, evict_b_at, evict_bm_at, get_at, put_at, absent_at, path_command_behind, path_command_at, path_command_text, IsPathCommand, IsCommandIn}
 use Rattle.log_codec.proofs.CommandLaws.{path_grammar}
 use Rattle.log_codec.proofs.CommandKeepsOnLaws.{path_exact}
 use Rattle.log_codec.proofs.GrammarLaws.{Grammar, IsExact, path_at-in, tagged_at}
@@ -224,7 +224,8 @@ Spans-behind tag =
     (Spans-if 103 (tag == 5) (λ bytes. evict_bm_at false bytes) _ (Spans-wider 26 103 _ (omega arith) (Spans-three 9 9 8 EvictBM (path_at false) (λ p. path_at false) stamp_at Spans-path (λ p. Spans-path) Spans-stamp))
     (Spans-if 103 (tag == 6) (λ bytes. get_at false longest_blob bytes) _ (Spans-wider 93 103 _ (omega arith) (Spans-two_found 9 84 Get (path_at false) (value_at longest_blob) Spans-path Spans-value_of))
     (Spans-if 103 (tag == 7) (λ bytes. put_at false longest_blob bytes) _ (Spans-wider 93 103 _ (omega arith) (Spans-two_found 9 84 Put (path_at false) (value_at longest_blob) Spans-path Spans-value_of))
-    (Spans-if 103 (tag == 8) (λ bytes. Ok (NextEpoch, bytes)) (λ bytes. Err faults.Malformed) (Spans-done 103 NextEpoch) (Spans-malformed 103))))))))
+    (Spans-if 103 (tag == 8) (λ bytes. Ok (NextEpoch, bytes)) _ (Spans-done 103 NextEpoch)
+    (Spans-if 103 (tag == 9) (λ bytes. absent_at false bytes) (λ bytes. Err faults.Malformed) (Spans-wider 18 103 _ (omega arith) (Spans-two 9 9 Absent (path_at false) (λ p. path_at false) Spans-path (λ p. Spans-path))) (Spans-malformed 103)))))))))
 
 pub Spans-path_command : Spans 104 (λ bytes. path_command_at false longest_blob bytes)
 unfolding path_command_at

@@ -11,8 +11,8 @@ use Rattle.record_text.proofs.FieldLaws.{AreBytes, Begins}
 use Rattle.record_text.proofs.ValueTextLaws.{path_of_value}
 use Rattle.record_text.proofs.KeepsOnLaws.{keeps_on-nothing, keeps_on-then, keeps_on-path, keeps_on-value, keeps_on-blob, keeps_on-stamp, keeps_on-u16}
 use Rattle.log_codec.specs.declared.slot_command.SlotCommand.{SlotCommand}
-use Rattle.log_codec.specs.declared.slot_command.SlotCommand.TheVariants.{AddM, EvictM, AddB, EvictB, EvictBM, Get, Put, NextEpoch}
-use Rattle.log_codec.specs.SlotCommand.{slot_text, slot_command_text, add_m_at, evict_m_at, add_b_at, evict_b_at, evict_bm_at, get_at, put_at, slot_command_behind, slot_command_at, IsSlotCommand, IsSlotCommandIn}
+use Rattle.log_codec.specs.declared.slot_command.SlotCommand.TheVariants.{AddM, EvictM, AddB, EvictB, EvictBM, Get, Put, NextEpoch, Absent}
+use Rattle.log_codec.specs.SlotCommand.{slot_text, slot_command_text, add_m_at, evict_m_at, add_b_at, evict_b_at, evict_bm_at, get_at, put_at, absent_at, slot_command_behind, slot_command_at, IsSlotCommand, IsSlotCommandIn}
 use Rattle.log_codec.proofs.StepLaws.{then_at, two_at, three_at, four_at, keeps_on-if, keeps_on-malformed, keeps_on-two, keeps_on-three, keeps_on-four}
 use Rattle.log_codec.proofs.GrammarLaws.{Grammar, IsExact, Spells, Spells-done, Spells-malformed, Spells-if, Spells-path, Spells-value, Spells-blob, Spells-stamp, Spells-u16, Again, Again-done, Again-path, Again-value, Again-blob, Again-stamp, Again-u16, two_texts, three_texts, four_texts, five_texts, tagged_at, tagged_begins, tagged_again, keeps_on-tagged, tagged_shorter}
 use Rattle.log_codec.proofs.LengthLaws.{Spans, Spans-done, Spans-malformed, Spans-if, Spans-wider, Spans-then, Spans-two, Spans-three, Spans-three_found, Spans-four_found, Spans-path, Spans-u16, Spans-stamp, Spans-blob, Spans-value_of, Spans-tagged, text_spans}
@@ -71,6 +71,12 @@ put_spells wide longest =
     Spells-blob (slot_grammar wide longest) longest (7 ∷ slot_text slot) (λ value rest. Ok (Put slot value, rest)) (λ value fits.
     Spells-done (slot_grammar wide longest) _ (Put slot value) refl (tt, (small, fits))))
 
+absent_spells : (wide : Bool) (longest : ℕ) → Spells (slot_grammar wide longest) (9 ∷ []) (λ bytes. absent_at wide bytes)
+absent_spells wide longest =
+    Spells-path (slot_grammar wide longest) wide (9 ∷ []) (λ path left. then_at (u16_at left) (λ parent rest. Ok (Absent path parent, rest))) (λ path inside short.
+    Spells-u16 (slot_grammar wide longest) (9 ∷ path_text path) (λ parent rest. Ok (Absent path parent, rest)) (λ parent small.
+    Spells-done (slot_grammar wide longest) _ (Absent path parent) refl (inside, (short, small))))
+
 behind_spells : (wide : Bool) (longest : ℕ) (tag : ℕ) → Spells (slot_grammar wide longest) (tag ∷ []) (λ bytes. slot_command_behind wide longest tag bytes)
 behind_spells wide longest tag =
     Spells-if (slot_grammar wide longest) tag 1 (λ bytes. add_m_at wide longest bytes) _ (add_m_spells wide longest)
@@ -80,8 +86,9 @@ behind_spells wide longest tag =
     (Spells-if (slot_grammar wide longest) tag 5 (λ bytes. evict_bm_at bytes) _ (evict_bm_spells wide longest)
     (Spells-if (slot_grammar wide longest) tag 6 (λ bytes. get_at longest bytes) _ (get_spells wide longest)
     (Spells-if (slot_grammar wide longest) tag 7 (λ bytes. put_at longest bytes) _ (put_spells wide longest)
-    (Spells-if (slot_grammar wide longest) tag 8 (λ bytes. Ok (NextEpoch, bytes)) (λ bytes. Err Malformed) (Spells-done (slot_grammar wide longest) (8 ∷ []) NextEpoch refl (tt, tt))
-    (Spells-malformed (slot_grammar wide longest) (tag ∷ [])))))))))
+    (Spells-if (slot_grammar wide longest) tag 8 (λ bytes. Ok (NextEpoch, bytes)) _ (Spells-done (slot_grammar wide longest) (8 ∷ []) NextEpoch refl (tt, tt))
+    (Spells-if (slot_grammar wide longest) tag 9 (λ bytes. absent_at wide bytes) (λ bytes. Err Malformed) (absent_spells wide longest)
+    (Spells-malformed (slot_grammar wide longest) (tag ∷ []))))))))))
 
 -- What is read as a command is spelled so, and in its ranges.
 pub slot_command_begins : (wide : Bool) (longest : ℕ) (bytes : List ℕ) (command : SlotCommand) (rest : List ℕ) → AreBytes bytes → slot_command_at wide longest bytes ≡ Ok (command, rest) → Begins bytes (slot_command_text command) rest × (IsSlotCommandIn wide command × IsSlotCommand longest command)
@@ -135,6 +142,11 @@ all_again wide longest (Put slot value) inside is =
     (two_texts 7 (slot_text slot) (blob_text value))
 all_again wide longest NextEpoch inside is =
     tagged_again (λ tag bytes. slot_command_behind wide longest tag bytes) 8 (λ bytes. Ok (NextEpoch, bytes)) [] _ NextEpoch (λ bytes. refl) (Again-done NextEpoch) refl
+all_again wide longest (Absent path parent) inside is =
+    tagged_again (λ tag bytes. slot_command_behind wide longest tag bytes) 9 (λ bytes. absent_at wide bytes) (path_text path ++ (slot_text parent ++ [])) _ (Absent path parent) (λ bytes. refl)
+    (Again-path wide path inside is.0 (λ path left. then_at (u16_at left) (λ parent rest. Ok (Absent path parent, rest))) _ _
+    (Again-u16 parent is.1 (λ parent rest. Ok (Absent path parent, rest)) [] _ (Again-done (Absent path parent))))
+    (two_texts 9 (path_text path) (slot_text parent))
 
 -- What is spelled as a command is read, whatever follows.
 pub slot_command_again : (wide : Bool) (longest : ℕ) (command : SlotCommand) (rest : List ℕ) → IsSlotCommandIn wide command × IsSlotCommand longest command → slot_command_at wide longest (slot_command_text command ++ rest) ≡ Ok (command, rest)
@@ -155,7 +167,8 @@ keeps_on-behind wide longest tag =
     (keeps_on-if (tag == 5) (λ bytes. evict_bm_at bytes) _ (keeps_on-three EvictBM u16_at (λ s. u16_at) stamp_at keeps_on-u16 (λ s. keeps_on-u16) keeps_on-stamp)
     (keeps_on-if (tag == 6) (λ bytes. get_at longest bytes) _ (keeps_on-two Get u16_at (λ s. blob_at longest) keeps_on-u16 (λ s. blob))
     (keeps_on-if (tag == 7) (λ bytes. put_at longest bytes) _ (keeps_on-two Put u16_at (λ s. blob_at longest) keeps_on-u16 (λ s. blob))
-    (keeps_on-if (tag == 8) (λ bytes. Ok (NextEpoch, bytes)) (λ bytes. Err Malformed) (keeps_on-nothing NextEpoch) keeps_on-malformed)))))))
+    (keeps_on-if (tag == 8) (λ bytes. Ok (NextEpoch, bytes)) _ (keeps_on-nothing NextEpoch)
+    (keeps_on-if (tag == 9) (λ bytes. absent_at wide bytes) (λ bytes. Err Malformed) (keeps_on-two Absent (path_at wide) (λ p. u16_at) path (λ p. keeps_on-u16)) keeps_on-malformed))))))))
 
 pub keeps_on-slot_command : (wide : Bool) (longest : ℕ) → KeepsOn (slot_command_at wide longest)
 unfolding slot_command_at
@@ -187,7 +200,8 @@ Spans-behind tag =
     (Spans-if 105 (tag == 5) (λ bytes. evict_bm_at bytes) _ (Spans-wider 12 105 _ (omega arith) (Spans-three 2 2 8 EvictBM u16_at (λ s. u16_at) stamp_at Spans-u16 (λ s. Spans-u16) Spans-stamp))
     (Spans-if 105 (tag == 6) (λ bytes. get_at longest_blob bytes) _ (Spans-wider 68 105 _ (omega arith) (Spans-two 2 66 Get u16_at (λ s. blob_at longest_blob) Spans-u16 (λ s. Spans-blob)))
     (Spans-if 105 (tag == 7) (λ bytes. put_at longest_blob bytes) _ (Spans-wider 68 105 _ (omega arith) (Spans-two 2 66 Put u16_at (λ s. blob_at longest_blob) Spans-u16 (λ s. Spans-blob)))
-    (Spans-if 105 (tag == 8) (λ bytes. Ok (NextEpoch, bytes)) (λ bytes. Err Malformed) (Spans-done 105 NextEpoch) (Spans-malformed 105))))))))
+    (Spans-if 105 (tag == 8) (λ bytes. Ok (NextEpoch, bytes)) _ (Spans-done 105 NextEpoch)
+    (Spans-if 105 (tag == 9) (λ bytes. absent_at false bytes) (λ bytes. Err Malformed) (Spans-wider 11 105 _ (omega arith) (Spans-two 9 2 Absent (path_at false) (λ p. u16_at) Spans-path (λ p. Spans-u16))) (Spans-malformed 105)))))))))
 
 pub Spans-slot_command : Spans 106 (λ bytes. slot_command_at false longest_blob bytes)
 unfolding slot_command_at

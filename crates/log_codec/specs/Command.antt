@@ -9,7 +9,7 @@ use Rattle.record_text.specs.Fields.{Parsed, ◌>>=◌}
 use Rattle.record_text.specs.Reading.{byte_at, path_at, value_at, stamp_at, u16_at}
 use Rattle.record_text.specs.declared.reader.TextFault.TheVariants.{Malformed}
 use Rattle.log_codec.specs.declared.command.Command.{Command}
-use Rattle.log_codec.specs.declared.command.Command.TheVariants.{AddM, EvictM, AddB, EvictB, EvictBM, Get, Put, NextEpoch}
+use Rattle.log_codec.specs.declared.command.Command.TheVariants.{AddM, EvictM, AddB, EvictB, EvictBM, Get, Put, NextEpoch, Absent}
 
 -- the tag of a command, and its fields
 abbrev pub path_command_text : Command → List ℕ
@@ -21,6 +21,7 @@ path_command_text (EvictBM path parent stamp) = 5 ∷ path_text path ++ path_tex
 path_command_text (Get path value) = 6 ∷ path_text path ++ value_text value
 path_command_text (Put path value) = 7 ∷ path_text path ++ value_text value
 path_command_text NextEpoch = 8 ∷ []
+path_command_text (Absent path parent) = 9 ∷ path_text path ++ path_text parent
 
 -- ---- the fields of each command, behind its tag
 
@@ -77,6 +78,13 @@ put_at wide longest bytes = do
   value ← value_at longest path.0 path.1
   Ok (Put path.0 value.0, value.1)
 
+-- a path and the parent that doesn't lead to it
+abbrev pub absent_at : Bool → List ℕ → Parsed Command
+absent_at wide bytes = do
+  path ← path_at wide bytes
+  parent ← path_at wide path.1
+  Ok (Absent path.0 parent.0, parent.1)
+
 -- behind a tag: the fields of its command; any other tag is malformed
 abbrev pub path_command_behind : Bool → ℕ → ℕ → List ℕ → Parsed Command
 path_command_behind wide longest tag bytes =
@@ -88,6 +96,7 @@ path_command_behind wide longest tag bytes =
     else if tag == 6 then get_at wide longest bytes
     else if tag == 7 then put_at wide longest bytes
     else if tag == 8 then Ok (NextEpoch, bytes)
+    else if tag == 9 then absent_at wide bytes
     else Err Malformed
 
 -- the command of a tree that the bytes begin with, and the bytes behind it; or the first fault
@@ -106,6 +115,7 @@ IsPathCommand longest (EvictBM path parent stamp) = IsPath path × IsPath parent
 IsPathCommand longest (Get path value) = IsOf longest path value
 IsPathCommand longest (Put path value) = IsOf longest path value
 IsPathCommand longest NextEpoch = Unit {0}
+IsPathCommand longest (Absent path parent) = IsPath path × IsPath parent
 
 -- each path that it names is of this tree: a command of it that is also in range has a text
 abbrev pub IsCommandIn : Bool → Command → Type 0
@@ -117,3 +127,4 @@ IsCommandIn wide (EvictBM path parent stamp) = IsIn wide path × IsIn wide paren
 IsCommandIn wide (Get path value) = IsIn wide path
 IsCommandIn wide (Put path value) = IsIn wide path
 IsCommandIn wide NextEpoch = Unit {0}
+IsCommandIn wide (Absent path parent) = IsIn wide path × IsIn wide parent

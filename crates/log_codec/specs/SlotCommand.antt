@@ -1,7 +1,7 @@
 -- The commands of a log that names slots, and their one text: a tag and the fields.
 use Rattle.std.specs.Prelude.{ℕ, ◌==◌, ◌<◌, ◌^◌, Bool, List, [], ◌∷◌, ◌++◌, Ok, Err, if◌then◌else◌}
 use Rattle.std.specs.Int.{w16, to_be_bytes}
-use Rattle.tree_keys.specs.Path.{IsIn}
+use Rattle.tree_keys.specs.Path.{IsIn, IsPath}
 use Rattle.record_text.specs.Value.{IsOf, IsBlob}
 use Rattle.record_text.specs.Element.{IsStamp}
 use Rattle.record_text.specs.Texts.{path_text, value_text, blob_text, stamp_text}
@@ -9,7 +9,7 @@ use Rattle.record_text.specs.Fields.{Parsed, ◌>>=◌}
 use Rattle.record_text.specs.Reading.{byte_at, path_at, value_at, blob_at, stamp_at, u16_at}
 use Rattle.record_text.specs.declared.reader.TextFault.TheVariants.{Malformed}
 use Rattle.log_codec.specs.declared.slot_command.SlotCommand.{SlotCommand}
-use Rattle.log_codec.specs.declared.slot_command.SlotCommand.TheVariants.{AddM, EvictM, AddB, EvictB, EvictBM, Get, Put, NextEpoch}
+use Rattle.log_codec.specs.declared.slot_command.SlotCommand.TheVariants.{AddM, EvictM, AddB, EvictB, EvictBM, Get, Put, NextEpoch, Absent}
 
 -- the number of a slot
 abbrev pub slot_text : ℕ → List ℕ
@@ -25,6 +25,7 @@ slot_command_text (EvictBM slot parent stamp) = 5 ∷ slot_text slot ++ slot_tex
 slot_command_text (Get slot value) = 6 ∷ slot_text slot ++ blob_text value
 slot_command_text (Put slot value) = 7 ∷ slot_text slot ++ blob_text value
 slot_command_text NextEpoch = 8 ∷ []
+slot_command_text (Absent path parent) = 9 ∷ path_text path ++ slot_text parent
 
 -- ---- the fields of each command, behind its tag
 
@@ -83,6 +84,13 @@ put_at longest bytes = do
   value ← blob_at longest slot.1
   Ok (Put slot.0 value.0, value.1)
 
+-- a path, and the slot of the parent that doesn't lead to it
+abbrev pub absent_at : Bool → List ℕ → Parsed SlotCommand
+absent_at wide bytes = do
+  path ← path_at wide bytes
+  parent ← u16_at path.1
+  Ok (Absent path.0 parent.0, parent.1)
+
 -- behind a tag: the fields of its command; any other tag is malformed
 abbrev pub slot_command_behind : Bool → ℕ → ℕ → List ℕ → Parsed SlotCommand
 slot_command_behind wide longest tag bytes =
@@ -94,6 +102,7 @@ slot_command_behind wide longest tag bytes =
     else if tag == 6 then get_at longest bytes
     else if tag == 7 then put_at longest bytes
     else if tag == 8 then Ok (NextEpoch, bytes)
+    else if tag == 9 then absent_at wide bytes
     else Err Malformed
 
 -- the command of a tree that the bytes begin with, and the bytes behind it; or the first fault
@@ -116,6 +125,7 @@ IsSlotCommand longest (EvictBM slot parent stamp) = IsSlot slot × IsSlot parent
 IsSlotCommand longest (Get slot value) = IsSlot slot × IsBlob longest value
 IsSlotCommand longest (Put slot value) = IsSlot slot × IsBlob longest value
 IsSlotCommand longest NextEpoch = Unit {0}
+IsSlotCommand longest (Absent path parent) = IsPath path × IsSlot parent
 
 -- each path that it names is of this tree: a command of it that is also in range has a text
 abbrev pub IsSlotCommandIn : Bool → SlotCommand → Type 0
@@ -127,3 +137,4 @@ IsSlotCommandIn wide (EvictBM slot parent stamp) = Unit {0}
 IsSlotCommandIn wide (Get slot value) = Unit {0}
 IsSlotCommandIn wide (Put slot value) = Unit {0}
 IsSlotCommandIn wide NextEpoch = Unit {0}
+IsSlotCommandIn wide (Absent path parent) = IsIn wide path

@@ -1,4 +1,4 @@
-//! The eight commands of a log.
+//! The nine commands of a log.
 use lamport_clocks::Stamp;
 use record_text::Value;
 use tree_keys::Path;
@@ -47,4 +47,9 @@ pub enum Command {
     },
     /// The step to the next epoch.
     NextEpoch,
+    /// Says that a key has no record, by a parent whose pointer doesn't lead to it.
+    Absent {
+        path: Path,
+        parent: Path,
+    },
 }

@@ -55,6 +55,7 @@ pub fn write_path_command(command: &Command) -> ArrayVec<u8, LONGEST_PATH_COMMAN
         Command::Get { path, value } => with_value(6, path, value),
         Command::Put { path, value } => with_value(7, path, value),
         Command::NextEpoch => tag_alone(8),
+        Command::Absent { path, parent } => with_parent(9, path, parent),
     }
 }
 

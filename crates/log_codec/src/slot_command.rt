@@ -1,4 +1,4 @@
-//! The eight commands of a log that names slots.
+//! The nine commands of a log that names slots.
 use lamport_clocks::Stamp;
 use record_text::{Blob, Value};
 use tree_keys::Path;
@@ -49,4 +49,9 @@ pub enum SlotCommand {
     },
     /// The step to the next epoch.
     NextEpoch,
+    /// Says that a key has no record, by a parent whose pointer doesn't lead to it.
+    Absent {
+        path: Path,
+        parent: u16,
+    },
 }

@@ -2,7 +2,7 @@
 ghost use Rattle.std.specs.Prelude.{false};
 ghost use Rattle.record_text.specs.Fields.{Takes};
 ghost use Rattle.record_text.specs.Longest.{longest_blob};
-ghost use Rattle.log_codec.specs.SlotCommand.{add_m_at, evict_m_at, add_b_at, evict_b_at, evict_bm_at, get_at, put_at, slot_command_behind, slot_command_at};
+ghost use Rattle.log_codec.specs.SlotCommand.{add_m_at, evict_m_at, add_b_at, evict_b_at, evict_bm_at, get_at, put_at, absent_at, slot_command_behind, slot_command_at};
 ghost use Rattle.log_codec.specs.LogCommand.{naming_slots};
 
 use crate::log_command::LogCommand;
@@ -88,6 +88,14 @@ fn put(reader: &mut Reader<'_>) -> Result<LogCommand, TextFault>
     Ok(LogCommand::BySlot(SlotCommand::Put { slot, value }))
 }
 
+fn absent(reader: &mut Reader<'_>) -> Result<LogCommand, TextFault>
+    ensures takes { Takes result reader.new (naming_slots (absent_at false reader.old)) }
+{
+    let path = reader.path()?;
+    let parent = reader.u16()?;
+    Ok(LogCommand::BySlot(SlotCommand::Absent { path, parent }))
+}
+
 // The command of this tag.
 fn behind(reader: &mut Reader<'_>, tag: u8) -> Result<LogCommand, TextFault>
     ensures takes { Takes result reader.new (naming_slots (slot_command_behind false longest_blob tag reader.old)) }
@@ -101,6 +109,7 @@ fn behind(reader: &mut Reader<'_>, tag: u8) -> Result<LogCommand, TextFault>
         6 => get(reader),
         7 => put(reader),
         8 => Ok(LogCommand::BySlot(SlotCommand::NextEpoch)),
+        9 => absent(reader),
         _ => Err(TextFault::Malformed),
     }
 }

@@ -57,6 +57,7 @@ pub fn write_slot_command(command: &SlotCommand) -> ArrayVec<u8, LONGEST_SLOT_CO
         SlotCommand::Get { slot, value } => with_blob(6, *slot, value),
         SlotCommand::Put { slot, value } => with_blob(7, *slot, value),
         SlotCommand::NextEpoch => tag_alone(8),
+        SlotCommand::Absent { path, parent } => absent(path, *parent),
     }
 }
 
@@ -104,6 +105,16 @@ fn with_value(
     let mut text = tagged(tag, slot);
     push_path(&mut text, path);
     push_value(&mut text, value);
+    text
+}
+
+// The absence of a path, by the slot of its parent.
+fn absent(path: &Path, parent: u16) -> ArrayVec<u8, LONGEST_SLOT_COMMAND_TEXT>
+    ensures text { result.items ≡ 9 ∷ path_text path.now ++ slot_text parent }
+{
+    let mut text = tag_alone(9);
+    push_path(&mut text, path);
+    push_u16(&mut text, parent);
     text
 }
 

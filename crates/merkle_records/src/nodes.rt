@@ -3,7 +3,7 @@ ghost use Rattle.std.specs.Prelude.{◌≡◌, ◌≢◌, Bool, Some};
 ghost use Rattle.tree_keys.specs.Path.{side, IsBelow};
 ghost use Rattle.record_text.specs.Value.{node_side};
 ghost use Rattle.record_text.specs.Texts.{value_text};
-ghost use Rattle.merkle_records.specs.Merkle.{case_of, IsAdded, taken_over, after_add, after_evict, after_defer, pointer_to};
+ghost use Rattle.merkle_records.specs.Merkle.{case_of, leads_over, IsAdded, taken_over, after_add, after_evict, after_defer, pointer_to};
 ghost use Rattle.merkle_records.specs.declared.cases.AddCase.TheVariants.{Foreign};
 
 use crate::cases::AddCase;
@@ -28,6 +28,16 @@ pub fn add_case(node: &Node, at: &Path, k: &Path) -> AddCase
             }
             AddCase::Foreign
         }
+    }
+}
+
+/// Whether a pointer is to the path or to one above it.
+pub fn leads_over(pointer: &Option<Pointer>, path: &Path) -> bool
+    ensures value { result ≡ leads_over pointer.now path.now }
+{
+    match pointer {
+        Some(pointer) => path.starts_with(&pointer.path),
+        None => false,
     }
 }
 

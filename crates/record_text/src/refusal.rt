@@ -1,8 +1,9 @@
 //! Why a log is not read on.
 ghost use Rattle.std.specs.Prelude.{◌≡◌};
 
-/// Why a verifier refuses a command: the first of its tests that the command doesn't pass. Those of a command that
-/// names paths stand in this order; the last two are of commands that name slots.
+/// Why a verifier refuses a command: the first of its tests that the command doesn't pass. Up to
+/// `WrongValue` they stand in this order for a command that names paths; the next two are of commands that name slots,
+/// and the last one is of a key that is said to be absent.
 #[derive(Clone, Copy, Debug, PartialEq, Eq)]
 pub enum Refusal {
     /// The bytes are no command, whatever follows them.
@@ -51,6 +52,8 @@ pub enum Refusal {
     SlotTaken,
     /// The slot holds no entry, or there is no such slot.
     SlotEmpty,
+    /// The parent's pointer is to the path, or to one above it.
+    Present,
 }
 
 impl Refusal {
@@ -84,6 +87,7 @@ impl Refusal {
             Refusal::WrongValue => "WrongValue",
             Refusal::SlotTaken => "SlotTaken",
             Refusal::SlotEmpty => "SlotEmpty",
+            Refusal::Present => "Present",
         }
     }
 }

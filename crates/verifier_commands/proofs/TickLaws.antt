@@ -11,7 +11,7 @@ use Rattle.base_words.proofs.StepLaws.{test-ok}
 use Rattle.record_text.specs.declared.value.Value.TheVariants as values
 use Rattle.record_text.specs.Same.{same_value}
 use Rattle.log_codec.specs.declared.command.Command.{Command}
-use Rattle.log_codec.specs.declared.command.Command.TheVariants.{AddM, EvictM, AddB, EvictB, EvictBM, Get, Put, NextEpoch}
+use Rattle.log_codec.specs.declared.command.Command.TheVariants.{AddM, EvictM, AddB, EvictB, EvictBM, Get, Put, NextEpoch, Absent}
 use Rattle.log_codec.specs.declared.slot_command.SlotCommand.{SlotCommand}
 use Rattle.log_codec.specs.declared.slot_command.SlotCommand.TheVariants as slots
 use Rattle.log_codec.specs.declared.log_command.LogCommand.{LogCommand}
@@ -23,7 +23,7 @@ use Rattle.verifier_commands.specs.declared.state.State.{State}
 use Rattle.verifier_commands.specs.declared.slot_state.SlotState.{SlotState}
 use Rattle.verifier_commands.specs.Change.{Change, did_add_m, did_evict_m, did_add_b, did_evict_b, did_evict_bm, did_get, did_put, did_next_epoch}
 use Rattle.verifier_commands.specs.Ticks.{Ticks}
-use Rattle.verifier_commands.specs.Changes.{add_under, evict_under, defer_under, is_by_stamp}
+use Rattle.verifier_commands.specs.Changes.{add_under, evict_under, defer_under, absent_under, is_by_stamp}
 use Rattle.verifier_commands.specs.Transition.{Rules, Step, is_root, is_full, transition}
 use Rattle.verifier_commands.specs.SlotTransition.{SlotStep, slot_transition}
 use Rattle.verifier_commands.specs.VerifierState.{AnyCache, by_path, by_slot, VerifierState, path_state, slot_state, path_step, slot_step, perform_on, perform}
@@ -84,6 +84,11 @@ ticks_step rules state (Put path value) done is =
     let entry = need-ok (entry_of path state.cache.entries) _ _ done is in
     let data_path = test-ok (not (is_data path)) _ _ done entry.2 in
     IfOk-at_ok (DidTick state) data_path.1 refl
+ticks_step rules state (Absent path parent) done is =
+    let data_path = test-ok (not (is_data path)) _ _ done is in
+    let holder = need-ok (entry_of parent state.cache.entries) _ _ done data_path.1 in
+    let unset = and_then-ok (absent_under holder.0 path) _ done holder.2 in
+    IfOk-at_ok (DidTick state) unset.2 refl
 ticks_step rules state NextEpoch done is =
     let turn = timed-ok (advanced state.clock) _ done is in
     IfOk-at_ok (DidTick state) turn.2 turn.1
@@ -134,6 +139,11 @@ ticks_slot_step rules state (slots.Put slot value) done is =
     let entry = need-ok (entry_at state.slots slot) _ _ done is in
     let data_path = test-ok (not (is_data entry.0.path)) _ _ done entry.2 in
     IfOk-at_ok (DidTickSlots state) data_path.1 refl
+ticks_slot_step rules state (slots.Absent path parent) done is =
+    let data_path = test-ok (not (is_data path)) _ _ done is in
+    let holder = need-ok (entry_at state.slots parent) _ _ done data_path.1 in
+    let unset = and_then-ok (absent_under holder.0 path) _ done holder.2 in
+    IfOk-at_ok (DidTickSlots state) unset.2 refl
 ticks_slot_step rules state slots.NextEpoch done is =
     let turn = timed-ok (advanced state.clock) _ done is in
     IfOk-at_ok (DidTickSlots state) turn.2 turn.1

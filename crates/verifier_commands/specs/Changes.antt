@@ -13,7 +13,7 @@ use Rattle.record_text.specs.Value.{node_side, initial_value}
 use Rattle.record_text.specs.Texts.{value_text}
 use Rattle.merkle_records.specs.declared.cases.AddCase.{AddCase}
 use Rattle.merkle_records.specs.declared.cases.AddCase.TheVariants as cases
-use Rattle.merkle_records.specs.Merkle.{Digest, case_of, Added, after_add, after_evict, after_defer}
+use Rattle.merkle_records.specs.Merkle.{Digest, case_of, Added, after_add, after_evict, after_defer, leads_over}
 use Rattle.verifier_cache.specs.declared.entry.Entry.{Entry}
 use Rattle.verifier_cache.specs.declared.entry.Hold.{Hold}
 use Rattle.verifier_cache.specs.declared.entry.Hold.TheVariants.{Root, M, B}
@@ -144,3 +144,14 @@ defer_under parent child =
     (test (has_kid child) refusals.HasChild
     (test (not (is_by_digest child.hold) || not (kid_of parent above.on)) refusals.WrongHold
     (Ok (left_by parent above (after_defer above.node above.on))))))
+
+-- the entry that a data path comes in with when it is added for the first time
+abbrev pub unset : List Bool → Entry
+unset path = new_entry path (values.Blob None) M
+
+-- Reading a path that has no record, under a parent whose pointer doesn't lead to it: the entry that it would come in with.
+abbrev pub absent_under : Entry → List Bool → Result Entry Refusal
+absent_under parent path =
+    need (above parent path) refusals.NotBelow
+    (λ above. test (leads_over (node_side above.node above.on) path) refusals.Present
+    (Ok (unset path)))

@@ -14,7 +14,7 @@ use Rattle.record_text.specs.declared.refusal.Refusal.{Refusal}
 use Rattle.record_text.specs.declared.refusal.Refusal.TheVariants as refusals
 use Rattle.record_text.specs.Same.{same_value}
 use Rattle.log_codec.specs.declared.slot_command.SlotCommand.{SlotCommand}
-use Rattle.log_codec.specs.declared.slot_command.SlotCommand.TheVariants.{AddM, EvictM, AddB, EvictB, EvictBM, Get, Put, NextEpoch}
+use Rattle.log_codec.specs.declared.slot_command.SlotCommand.TheVariants.{AddM, EvictM, AddB, EvictB, EvictBM, Get, Put, NextEpoch, Absent}
 use Rattle.merkle_records.specs.Merkle.{Digest}
 use Rattle.verifier_cache.specs.declared.entry.Entry.{Entry}
 use Rattle.verifier_cache.specs.declared.entry.Hold.TheVariants.{B}
@@ -23,7 +23,7 @@ use Rattle.verifier_cache.specs.Slots.{Slots, is_slot, entry_at, with_slot, empt
 use Rattle.verifier_commands.specs.declared.slot_state.SlotState.{SlotState}
 use Rattle.verifier_commands.specs.State.{root_entry}
 use Rattle.verifier_commands.specs.Change.{Change, did_add_m, did_evict_m, did_add_b, did_evict_b, did_evict_bm, did_get, did_put, did_next_epoch}
-use Rattle.verifier_commands.specs.Changes.{add_under, evict_under, defer_under, is_by_stamp}
+use Rattle.verifier_commands.specs.Changes.{add_under, evict_under, defer_under, absent_under, is_by_stamp}
 use Rattle.verifier_commands.specs.Transition.{Rules, is_root, timed, evicted_as}
 
 -- what was done and the state after it, or why nothing was
@@ -116,6 +116,14 @@ put state slot value =
       record state { slots = with_slot state.slots slot (Some (with_value entry (values.Blob value))) },
     )))
 
+-- Reading a data path that has no record, by the parent in a slot, which doesn't lead to it.
+abbrev pub absent : SlotState → List Bool → ℕ → SlotStep
+absent state path parent =
+    test (not (is_data path)) refusals.NotData
+    (need (entry_at state.slots parent) refusals.SlotEmpty
+    (λ holder. and_then (absent_under holder path)
+    (λ entry. Ok (did_get entry, state))))
+
 -- Turning to the next epoch.
 abbrev pub next_epoch : SlotState → SlotStep
 next_epoch state =
@@ -132,6 +140,7 @@ slot_transition rules state (EvictBM slot parent stamp) = evict_bm rules.number 
 slot_transition rules state (Get slot value) = get state slot value
 slot_transition rules state (Put slot value) = put state slot value
 slot_transition rules state NextEpoch = next_epoch state
+slot_transition rules state (Absent path parent) = absent state path parent
 
 -- ---- before the first command
 

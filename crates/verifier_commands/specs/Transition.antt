@@ -12,7 +12,7 @@ use Rattle.record_text.specs.declared.element.Element.{Element}
 use Rattle.record_text.specs.declared.refusal.Refusal.{Refusal}
 use Rattle.record_text.specs.declared.refusal.Refusal.TheVariants as refusals
 use Rattle.log_codec.specs.declared.command.Command.{Command}
-use Rattle.log_codec.specs.declared.command.Command.TheVariants.{AddM, EvictM, AddB, EvictB, EvictBM, Get, Put, NextEpoch}
+use Rattle.log_codec.specs.declared.command.Command.TheVariants.{AddM, EvictM, AddB, EvictB, EvictBM, Get, Put, NextEpoch, Absent}
 use Rattle.merkle_records.specs.Merkle.{Digest}
 use Rattle.merkle_records.specs.Scheme.{Scheme}
 use Rattle.verifier_cache.specs.declared.entry.Entry.{Entry}
@@ -23,7 +23,7 @@ use Rattle.record_text.specs.Same.{same_value}
 use Rattle.verifier_commands.specs.declared.state.State.{State}
 use Rattle.verifier_commands.specs.State.{with_entries, at_clock}
 use Rattle.verifier_commands.specs.Change.{Change, did_add_m, did_evict_m, did_add_b, did_evict_b, did_evict_bm, did_get, did_put, did_next_epoch}
-use Rattle.verifier_commands.specs.Changes.{add_under, evict_under, defer_under, is_by_stamp}
+use Rattle.verifier_commands.specs.Changes.{add_under, evict_under, defer_under, absent_under, is_by_stamp}
 
 -- what was done and the state after it, or why nothing was
 abbrev pub Step : Type 0
@@ -136,6 +136,14 @@ put state path value =
       with_entries state (replaced (record entry { value = value }) state.cache.entries),
     )))
 
+-- Reading a data path that has no record, by a parent that doesn't lead to it.
+abbrev pub absent : State → List Bool → List Bool → Step
+absent state path parent =
+    test (not (is_data path)) refusals.NotData
+    (need (entry_of parent state.cache.entries) refusals.ParentNotCached
+    (λ holder. and_then (absent_under holder path)
+    (λ entry. Ok (did_get entry, state))))
+
 -- Turning to the next epoch.
 abbrev pub next_epoch : State → Step
 next_epoch state =
@@ -159,3 +167,4 @@ transition rules state (EvictBM path parent stamp) = evict_bm rules.number state
 transition rules state (Get path value) = get state path value
 transition rules state (Put path value) = put state path value
 transition rules state NextEpoch = next_epoch state
+transition rules state (Absent path parent) = absent state path parent

@@ -48,6 +48,7 @@ impl State {
             Command::Get { path, value } => self.get(path, value),
             Command::Put { path, value } => self.put(path, value),
             Command::NextEpoch => self.next_epoch(),
+            Command::Absent { path, parent } => self.absent(path, parent),
         }
     }
 }

@@ -1,14 +1,14 @@
 //! What the commands that go by digests do to a parent and a child.
-ghost use Rattle.std.specs.Prelude.{◌≡◌, true, Some, Ok, Err, IfSome, IsSome, IfOk, ◌≢◌};
+ghost use Rattle.std.specs.Prelude.{◌≡◌, true, Some, Ok, Err, IfSome, IsSome, IfOk, IfErr, OnOk, ◌≢◌};
 ghost use Rattle.tree_keys.specs.Path.{side};
 ghost use Rattle.record_text.specs.Value.{node_side};
-ghost use Rattle.verifier_commands.specs.Changes.{above, add_by, add_under, evict_under, defer_under, leads_to, is_deferred, has_digest, leads_below, holds_wrong, left_by, with_node, is_by_digest, IsFirst};
+ghost use Rattle.verifier_commands.specs.Changes.{above, add_by, add_under, evict_under, defer_under, absent_under, unset, leads_to, is_deferred, has_digest, leads_below, holds_wrong, left_by, with_node, is_by_digest, IsFirst};
 ghost use Rattle.verifier_cache.specs.Entry.{set_kid};
 ghost use Rattle.merkle_records.specs.declared.cases.AddCase.TheVariants.{Same};
 ghost use Rattle.merkle_records.specs.Merkle.{case_of, after_add};
 
 use crate::state::{is_same_bytes, is_same_value};
-use merkle_records::{AddCase, add_case, after_add, after_evict, defer, digest_of};
+use merkle_records::{AddCase, add_case, after_add, after_evict, defer, digest_of, leads_over};
 use record_hash::Digests;
 use record_text::{Node, Pointer, Refusal, Value, initial};
 use tree_keys::Path;
@@ -265,4 +265,18 @@ pub(crate) fn defer_under(parent: &Entry, child: &Entry) -> Result<Entry, Refusa
     }
     let node = defer(&above.node, &parent.path, &child.path);
     Ok(left(parent, &above, node))
+}
+
+// Whether a path has no record, by a parent whose pointer doesn't lead to it.
+pub(crate) fn absent_under(parent: &Entry, path: &Path) -> Result<(), Refusal>
+    ensures absent { OnOk result (absent_under parent.now path.now ≡ Ok (unset path.now)) }
+    ensures refused { IfErr result (λ refusal. absent_under parent.now path.now ≡ Err refusal) }
+{
+    let Some(above) = above(parent, path) else {
+        return Err(Refusal::NotBelow);
+    };
+    if leads_over(&above.node.side(above.on), path) {
+        return Err(Refusal::Present);
+    }
+    Ok(())
 }

@@ -1,12 +1,13 @@
 //! The commands on data values, and the step to the next epoch.
 ghost use Rattle.std.specs.Prelude.{◌≡◌, IsSome, IfSome, IfOk};
 ghost use Rattle.base_words.specs.Follows.{Follows};
-ghost use Rattle.verifier_commands.specs.Transition.{get, put, next_epoch};
+ghost use Rattle.verifier_commands.specs.Transition.{get, put, absent, next_epoch};
 ghost use Rattle.verifier_cache.specs.Entry.{with_value};
 ghost use Rattle.verifier_cache.specs.Cache.{entry_of, replaced};
 ghost use Rattle.verifier_commands.specs.Outcome.{told, blob_of};
 ghost use Rattle.verifier_commands.specs.Machine.{ClockMoves};
 
+use crate::changes::absent_under;
 use crate::outcome::Outcome;
 use crate::state::{State, clock_refusal, is_same_value};
 use record_text::{Blob, Refusal, Value};
@@ -47,6 +48,22 @@ impl State {
         };
         write(&mut self.cache, path, own, value.copy());
         Ok(Outcome::Put(key, blob_of(value)))
+    }
+
+    /// An absence: a key that has no record answers none.
+    #[tactic(auto, using(crate::proofs::KeyLemmas::key_view))]
+    pub(crate) fn absent(&mut self, path: &Path, parent: &Path) -> Result<Outcome, Refusal>
+        ensures follows { Follows result self.old self.new (told (absent self.old path.now parent.now)) }
+        ensures clock { IfOk result (ClockMoves self.old.clock self.new.clock) }
+    {
+        let Some(key) = path.key() else {
+            return Err(Refusal::NotData);
+        };
+        let Some(holder) = self.cache.entry(parent) else {
+            return Err(Refusal::ParentNotCached);
+        };
+        absent_under(holder, path)?;
+        Ok(Outcome::Get(key, Blob::none()))
     }
 
     /// The step to the next epoch.

@@ -4,15 +4,17 @@ ghost use Rattle.base_words.specs.Follows.{Follows};
 ghost use Rattle.record_text.specs.declared.value.Value.TheVariants as values;
 ghost use Rattle.record_text.specs.Same.{same_value};
 ghost use Rattle.verifier_cache.specs.Entry.{with_value};
-ghost use Rattle.verifier_commands.specs.SlotTransition.{get, put, next_epoch};
+ghost use Rattle.verifier_commands.specs.SlotTransition.{get, put, absent, next_epoch};
 ghost use Rattle.verifier_commands.specs.Outcome.{told};
 ghost use Rattle.verifier_commands.specs.Machine.{ClockMoves};
 
+use crate::changes::absent_under;
 use crate::outcome::Outcome;
 use crate::records::blob_of;
 use crate::slot_state::SlotState;
 use crate::state::clock_refusal;
 use record_text::{Blob, Refusal, Value};
+use tree_keys::Path;
 use verifier_cache::Entry;
 
 impl SlotState {
@@ -49,6 +51,22 @@ impl SlotState {
         let after = written(entry, value);
         self.slots.replace_at(slot, after);
         Ok(Outcome::Put(key, value.copy()))
+    }
+
+    /// An absence: a key that has no record answers none.
+    #[tactic(auto, using(crate::proofs::KeyLemmas::key_view))]
+    pub(crate) fn absent(&mut self, path: &Path, parent: u16) -> Result<Outcome, Refusal>
+        ensures follows { Follows result self.old self.new (told (absent self.old path.now parent)) }
+        ensures clock { IfOk result (ClockMoves self.old.clock self.new.clock) }
+    {
+        let Some(key) = path.key() else {
+            return Err(Refusal::NotData);
+        };
+        let Some(holder) = self.slots.at(parent) else {
+            return Err(Refusal::SlotEmpty);
+        };
+        absent_under(holder, path)?;
+        Ok(Outcome::Get(key, Blob::none()))
     }
 
     /// The step to the next epoch.

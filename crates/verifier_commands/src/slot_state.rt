@@ -78,6 +78,7 @@ impl SlotState {
             SlotCommand::Get { slot, value } => self.get(*slot, value),
             SlotCommand::Put { slot, value } => self.put(*slot, value),
             SlotCommand::NextEpoch => self.next_epoch(),
+            SlotCommand::Absent { path, parent } => self.absent(path, *parent),
         }
     }
 }

@@ -1,4 +1,4 @@
-//! A verifier's cache and clock, and its eight commands.
+//! A verifier's cache and clock, and its commands.
 ghost use Rattle.std.specs.Prelude.{◌≡◌, ◌≤◌, IfOk};
 ghost use Rattle.record_text.specs.Same.{same_bytes, same_value};
 ghost use Rattle.verifier_commands.specs.Transition.{is_root, clock_refusal};
