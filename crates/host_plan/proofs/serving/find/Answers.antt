@@ -1,4 +1,4 @@
-use Rattle.std.proofs.Common.{ℕ, false, List, Option, subst, ap, sym, ◌∙◌}
+use Rattle.std.proofs.Common.{ℕ, false, List, Option, subst, sym}
 use Rattle.std.specs.List.{AllByRecursion}
 use Rattle.tree_keys.specs.Path.{key_path}
 use Rattle.record_text.specs.declared.element.Element.{Element}
@@ -8,7 +8,7 @@ use Rattle.record_text.specs.Value.{IsOf}
 use Rattle.record_text.specs.Longest.{longest_blob}
 use Rattle.log_codec.specs.Command.{IsPathCommand}
 use Rattle.host_shard.specs.Chain.{IsChain}
-use Rattle.host_shard.specs.Shard.{Shard, tree_of, touched}
+use Rattle.host_shard.specs.Shard.{tree_of, touched}
 use Rattle.host_shard.specs.Shown.{shown}
 use Rattle.host_shard.proofs.ChainLaws.{frontier_kind, last_kind}
 use Rattle.host_plan.proofs.OwnLemmas.{served_is}
