@@ -27,6 +27,7 @@ fn named(name: &str, fields: &mut SplitWhitespace<'_>) -> Option<Command> {
         "get" => get(fields),
         "put" => put(fields),
         "next" => Some(Command::NextEpoch),
+        "absent" => absent(fields),
         _ => None,
     }
 }
@@ -59,6 +60,14 @@ fn add_by_tree(fields: &mut SplitWhitespace<'_>) -> Option<Command> {
 // An evict to the tree, of its fields.
 fn evict_to_tree(fields: &mut SplitWhitespace<'_>) -> Option<Command> {
     Some(Command::EvictM {
+        path: path(fields)?,
+        parent: path(fields)?,
+    })
+}
+
+// An absence, of its fields.
+fn absent(fields: &mut SplitWhitespace<'_>) -> Option<Command> {
+    Some(Command::Absent {
         path: path(fields)?,
         parent: path(fields)?,
     })

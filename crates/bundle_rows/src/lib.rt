@@ -15,6 +15,7 @@
 //! | `addB 5 6162 0.1 v2`, `evictB 5 0.1` | an add and an evict by a stamp: path, value, epoch and counter, verifier |
 //! | `evictBM 5 root 0.1` | a deferred evict: path, parent, stamp |
 //! | `get 5 6162`, `put 5 none`, `next` | a get, a put, the step to the next epoch |
+//! | `absent 5 root` | a key without a record, and its parent |
 //! | `addM s1 5 6162 s0`, `evictM s1 s0`, .. | the same by slots, which a log of version 2 names: that of a path is before it, that of a parent in the place of its path |
 //! | `get s1 6162`, `put s1 none` | the same of a slot in the place of a path |
 //! | `bytes 09` | these bytes in the log |

@@ -6,7 +6,7 @@ use Rattle.lamport_clocks.specs.Header.{IsHeader, names_paths}
 use Rattle.record_text.specs.declared.value.Value.TheVariants as values
 use Rattle.record_text.specs.Format.{LogFormat, format_of}
 use Rattle.log_codec.specs.declared.command.Command.{Command}
-use Rattle.log_codec.specs.declared.command.Command.TheVariants.{AddM, EvictM, AddB, EvictB, EvictBM, Get, Put, NextEpoch}
+use Rattle.log_codec.specs.declared.command.Command.TheVariants.{AddM, EvictM, AddB, EvictB, EvictBM, Get, Put, NextEpoch, Absent}
 use Rattle.log_codec.specs.declared.slot_command.SlotCommand.{SlotCommand}
 use Rattle.log_codec.specs.declared.log_command.LogCommand.TheVariants.{BySlot}
 use Rattle.log_codec.specs.Command.{IsPathCommand, IsCommandIn}
@@ -31,6 +31,7 @@ rewritten_in wide paths (EvictBM path parent stamp) within = tt
 rewritten_in wide paths (Get path value) within = tt
 rewritten_in wide paths (Put path value) within = tt
 rewritten_in wide paths NextEpoch within = tt
+rewritten_in wide paths (Absent path parent) within = within.0
 
 module _ (longest : ℕ) (paths : SlotPaths) (few : length paths ≤ 65536) where
   slot_fits : (path : List Bool) → HasSlot path paths → IsSlot (slot_of path paths)
@@ -51,6 +52,7 @@ module _ (longest : ℕ) (paths : SlotPaths) (few : length paths ≤ 65536) wher
   rewritten_fits (Put path (values.Blob blob)) can is = (slot_fits path can, is.1)
   rewritten_fits (Put path (values.Node node)) can is = (slot_fits path can, tt)
   rewritten_fits NextEpoch can is = tt
+  rewritten_fits (Absent path parent) can is = (is.0, slot_fits parent can)
 
 -- ---- a log
 

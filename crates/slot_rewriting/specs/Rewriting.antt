@@ -7,7 +7,7 @@ use Rattle.record_text.specs.Tree.{wide_of}
 use Rattle.record_text.specs.declared.value.Value.{Value}
 use Rattle.record_text.specs.declared.value.Value.TheVariants as values
 use Rattle.log_codec.specs.declared.command.Command.{Command}
-use Rattle.log_codec.specs.declared.command.Command.TheVariants.{AddM, EvictM, AddB, EvictB, EvictBM, Get, Put, NextEpoch}
+use Rattle.log_codec.specs.declared.command.Command.TheVariants.{AddM, EvictM, AddB, EvictB, EvictBM, Get, Put, NextEpoch, Absent}
 use Rattle.log_codec.specs.declared.slot_command.SlotCommand.{SlotCommand}
 use Rattle.log_codec.specs.declared.slot_command.SlotCommand.TheVariants as by_slot
 
@@ -57,6 +57,7 @@ rewritten paths (EvictBM path parent stamp) = by_slot.EvictBM (slot_of path path
 rewritten paths (Get path value) = by_slot.Get (slot_of path paths) (data_of value)
 rewritten paths (Put path value) = by_slot.Put (slot_of path paths) (data_of value)
 rewritten paths NextEpoch = by_slot.NextEpoch
+rewritten paths (Absent path parent) = by_slot.Absent path (slot_of parent paths)
 
 -- which path stands in each slot behind a command
 abbrev pub paths_after : SlotPaths → Command → SlotPaths
@@ -68,8 +69,9 @@ paths_after paths (EvictBM path parent stamp) = with_path_at paths (slot_of path
 paths_after paths (Get path value) = paths
 paths_after paths (Put path value) = paths
 paths_after paths NextEpoch = paths
+paths_after paths (Absent path parent) = paths
 
--- what a command adds stands in no slot, and one is empty; whatever else it names stands in one
+-- what a command adds stands in no slot, and one is empty; whatever else it names stands in one, but for an absent path
 abbrev pub CanRewrite : SlotPaths → Command → Type 0
 CanRewrite paths (AddM path value parent) = HasNoSlot path paths × HasEmpty paths × HasSlot parent paths
 CanRewrite paths (EvictM path parent) = HasSlot path paths × HasSlot parent paths
@@ -79,6 +81,7 @@ CanRewrite paths (EvictBM path parent stamp) = HasSlot path paths × HasSlot par
 CanRewrite paths (Get path value) = HasSlot path paths
 CanRewrite paths (Put path value) = HasSlot path paths
 CanRewrite paths NextEpoch = Unit {0}
+CanRewrite paths (Absent path parent) = HasSlot parent paths
 
 -- the path stands in a slot, and a slot is empty, as tests
 abbrev pub has_slot : List Bool → SlotPaths → Bool
@@ -97,6 +100,7 @@ can_rewrite paths (EvictBM path parent stamp) = has_slot path paths && has_slot 
 can_rewrite paths (Get path value) = has_slot path paths
 can_rewrite paths (Put path value) = has_slot path paths
 can_rewrite paths NextEpoch = true
+can_rewrite paths (Absent path parent) = has_slot parent paths
 
 -- at the start the root of the bundle's tree stands in slot 0 of verifier 0
 abbrev pub opening_paths : ℕ → Header → SlotPaths

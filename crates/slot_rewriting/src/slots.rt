@@ -105,6 +105,7 @@ impl Slots {
             Command::Get { path, .. } => self.has_slot(path),
             Command::Put { path, .. } => self.has_slot(path),
             Command::NextEpoch => true,
+            Command::Absent { parent, .. } => self.has_slot(parent),
         }
     }
 
@@ -231,6 +232,10 @@ impl Slots {
                 value: data_of(value),
             },
             Command::NextEpoch => SlotCommand::NextEpoch,
+            Command::Absent { path, parent } => SlotCommand::Absent {
+                path: *path,
+                parent: self.slot(parent),
+            },
         }
     }
 }
