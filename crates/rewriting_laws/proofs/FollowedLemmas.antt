@@ -13,7 +13,7 @@ use Rattle.record_text.specs.declared.value.Value.TheVariants as values
 use Rattle.record_text.specs.Value.{IsOf}
 use Rattle.record_text.specs.Same.{same_value}
 use Rattle.log_codec.specs.declared.command.Command.{Command}
-use Rattle.log_codec.specs.declared.command.Command.TheVariants.{AddM, EvictM, AddB, EvictB, EvictBM, Get, Put, NextEpoch}
+use Rattle.log_codec.specs.declared.command.Command.TheVariants.{AddM, EvictM, AddB, EvictB, EvictBM, Get, Put, NextEpoch, Absent}
 use Rattle.slot_rewriting.specs.Rewriting.{slot_of, lowest_empty, HasSlot, HasNoSlot, HasEmpty, rewritten, paths_after, CanRewrite}
 use Rattle.slot_rewriting.specs.Indexed.{taken}
 use Rattle.slot_rewriting.proofs.SlotPathLaws.{path_in-lowest, taken-in, taken-out}
@@ -26,8 +26,8 @@ use Rattle.verifier_cache.proofs.EntriesLaws.{entry_of-path, none_there, length-
 use Rattle.verifier_commands.specs.declared.state.State.{State}
 use Rattle.verifier_commands.specs.declared.slot_state.SlotState.{SlotState}
 use Rattle.verifier_commands.specs.Change.{Change}
-use Rattle.verifier_commands.specs.Changes.{add_under, evict_under, defer_under, is_by_stamp}
-use Rattle.verifier_commands.specs.Transition.{Rules, is_root, is_full, transition, add_m, evict_m, add_b, evict_b, evict_bm, get, put, next_epoch}
+use Rattle.verifier_commands.specs.Changes.{add_under, evict_under, defer_under, absent_under, is_by_stamp}
+use Rattle.verifier_commands.specs.Transition.{Rules, is_root, is_full, transition, add_m, evict_m, add_b, evict_b, evict_bm, get, put, absent, next_epoch}
 use Rattle.verifier_commands.specs.SlotTransition.{with_pair, slot_transition}
 use Rattle.verifier_commands.proofs.InvertLaws.{need-ok, and_then-ok, timed-ok}
 use Rattle.soundness.specs.Showing.{IsFresh, shown_by}
@@ -309,6 +309,25 @@ followed_put rules state slotted path (values.Blob blob) done kind alike is =
       count = length-changed after.path (λ old. after) xs ∙ (alike.count ∙ ap taken (sym stand));
     })
 
+followed_absent : (rules : Rules) (state : State) (slotted : SlotState) (path parent : List Bool) (done : Change × State) → AreAlike state slotted
+    → absent state path parent ≡ Ok done → IsFollowed rules slotted state (Absent path parent) done
+followed_absent rules state slotted path parent done alike is =
+    let data_path = test-ok (not (is_data path)) _ _ done is in
+    let holder = need-ok (entry_of parent state.cache.entries) _ _ done data_path.1 in
+    let entry = and_then-ok (absent_under holder.0 path) _ done holder.2 in
+    IfOk-at_ok (IsFollowed rules slotted state (Absent path parent)) entry.2 (record {
+      can = slotted_there state slotted alike parent holder.0 holder.1;
+      next = slotted;
+      step = test-on (not (is_data path)) _ _ data_path.0
+          ∙ (need-on (entry_at slotted.slots (slot_of parent (paths_in slotted.slots))) _ _ holder.0 (in_slot state slotted alike parent holder.0 holder.1)
+          ∙ and_then-on (absent_under holder.0 path) _ entry.0 entry.1);
+      fresh = tt;
+      clock = alike.clock;
+      paths = refl;
+      room = alike.room;
+      count = alike.count;
+    })
+
 followed_next_epoch : (rules : Rules) (state : State) (slotted : SlotState) (done : Change × State) → AreAlike state slotted
     → next_epoch state ≡ Ok done → IsFollowed rules slotted state NextEpoch done
 followed_next_epoch rules state slotted done alike is =
@@ -335,3 +354,4 @@ followed rules state slotted (EvictBM path parent stamp) done kind alike is = fo
 followed rules state slotted (Get path value) done kind alike is = followed_get rules state slotted path value done kind alike is
 followed rules state slotted (Put path value) done kind alike is = followed_put rules state slotted path value done kind alike is
 followed rules state slotted NextEpoch done kind alike is = followed_next_epoch rules state slotted done alike is
+followed rules state slotted (Absent path parent) done kind alike is = followed_absent rules state slotted path parent done alike is

@@ -8,7 +8,7 @@ use Rattle.lamport_clocks.specs.Reading.{Reading}
 use Rattle.record_text.specs.declared.value.Value.TheVariants as values
 use Rattle.record_text.specs.Tree.{wide_of}
 use Rattle.log_codec.specs.declared.command.Command.{Command}
-use Rattle.log_codec.specs.declared.command.Command.TheVariants.{AddM, EvictM, AddB, EvictB, EvictBM, Get, Put, NextEpoch}
+use Rattle.log_codec.specs.declared.command.Command.TheVariants.{AddM, EvictM, AddB, EvictB, EvictBM, Get, Put, NextEpoch, Absent}
 use Rattle.log_codec.specs.declared.slot_command.SlotCommand.{SlotCommand}
 use Rattle.log_codec.specs.declared.log_command.LogCommand.TheVariants.{BySlot}
 use Rattle.merkle_records.specs.Scheme.{Scheme}
@@ -47,6 +47,7 @@ path_typed longest (EvictBM path parent stamp) kind = tt
 path_typed longest (Get path value) kind = tt
 path_typed longest (Put path value) kind = kind
 path_typed longest NextEpoch kind = tt
+path_typed longest (Absent path parent) kind = tt
 
 slot_typed : (longest : ℕ) (paths : SlotPaths) (command : Command) → IsOfKind longest command → IsSlotTyped longest (rewritten paths command)
 slot_typed longest paths (AddM path value parent) kind = kind
@@ -58,6 +59,7 @@ slot_typed longest paths (Get path value) kind = tt
 slot_typed longest paths (Put path (values.Blob blob)) kind = kind.1
 slot_typed longest paths (Put path (values.Node node)) kind = tt
 slot_typed longest paths NextEpoch kind = tt
+slot_typed longest paths (Absent path parent) kind = tt
 
 -- the states are alike behind it
 pub alike_after : (rules : Rules) (state : State) (slotted : SlotState) (command : Command) (done : Change × State) → IsOfKind rules.scheme.format.longest command → AreAlike state slotted

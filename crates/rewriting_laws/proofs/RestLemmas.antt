@@ -10,7 +10,7 @@ use Rattle.lamport_clocks.specs.declared.header.Header.{Header}
 use Rattle.record_text.specs.Tree.{wide_of}
 use Rattle.base_words.proofs.StepLaws.{test-ok}
 use Rattle.log_codec.specs.declared.command.Command.{Command}
-use Rattle.log_codec.specs.declared.command.Command.TheVariants.{AddM, EvictM, AddB, EvictB, EvictBM, Get, Put, NextEpoch}
+use Rattle.log_codec.specs.declared.command.Command.TheVariants.{AddM, EvictM, AddB, EvictB, EvictBM, Get, Put, NextEpoch, Absent}
 use Rattle.merkle_records.specs.Scheme.{Scheme}
 use Rattle.slot_rewriting.specs.Rewriting.{SlotPaths, slot_of, lowest_empty, paths_after, paths_behind, opening_paths}
 use Rattle.slot_rewriting.specs.Indexed.{path_in, taken}
@@ -73,6 +73,7 @@ root_stays rules state root paths (EvictBM path parent stamp) done is accepted h
 root_stays rules state root paths (Get path value) done is accepted here = here
 root_stays rules state root paths (Put path value) done is accepted here = here
 root_stays rules state root paths NextEpoch done is accepted here = here
+root_stays rules state root paths (Absent path parent) done is accepted here = here
 
 root_behind : (rules : Rules) (state last : State) (root : List Bool) (paths : SlotPaths) (commands : List Command) → is_root root ≡ true
     → Leads rules state commands last → path_in paths 0 ≡ Some root → path_in (paths_behind paths commands) 0 ≡ Some root

@@ -3,7 +3,7 @@ use Rattle.std.specs.Prelude.{◌≡◌, ℕ, suc, List, [], ◌∷◌, None, Ok
 use Rattle.lamport_clocks.specs.declared.header.Header.{Header}
 use Rattle.record_text.specs.Value.{IsOf}
 use Rattle.log_codec.specs.declared.command.Command.{Command}
-use Rattle.log_codec.specs.declared.command.Command.TheVariants.{AddM, EvictM, AddB, EvictB, EvictBM, Get, Put, NextEpoch}
+use Rattle.log_codec.specs.declared.command.Command.TheVariants.{AddM, EvictM, AddB, EvictB, EvictBM, Get, Put, NextEpoch, Absent}
 use Rattle.log_codec.specs.declared.slot_command.SlotCommand.{SlotCommand}
 use Rattle.merkle_records.specs.Scheme.{Scheme}
 use Rattle.verifier_commands.specs.declared.state.State.{State}
@@ -22,6 +22,7 @@ IsOfKind longest (EvictBM path parent stamp) = Unit {0}
 IsOfKind longest (Get path value) = IsOf longest path value
 IsOfKind longest (Put path value) = IsOf longest path value
 IsOfKind longest NextEpoch = Unit {0}
+IsOfKind longest (Absent path parent) = Unit {0}
 
 -- a log of the verifier of this number, by slots
 abbrev pub rewritten_log : Header → ℕ → List Command → List SlotCommand

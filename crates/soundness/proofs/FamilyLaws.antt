@@ -1,7 +1,9 @@
--- What an accepted add, evict or deferral of a child under its parent tells, and what it makes of the two.
+-- What an accepted add, evict or deferral of a child under its parent tells, and what it makes of the two; and what an
+-- accepted absence tells of the parent.
 use Rattle.std.proofs.Common.{◌≡◌, ◌≢◌, Bool, true, false, not, ◌||◌, List, Option, Some, None, is_some, Result, Ok, Err, refl, sym, ◌∙◌, ap, subst, if◌then◌else◌}
 use Rattle.std.specs.Option.{option_map}
 use Rattle.std.proofs.lemmas.Bool.{false≢true, true≢false}
+use Rattle.std.proofs.lemmas.Option.{none-some, same_Some}
 use Rattle.tree_keys.specs.Path.{side, same_path}
 use Rattle.tree_keys.proofs.PathLaws.{same_path-true}
 use Rattle.base_words.specs.Steps.{test, need}
@@ -15,13 +17,15 @@ use Rattle.record_text.specs.Value.{node_side, with_side, empty_node, initial_va
 use Rattle.record_text.specs.Texts.{value_text}
 use Rattle.merkle_records.specs.declared.cases.AddCase.{AddCase}
 use Rattle.merkle_records.specs.declared.cases.AddCase.TheVariants as cases
-use Rattle.merkle_records.specs.Merkle.{Digest, case_of, pointing, Added, added_by, after_add, after_evict, after_defer, taken_over, deferred_pointer}
+use Rattle.merkle_records.specs.Merkle.{Digest, case_of, pointing, Added, added_by, after_add, after_evict, after_defer, taken_over, deferred_pointer, leads_over}
 use Rattle.verifier_cache.specs.declared.entry.Entry.{Entry}
 use Rattle.verifier_cache.specs.Entry.{kid_of, set_kid, has_kid}
+use Rattle.verifier_commands.specs.declared.changes.Parent.{Parent}
 use Rattle.verifier_commands.specs.declared.changes.Family.{Family}
 use Rattle.record_text.specs.Same.{same_value, same_bytes}
 use Rattle.record_text.proofs.SameTestLaws.{same_value-true, same_bytes-true}
-use Rattle.verifier_commands.specs.Changes.{node_of, above_on, above, leads_to, is_deferred, has_digest, leads_below, family_of, add_by, add_under, holds_wrong, left_by, evict_under, is_by_digest, defer_under}
+use Rattle.verifier_commands.specs.Changes.{node_of, above_on, above, leads_to, is_deferred, has_digest, leads_below, family_of, add_by, add_under, holds_wrong, left_by, evict_under, is_by_digest, defer_under, unset, absent_under}
+use Rattle.verifier_commands.proofs.InvertLaws.{need-ok}
 
 -- ---- tests in order, from their outcome back
 
@@ -265,6 +269,40 @@ deferred_how parent child after is =
     sym (same_Ok _ after (test_passed (not (is_by_digest child.hold) || not (kid_of parent on)) refusals.WrongHold _ after passed).1)
     ∙ ap (λ (o : Option Pointer). left_by parent (record { on = on; node = at }) (with_side at on (option_map deferred_pointer o))) there)
     is
+
+-- ---- what an absence tells
+
+-- The parent's pointer of the path's side leads neither to it nor above it.
+pub record IsLacking (parent : Entry) (path : List Bool) (entry : Entry) : Type 0 where
+  pub on : Bool
+  pub at : Node
+  pub below : side parent.path path ≡ Some on
+  pub is_node : node_of parent.value ≡ Some at
+  pub leads : leads_over (node_side at on) path ≡ false
+  pub entry_is : entry ≡ unset path
+
+-- a parent on a side with its node, where there are both
+above_parts : (on : Option Bool) (at : Option Node) (place : Parent) → above_on on at ≡ Some place
+    → (on ≡ Some place.on) × (at ≡ Some place.node)
+above_parts None at place is = absurd (none-some place is)
+above_parts (Some on) None place is = absurd (none-some place is)
+above_parts (Some on) (Some at) place is =
+    let same = same_Some (record { on = on; node = at }) place is in
+    (ap (λ (p : Parent). Some p.on) same, ap (λ (p : Parent). Some p.node) same)
+
+pub absent_how : (parent : Entry) (path : List Bool) (entry : Entry) → absent_under parent path ≡ Ok entry → IsLacking parent path entry
+absent_how parent path entry is =
+    let place = need-ok (above parent path) _ _ entry is in
+    let parts = above_parts (side parent.path path) (node_of parent.value) place.0 place.1 in
+    let led = test_passed (leads_over (node_side place.0.node place.0.on) path) refusals.Present (Ok (unset path)) entry place.2 in
+    record {
+      on = place.0.on;
+      at = place.0.node;
+      below = parts.0;
+      is_node = parts.1;
+      leads = led.0;
+      entry_is = sym (same_Ok _ entry led.1);
+    }
 
 -- ---- kid bits and pointers, once changed
 

@@ -1,5 +1,5 @@
 -- Each accepted command did what its change tells, and left the entries of the cache distinct.
-use Rattle.std.proofs.Common.{◌≡◌, ◌≢◌, ℕ, ◌==◌, Bool, true, false, not, ◌||◌, nat_le, List, [], ◌∷◌, if◌then◌else◌, Option, Some, None, is_some, IsNone, Ok, refl, sym, ◌∙◌, ap, subst}
+use Rattle.std.proofs.Common.{◌≡◌, ◌≢◌, ℕ, ◌==◌, Bool, true, false, not, ◌||◌, nat_le, List, [], ◌∷◌, if◌then◌else◌, Option, Some, None, is_some, IsNone, Ok, refl, sym, ◌∙◌, ap, subst, inl, inr}
 use Rattle.std.proofs.lemmas.Bool.{true≢false, not-false, ne_eqb}
 use Rattle.std.proofs.lemmas.Result.{IfOk-at_ok}
 use Rattle.tree_keys.specs.Path.{IsData, is_data, root_of}
@@ -13,11 +13,11 @@ use Rattle.record_text.specs.Tree.{wide_of}
 use Rattle.record_text.specs.Texts.{value_text}
 use Rattle.record_text.specs.Value.{IsOf, node_side, initial_value}
 use Rattle.log_codec.specs.declared.command.Command.{Command}
-use Rattle.log_codec.specs.declared.command.Command.TheVariants.{AddM, EvictM, AddB, EvictB, EvictBM, Get, Put, NextEpoch}
+use Rattle.log_codec.specs.declared.command.Command.TheVariants.{AddM, EvictM, AddB, EvictB, EvictBM, Get, Put, NextEpoch, Absent}
 use Rattle.soundness.specs.Typed.{IsPathTyped}
 use Rattle.merkle_records.specs.declared.cases.AddCase.{AddCase}
 use Rattle.merkle_records.specs.declared.cases.AddCase.TheVariants as cases
-use Rattle.merkle_records.specs.Merkle.{Digest, case_of}
+use Rattle.merkle_records.specs.Merkle.{Digest, case_of, leads_over}
 use Rattle.verifier_cache.specs.declared.entry.Entry.{Entry}
 use Rattle.verifier_cache.specs.declared.entry.Hold.{Hold}
 use Rattle.verifier_cache.specs.declared.entry.Hold.TheVariants.{Root, M, B}
@@ -29,9 +29,9 @@ use Rattle.verifier_commands.specs.declared.changes.Family.{Family}
 use Rattle.verifier_commands.specs.declared.state.State.{State}
 use Rattle.verifier_commands.specs.State.{opening, root_entry}
 use Rattle.verifier_commands.specs.Change.{Change}
-use Rattle.verifier_commands.specs.Changes.{above, leads_to, is_deferred, has_digest, holds_wrong, is_by_digest, set_kid_on, add_by, add_under, evict_under, defer_under, is_by_stamp}
+use Rattle.verifier_commands.specs.Changes.{above, leads_to, is_deferred, has_digest, holds_wrong, is_by_digest, set_kid_on, add_by, add_under, evict_under, defer_under, absent_under, is_by_stamp}
 use Rattle.record_text.specs.Same.{same_value}
-use Rattle.verifier_commands.specs.Transition.{Rules, is_root, is_full, transition, add_m, evict_m, add_b, evict_b, evict_bm, get, put, next_epoch}
+use Rattle.verifier_commands.specs.Transition.{Rules, is_root, is_full, transition, add_m, evict_m, add_b, evict_b, evict_bm, get, put, absent, next_epoch}
 use Rattle.soundness.specs.Showing.{HasDone, shown_by, showing, ShowSame}
 use Rattle.verifier_commands.proofs.InvertLaws.{need-ok, and_then-ok, timed-ok}
 use Rattle.verifier_commands.proofs.TickLaws.{ticks_step}
@@ -96,6 +96,13 @@ defer_under-path parent child after is =
     let lone = test-ok (has_kid child) _ _ after led.1 in
     let held = test-ok (not (is_by_digest child.hold) || not (kid_of parent place.0.on)) _ _ after lone.1 in
     IfOk-at_ok (λ (entry : Entry). entry.path ≡ parent.path) held.1 refl
+
+-- what is absent has the path that was asked
+pub absent_under-path : (parent : Entry) (path : List Bool) (entry : Entry) → absent_under parent path ≡ Ok entry → entry.path ≡ path
+absent_under-path parent path entry is =
+    let place = need-ok (above parent path) _ _ entry is in
+    let led = test-ok (leads_over (node_side place.0.node place.0.on) path) _ _ entry place.2 in
+    IfOk-at_ok (λ (entry : Entry). entry.path ≡ path) led.1 refl
 
 -- ---- each command
 
@@ -231,7 +238,7 @@ lawful_evict_bm rules state path parent stamp done distinct is =
     )
 
 -- the test of a data path tells that it is one
-data_tested : (path own : List Bool) → own ≡ path → not (is_data path) ≡ false → IsData own
+pub data_tested : (path own : List Bool) → own ≡ path → not (is_data path) ≡ false → IsData own
 data_tested path own same is = subst IsData (sym same) (is-data path (not-false _ is))
 
 lawful_get : (rules : Rules) (state : State) (path : List Bool) (value : Value) (done : Change × State)
@@ -243,7 +250,7 @@ lawful_get rules state path value done distinct is =
     let same = test-ok (not (same_value entry.0.value value)) _ _ done data_path.1 in
     IfOk-at_ok (LeavesDistinct rules state) same.1 (
       record {
-        had = found_own path xs entry.0 entry.1;
+        had = inl (found_own path xs entry.0 entry.1);
         at_data = data_tested path entry.0.path (entry_of-path path xs entry.0 entry.1) data_path.0;
         shown = λ j. refl;
       },
@@ -269,6 +276,27 @@ lawful_put rules state path value done kind distinct is =
         shown = λ j. shown-replaced j xs (with_value entry.0 value) entry.0 found;
       },
       distinct-replaced xs (with_value entry.0 value) distinct,
+    )
+
+lawful_absent : (rules : Rules) (state : State) (path parent : List Bool) (done : Change × State)
+    → AreDistinct state.cache.entries → absent state path parent ≡ Ok done → LeavesDistinct rules state done
+lawful_absent rules state path parent done distinct is =
+    let xs = state.cache.entries in
+    let data_path = test-ok (not (is_data path)) _ _ done is in
+    let holder = need-ok (entry_of parent xs) _ _ done data_path.1 in
+    let entry = and_then-ok (absent_under holder.0 path) _ done holder.2 in
+    let own : entry.0.path ≡ path = absent_under-path holder.0 path entry.0 entry.1 in
+    IfOk-at_ok (LeavesDistinct rules state) entry.2 (
+      record {
+        had = inr (record {
+          parent = holder.0;
+          had_parent = found_own parent xs holder.0 holder.1;
+          absent = ap (λ (p : List Bool). absent_under holder.0 p) own ∙ entry.1;
+        });
+        at_data = data_tested path entry.0.path own data_path.0;
+        shown = λ j. refl;
+      },
+      distinct,
     )
 
 lawful_next_epoch : (rules : Rules) (state : State) (done : Change × State)
@@ -298,6 +326,8 @@ lawful_step rules state (Put path value) done ranges distinct is =
     lawful_put rules state path value done ranges distinct is
 lawful_step rules state NextEpoch done ranges distinct is =
     lawful_next_epoch rules state done distinct is
+lawful_step rules state (Absent path parent) done ranges distinct is =
+    lawful_absent rules state path parent done distinct is
 
 -- An accepted command is lawful.
 pub path_lawful : (rules : Rules) (state : State) (command : Command) (done : Change × State)
@@ -367,6 +397,11 @@ own_step rules state (Put path value) done is =
 own_step rules state NextEpoch done is =
     let turn = timed-ok (advanced state.clock) _ done is in
     IfOk-at_ok (EvictsOwn rules.number) turn.2 tt
+own_step rules state (Absent path parent) done is =
+    let data_path = test-ok (not (is_data path)) _ _ done is in
+    let holder = need-ok (entry_of parent state.cache.entries) _ _ done data_path.1 in
+    let entry = and_then-ok (absent_under holder.0 path) _ done holder.2 in
+    IfOk-at_ok (EvictsOwn rules.number) entry.2 tt
 
 -- It moves the clock with its change, and evicts elements of the verifier's number.
 pub path_timely : (rules : Rules) (state : State) (command : Command) (done : Change × State) → transition rules state command ≡ Ok done

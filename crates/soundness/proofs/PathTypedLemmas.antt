@@ -18,8 +18,8 @@ use Rattle.record_text.specs.Fields.{Parsed, ◌>>=◌, field}
 use Rattle.record_text.specs.Reading.{first_byte, byte_at, run_at, path_in, path_at, flag_in, count_in, blob_behind, blob_at, pointer_tag_in, if_below, path_below_in, path_below_at, pointer_behind, pointer_at, node_at, value_by, value_at, stamp_at, u16_at}
 use Rattle.record_text.proofs.FieldLaws.{Ok-is, bind_ok, field_ok}
 use Rattle.log_codec.specs.declared.command.Command.{Command}
-use Rattle.log_codec.specs.declared.command.Command.TheVariants.{AddM, EvictM, AddB, EvictB, EvictBM, Get, Put, NextEpoch}
-use Rattle.log_codec.specs.Command.{add_m_at, evict_m_at, add_b_at, evict_b_at, evict_bm_at, get_at, put_at, path_command_behind, path_command_at}
+use Rattle.log_codec.specs.declared.command.Command.TheVariants.{AddM, EvictM, AddB, EvictB, EvictBM, Get, Put, NextEpoch, Absent}
+use Rattle.log_codec.specs.Command.{add_m_at, evict_m_at, add_b_at, evict_b_at, evict_bm_at, get_at, put_at, absent_at, path_command_behind, path_command_at}
 use Rattle.log_codec.proofs.StepLaws.{then_at, two_at, then_ok}
 use Rattle.log_codec.proofs.GrammarLaws.{tagged_at}
 use Rattle.soundness.specs.Typed.{IsPathTyped}
@@ -277,6 +277,13 @@ put_typed wide longest =
     typed_of (IsPathTyped longest) wide longest (λ path value rest. Ok (Put path value, rest))
     (λ path value kind. typed_done (IsPathTyped longest) (Put path value) kind)
 
+absent_typed : (wide : Bool) (longest : ℕ) → ReadsTyped (IsPathTyped longest) (absent_at wide)
+absent_typed wide longest =
+    typed_then (IsPathTyped longest) (path_at wide)
+    (λ path left. then_at (path_at wide left) (λ parent rest. Ok (Absent path parent, rest))) (λ bytes path left e.
+    typed_then (IsPathTyped longest) (path_at wide) (λ parent rest. Ok (Absent path parent, rest)) (λ bytes parent left e.
+    typed_done (IsPathTyped longest) (Absent path parent) tt))
+
 behind_typed : (wide : Bool) (longest : ℕ) (tag : ℕ) → ReadsTyped (IsPathTyped longest) (path_command_behind wide longest tag)
 behind_typed wide longest tag =
     typed_if (IsPathTyped longest) (tag == 1) (add_m_at wide longest) _ (add_m_typed wide longest)
@@ -286,9 +293,9 @@ behind_typed wide longest tag =
     (typed_if (IsPathTyped longest) (tag == 5) (evict_bm_at wide) _ (evict_bm_typed wide longest)
     (typed_if (IsPathTyped longest) (tag == 6) (get_at wide longest) _ (get_typed wide longest)
     (typed_if (IsPathTyped longest) (tag == 7) (put_at wide longest) _ (put_typed wide longest)
-    (typed_if (IsPathTyped longest) (tag == 8) (λ bytes. Ok (NextEpoch, bytes)) (λ bytes. Err Malformed)
-    (typed_done (IsPathTyped longest) NextEpoch tt)
-    (λ bytes command rest e. absurd (cc)))))))))
+    (typed_if (IsPathTyped longest) (tag == 8) (λ bytes. Ok (NextEpoch, bytes)) _ (typed_done (IsPathTyped longest) NextEpoch tt)
+    (typed_if (IsPathTyped longest) (tag == 9) (absent_at wide) (λ bytes. Err Malformed) (absent_typed wide longest)
+    (λ bytes command rest e. absurd (cc))))))))))
 
 -- What is read as a command that names paths is typed.
 pub path_command_typed : (wide : Bool) (longest : ℕ) (bytes : List ℕ) (command : Command) (rest : List ℕ)

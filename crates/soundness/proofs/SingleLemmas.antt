@@ -4,12 +4,14 @@ use Rattle.std.specs.Map.{update}
 use Rattle.std.proofs.lemmas.Bool.{false≢true, true≢false, eq-eqb, ne_eqb, cases_eq}
 use Rattle.std.proofs.lemmas.Map.{update_same, update_other}
 use Rattle.tree_keys.specs.Path.{IsIn, IsData, key_path, key_of}
-use Rattle.tree_keys.proofs.TreeLaws.{data-no_node, key_path-of}
+use Rattle.tree_keys.proofs.TreeLaws.{in-below, data-no_node, key_path-of}
+use Rattle.record_text.specs.declared.value.Pointer.{Pointer}
+use Rattle.record_text.specs.declared.value.Node.{Node}
 use Rattle.record_text.specs.declared.value.Value.{Value}
 use Rattle.record_text.specs.declared.value.Value.TheVariants as values
 use Rattle.record_text.specs.declared.element.Element.{Element}
 use Rattle.record_text.specs.Value.{IsOf}
-use Rattle.merkle_records.specs.Merkle.{Digest}
+use Rattle.merkle_records.specs.Merkle.{Digest, leads_over}
 use Rattle.verifier_cache.specs.declared.entry.Entry.{Entry}
 use Rattle.verifier_cache.specs.declared.entry.Hold.{Hold}
 use Rattle.verifier_cache.specs.declared.entry.Hold.TheVariants.{Root, M, B}
@@ -17,11 +19,11 @@ use Rattle.verifier_cache.specs.Entry.{kid_of, with_value}
 use Rattle.verifier_commands.specs.Changes.{node_of}
 use Rattle.verifier_commands.specs.Outcome.{blob_of}
 use Rattle.soundness.specs.Clash.{LastEvicted}
-use Rattle.soundness.specs.Showing.{Shown, showing, ShowSame, DidAddB, DidEvictB, DidGet, DidPut}
-use Rattle.soundness.specs.Spot.{Spot, cached, merkle, waiting, Spots, is_touched, side_of, pointer_at, home_of, LeadsBy, IsKind}
-use Rattle.soundness.specs.World.{cached_in, blob_at, AllShown, with_shown, Stored, IsWorld}
+use Rattle.soundness.specs.Showing.{Shown, showing, ShowSame, DidAddB, DidEvictB, IsAbsent, DidGet, DidPut}
+use Rattle.soundness.specs.Spot.{Spot, untouched, cached, merkle, waiting, Spots, is_touched, side_of, pointer_at, home_of, LeadsBy, Covers, IsKind}
+use Rattle.soundness.specs.World.{cached_in, blob_at, AllShown, with_shown, Stored, IsWorld, AreAbsent}
 use Rattle.soundness.proofs.MovedLemmas.{this_or_other, OneMoves, one_moves, leads_same_hold}
-use Rattle.soundness.proofs.FamilyLaws.{no_kids}
+use Rattle.soundness.proofs.FamilyLaws.{no_kids, absent_how}
 use Rattle.soundness.proofs.WorldLemmas.{cached_here, cached_elsewhere, spot_of_shown, with_spot, with_spot_at, with_spot_other, world_one}
 use Rattle.soundness.proofs.JoinLemmas.{is_merkle, KeepsWaiting, KeepsElsewhere, not_waiting, none_since, WorldAfter}
 use Rattle.soundness.proofs.LeaveLemmas.{LeftAt}
@@ -192,13 +194,47 @@ same_step wide longest digest shown last stored spots home next world same =
             ∙ ap (λ (h : ℕ). shown h path) (sym here) ∙ world.shows other path
         go (inr apart) = ap (λ (b : Bool). (if b then next else shown other) path) (ne_eqb other home apart) ∙ world.shows other path
 
+-- A data path below a touched one is untouched and has no value, where the pointer of its side leads neither to it nor above it.
+pub absent_keys : (wide : Bool) (longest : ℕ) (digest : Digest) (shown : AllShown) (last : LastEvicted) (stored : Stored) (spots : Spots)
+    → IsWorld wide longest digest shown last stored spots → AreAbsent stored spots
+absent_keys wide longest digest shown last stored spots world path key on touched below whole free =
+    (out, sym (world.holds key (in-below wide path key on (world.within path touched) below) whole) ∙ ap blob_at out)
+  where
+    led : (pointer : Option Pointer) → Covers pointer key → leads_over pointer key ≡ false → ⊥
+    led None covers none = covers
+    led (Some pointer) covers none = true≢false (sym covers ∙ none)
+
+    not_touched : is_touched (spots key) ≡ true → ⊥
+    not_touched there = led (pointer_at (spots path) on) (world.tree.cover path key on touched there below) free
+
+    by_spot : (spot : Spot) → spots key ≡ spot → spots key ≡ untouched
+    by_spot untouched is = is
+    by_spot (cached verifier entry) is = absurd (not_touched (ap is_touched is))
+    by_spot (merkle value) is = absurd (not_touched (ap is_touched is))
+    by_spot (waiting element) is = absurd (not_touched (ap is_touched is))
+
+    out : spots key ≡ untouched
+    out = by_spot (spots key) refl
+
 -- What is read is the plain map's.
 pub read_value : (wide : Bool) (longest : ℕ) (digest : Digest) (shown : AllShown) (last : LastEvicted) (stored : Stored) (spots : Spots) (home : ℕ) (next : Shown) (entry : Entry)
     → IsWorld wide longest digest shown last stored spots → DidGet (shown home) next entry
     → blob_of entry.value ≡ stored (key_of entry.path)
-read_value wide longest digest shown last stored spots home next entry world did =
-    let was : spots entry.path ≡ cached home entry = spot_of_shown home (spots entry.path) entry (sym (world.shows home entry.path) ∙ did.had) in
-    ap blob_at (sym was) ∙ world.holds entry.path (world.within entry.path (ap is_touched was)) did.at_data
+read_value wide longest digest shown last stored spots home next entry world did = go did.had
+  where
+    go : (shown home entry.path ≡ Some entry) ⊎ IsAbsent (shown home) entry → blob_of entry.value ≡ stored (key_of entry.path)
+    go (inl had) =
+        let was : spots entry.path ≡ cached home entry = spot_of_shown home (spots entry.path) entry (sym (world.shows home entry.path) ∙ had) in
+        ap blob_at (sym was) ∙ world.holds entry.path (world.within entry.path (ap is_touched was)) did.at_data
+    go (inr is) =
+        let how = absent_how is.parent entry.path entry is.absent in
+        let was : spots is.parent.path ≡ cached home is.parent =
+        spot_of_shown home (spots is.parent.path) is.parent (sym (world.shows home is.parent.path) ∙ is.had_parent) in
+        let free : leads_over (pointer_at (spots is.parent.path) how.on) entry.path ≡ false =
+        ap (λ (s : Spot). leads_over (pointer_at s how.on) entry.path) was
+        ∙ (ap (λ (o : Option Node). leads_over (side_of o how.on) entry.path) how.is_node ∙ how.leads) in
+        let out = absent_keys wide longest digest shown last stored spots world is.parent.path entry.path how.on (ap is_touched was) how.below did.at_data free in
+        ap (λ (e : Entry). blob_of e.value) how.entry_is ∙ sym out.1
 
 -- a data path's value has no pointers
 data_bare : (longest : ℕ) (path : List Bool) (value : Value) (on : Bool) → IsData path → IsOf longest path value → side_of (node_of value) on ≡ None

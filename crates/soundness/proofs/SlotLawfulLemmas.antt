@@ -1,6 +1,6 @@
 -- Each accepted command that names slots is lawful: it did what its change tells, and where its add was of a path that stood
 -- in no slot, no path stands in two slots after it.
-use Rattle.std.proofs.Common.{◌≡◌, ◌≢◌, ℕ, ◌<◌, Bool, false, not, nat_le, List, length, Option, Some, None, is_some, Ok, refl, sym, ◌∙◌, ap, subst}
+use Rattle.std.proofs.Common.{◌≡◌, ◌≢◌, ℕ, ◌<◌, Bool, false, not, nat_le, List, length, Option, Some, None, is_some, Ok, refl, sym, ◌∙◌, ap, subst, inl, inr}
 use Rattle.std.proofs.lemmas.Bool.{ltb-true, not-false}
 use Rattle.std.proofs.lemmas.Result.{IfOk-at_ok}
 use Rattle.tree_keys.specs.Path.{IsData, is_data}
@@ -13,7 +13,7 @@ use Rattle.record_text.specs.declared.value.Value.TheVariants as values
 use Rattle.record_text.specs.Value.{IsOf, IsBlob}
 use Rattle.record_text.specs.Same.{same_value}
 use Rattle.log_codec.specs.declared.slot_command.SlotCommand.{SlotCommand}
-use Rattle.log_codec.specs.declared.slot_command.SlotCommand.TheVariants.{AddM, EvictM, AddB, EvictB, EvictBM, Get, Put, NextEpoch}
+use Rattle.log_codec.specs.declared.slot_command.SlotCommand.TheVariants.{AddM, EvictM, AddB, EvictB, EvictBM, Get, Put, NextEpoch, Absent}
 use Rattle.verifier_cache.specs.declared.entry.Entry.{Entry}
 use Rattle.verifier_cache.specs.declared.entry.Hold.TheVariants.{B}
 use Rattle.verifier_cache.specs.Entry.{has_kid, new_entry, with_value}
@@ -22,9 +22,9 @@ use Rattle.verifier_cache.specs.Slots.{is_slot, entry_at}
 use Rattle.verifier_cache.proofs.EntriesLaws.{AreDistinct-without}
 use Rattle.verifier_commands.specs.declared.slot_state.SlotState.{SlotState}
 use Rattle.verifier_commands.specs.Change.{Change}
-use Rattle.verifier_commands.specs.Changes.{add_under, evict_under, defer_under, is_by_stamp}
+use Rattle.verifier_commands.specs.Changes.{add_under, evict_under, defer_under, absent_under, is_by_stamp}
 use Rattle.verifier_commands.specs.Transition.{Rules, is_root}
-use Rattle.verifier_commands.specs.SlotTransition.{with_pair, add_m, evict_m, add_b, evict_b, evict_bm, get, put, next_epoch, slot_transition}
+use Rattle.verifier_commands.specs.SlotTransition.{with_pair, add_m, evict_m, add_b, evict_b, evict_bm, get, put, absent, next_epoch, slot_transition}
 use Rattle.verifier_commands.proofs.BelowLaws.{below_apart}
 use Rattle.verifier_commands.proofs.InvertLaws.{need-ok, and_then-ok, timed-ok}
 use Rattle.verifier_commands.proofs.TickLaws.{ticks_slot_step}
@@ -34,7 +34,7 @@ use Rattle.soundness.specs.SlotHistory.{standing_in, shown_in}
 use Rattle.soundness.proofs.ShownLemmas.{shown-replaced, shown-without, distinct-replaced, shown-left, distinct-left}
 use Rattle.soundness.proofs.StandingLemmas.{found_standing, standing-replaced, standing-without, shown-put, distinct-put, shown-pair, distinct-pair, standing-pair}
 use Rattle.soundness.proofs.FamilyLaws.{evicted_how, deferred_how}
-use Rattle.soundness.proofs.LawfulLemmas.{add_under-paths, evict_under-path, defer_under-path, by_stamp}
+use Rattle.soundness.proofs.LawfulLemmas.{add_under-paths, evict_under-path, defer_under-path, absent_under-path, data_tested, by_stamp}
 use Rattle.soundness.proofs.MachineryLemmas.{EvictsItsOwn, IsTimelyDone, IsLawful}
 
 -- no path stands in two slots
@@ -201,7 +201,7 @@ lawful_get rules state slot value done once is =
     let same = test-ok (not (same_value entry.0.value (values.Blob value))) _ _ done data_path.1 in
     IfOk-at_ok (IsSlotLawful rules state) same.1 (record {
       did = record {
-        had = found_standing state.slots slot entry.0 once entry.1;
+        had = inl (found_standing state.slots slot entry.0 once entry.1);
         at_data = at_data entry.0.path data_path.0;
         shown = λ j. refl;
       };
@@ -234,6 +234,26 @@ lawful_put rules state slot value done kind once is =
       );
     })
 
+lawful_absent : (rules : Rules) (state : SlotState) (path : List Bool) (parent : ℕ) (done : Change × SlotState) → HasEachOnce state
+    → absent state path parent ≡ Ok done → IsSlotLawful rules state done
+lawful_absent rules state path parent done once is =
+    let data_path = test-ok (not (is_data path)) _ _ done is in
+    let holder = need-ok (entry_at state.slots parent) _ _ done data_path.1 in
+    let entry = and_then-ok (absent_under holder.0 path) _ done holder.2 in
+    let own : entry.0.path ≡ path = absent_under-path holder.0 path entry.0 entry.1 in
+    IfOk-at_ok (IsSlotLawful rules state) entry.2 (record {
+      did = record {
+        had = inr (record {
+          parent = holder.0;
+          had_parent = found_standing state.slots parent holder.0 once holder.1;
+          absent = ap (λ (p : List Bool). absent_under holder.0 p) own ∙ entry.1;
+        });
+        at_data = data_tested path entry.0.path own data_path.0;
+        shown = λ j. refl;
+      };
+      leaves = λ fresh. (λ j. refl, once);
+    })
+
 lawful_next_epoch : (rules : Rules) (state : SlotState) (done : Change × SlotState) → HasEachOnce state
     → next_epoch state ≡ Ok done → IsSlotLawful rules state done
 lawful_next_epoch rules state done once is =
@@ -254,6 +274,7 @@ slot_lawful rules state (EvictBM slot parent stamp) done typed once is = lawful_
 slot_lawful rules state (Get slot value) done typed once is = lawful_get rules state slot value done once is
 slot_lawful rules state (Put slot value) done typed once is = lawful_put rules state slot value done typed once is
 slot_lawful rules state NextEpoch done typed once is = lawful_next_epoch rules state done once is
+slot_lawful rules state (Absent path parent) done typed once is = lawful_absent rules state path parent done once is
 
 -- what was done evicts none but the verifier's own
 abbrev EvictsOwn : ℕ → Change × SlotState → Type 0
@@ -307,6 +328,11 @@ slot_own rules state (Put slot value) done is =
 slot_own rules state NextEpoch done is =
     let turn = timed-ok (advanced state.clock) _ done is in
     IfOk-at_ok (EvictsOwn rules.number) turn.2 tt
+slot_own rules state (Absent path parent) done is =
+    let data_path = test-ok (not (is_data path)) _ _ done is in
+    let holder = need-ok (entry_at state.slots parent) _ _ done data_path.1 in
+    let entry = and_then-ok (absent_under holder.0 path) _ done holder.2 in
+    IfOk-at_ok (EvictsOwn rules.number) entry.2 tt
 
 -- It moves the clock with its change, and evicts elements of the verifier's number.
 pub slot_timely : (rules : Rules) (state : SlotState) (command : SlotCommand) (done : Change × SlotState) → slot_transition rules state command ≡ Ok done

@@ -4,8 +4,8 @@ use Rattle.record_text.specs.declared.reader.TextFault.TheVariants.{Malformed}
 use Rattle.record_text.specs.Fields.{Parsed}
 use Rattle.record_text.specs.Reading.{path_at, value_at, blob_at, stamp_at, u16_at}
 use Rattle.log_codec.specs.declared.slot_command.SlotCommand.{SlotCommand}
-use Rattle.log_codec.specs.declared.slot_command.SlotCommand.TheVariants.{AddM, EvictM, AddB, EvictB, EvictBM, Get, Put, NextEpoch}
-use Rattle.log_codec.specs.SlotCommand.{add_m_at, evict_m_at, add_b_at, evict_b_at, evict_bm_at, get_at, put_at, slot_command_behind, slot_command_at}
+use Rattle.log_codec.specs.declared.slot_command.SlotCommand.TheVariants.{AddM, EvictM, AddB, EvictB, EvictBM, Get, Put, NextEpoch, Absent}
+use Rattle.log_codec.specs.SlotCommand.{add_m_at, evict_m_at, add_b_at, evict_b_at, evict_bm_at, get_at, put_at, absent_at, slot_command_behind, slot_command_at}
 use Rattle.log_codec.proofs.StepLaws.{then_at}
 use Rattle.soundness.specs.Typed.{IsSlotTyped}
 use Rattle.soundness.proofs.PathTypedLemmas.{ReadsTyped, typed_done, typed_then, typed_of, typed_if, typed_tagged, blob_at-fits}
@@ -80,6 +80,13 @@ put_typed longest =
     typed_then (IsSlotTyped longest) (blob_at longest) (λ value rest. Ok (Put slot value, rest)) (λ bytes value left e.
     typed_done (IsSlotTyped longest) (Put slot value) (blob_at-fits longest bytes value left e)))
 
+absent_typed : (wide : Bool) (longest : ℕ) → ReadsTyped (IsSlotTyped longest) (absent_at wide)
+absent_typed wide longest =
+    typed_then (IsSlotTyped longest) (path_at wide)
+    (λ path left. then_at (u16_at left) (λ parent rest. Ok (Absent path parent, rest))) (λ bytes path left e.
+    slot_first longest (λ parent rest. Ok (Absent path parent, rest))
+    (λ parent. typed_done (IsSlotTyped longest) (Absent path parent) tt))
+
 behind_typed : (wide : Bool) (longest : ℕ) (tag : ℕ) → ReadsTyped (IsSlotTyped longest) (slot_command_behind wide longest tag)
 behind_typed wide longest tag =
     typed_if (IsSlotTyped longest) (tag == 1) (add_m_at wide longest) _ (add_m_typed wide longest)
@@ -89,9 +96,9 @@ behind_typed wide longest tag =
     (typed_if (IsSlotTyped longest) (tag == 5) evict_bm_at _ (evict_bm_typed longest)
     (typed_if (IsSlotTyped longest) (tag == 6) (get_at longest) _ (get_typed longest)
     (typed_if (IsSlotTyped longest) (tag == 7) (put_at longest) _ (put_typed longest)
-    (typed_if (IsSlotTyped longest) (tag == 8) (λ bytes. Ok (NextEpoch, bytes)) (λ bytes. Err Malformed)
-    (typed_done (IsSlotTyped longest) NextEpoch tt)
-    (λ bytes command rest e. absurd (cc)))))))))
+    (typed_if (IsSlotTyped longest) (tag == 8) (λ bytes. Ok (NextEpoch, bytes)) _ (typed_done (IsSlotTyped longest) NextEpoch tt)
+    (typed_if (IsSlotTyped longest) (tag == 9) (absent_at wide) (λ bytes. Err Malformed) (absent_typed wide longest)
+    (λ bytes command rest e. absurd (cc))))))))))
 
 -- What is read as a command that names slots is typed.
 pub slot_command_typed : (wide : Bool) (longest : ℕ) (bytes : List ℕ) (command : SlotCommand) (rest : List ℕ)

@@ -20,10 +20,10 @@ use Rattle.soundness.specs.Scheduled.{IsScheduledBy, IsScheduled, ArePermuted}
 use Rattle.soundness.specs.Showing.{Shown, opening_shown, HasDone, shown_after, IsFresh}
 use Rattle.soundness.specs.IsHistory.{AreHistories}
 use Rattle.soundness.specs.Spot.{waiting, Spots}
-use Rattle.soundness.specs.World.{AllShown, with_shown, Stored, IsWorld, IsWaiting, shown_behind, changes_in, last_evicted_behind, pending_after, pending_behind, stored_behind, IsBehind, HaveSpots, TakesFromSpots}
+use Rattle.soundness.specs.World.{AllShown, with_shown, Stored, IsWorld, IsWaiting, shown_behind, changes_in, last_evicted_behind, pending_after, pending_behind, stored_behind, IsBehind, AreAbsent, HaveSpots, HaveAbsentKeys, TakesFromSpots}
 use Rattle.soundness.proofs.KnownLemmas.{HasOneText, Clashes, Passes, join_step}
 use Rattle.soundness.proofs.LeaveLemmas.{LeftAt, leave_step, defer_step}
-use Rattle.soundness.proofs.SingleLemmas.{come_step, go_step, same_step, write_step}
+use Rattle.soundness.proofs.SingleLemmas.{come_step, go_step, same_step, absent_keys, write_step}
 use Rattle.soundness.proofs.RunLemmas.{IsRun}
 use Rattle.soundness.proofs.SerialLemmas.{wait_on, wait_more, wait_less, waits_once_out, waits_own, free_at, takes_there, fresh_there}
 use Rattle.soundness.proofs.OrderLemmas.{are_timely, order_run}
@@ -230,6 +230,13 @@ StandBehind digest header front back =
     Stand (wide_of header) longest_blob digest (shown_behind (opening_shown header) front) (last_evicted_behind none_evicted (changes_in front))
     (stored_behind none_everywhere (operations_in front)) (pending_behind [] (changes_in front)) back
 
+-- in spots that agree with what a front left, data paths to which no pointer leads are untouched and have no value
+pub absent_behind : (digest : Digest) (header : Header) (events : List Event) (spots : Spots) → IsBehind digest header events spots
+    → AreAbsent (stored_behind none_everywhere (operations_in events)) spots
+absent_behind digest header events spots behind =
+    absent_keys (wide_of header) longest_blob digest (shown_behind (opening_shown header) events)
+    (last_evicted_behind none_evicted (changes_in events)) (stored_behind none_everywhere (operations_in events)) spots behind.world
+
 module _ (functions : DigestFunctions) (header : Header) (histories : List (List Event)) (last : ℕ) where
   -- at the opening
   at_opening : AreHistories longest_blob functions.digest header 0 histories
@@ -270,6 +277,17 @@ module _ (functions : DigestFunctions) (header : Header) (histories : List (List
   one_spot front back digests are permuted is free =
       let stand = stand_at front back digests are permuted is free in
       (stand.spots, placed front back stand)
+
+  -- And data paths to which no pointer leads are untouched and have no value.
+  pub absent_spots : (front back : List Event) → GivesDigests functions.digest
+      → AreHistories longest_blob functions.digest header 0 histories
+      → ArePermuted header.first last (order_of histories)
+      → order_up_to last histories ≡ front ++ back
+      → first_clash none_evicted (changes_in front) ≡ None
+      → HaveAbsentKeys functions.digest header front
+  absent_spots front back digests are permuted is free =
+      let placed = one_spot front back digests are permuted is free in
+      (placed.0, placed.1, absent_behind functions.digest header front placed.0 placed.1)
 
   -- What the events of a front add isn't shown before them.
   pub all_fresh : (front back : List Event) → GivesDigests functions.digest

@@ -1,10 +1,10 @@
 -- What a step does to a cache is told by its change, of any cache that shows the same.
-use Rattle.std.proofs.Common.{ℕ, Bool, List, Option, Some, None, IsNone, if◌then◌else◌, refl, sym, ◌∙◌, ap, subst}
+use Rattle.std.proofs.Common.{◌≡◌, ◌⊎◌, ℕ, Bool, List, Option, Some, None, IsNone, if◌then◌else◌, refl, sym, ◌∙◌, ap, subst, inl, inr}
 use Rattle.tree_keys.specs.Path.{same_path}
 use Rattle.merkle_records.specs.Merkle.{Digest}
 use Rattle.verifier_cache.specs.declared.entry.Entry.{Entry}
 use Rattle.verifier_commands.specs.Change.{Change, did_add_m, did_evict_m, did_add_b, did_evict_b, did_evict_bm, did_get, did_put, did_next_epoch}
-use Rattle.soundness.specs.Showing.{Shown, showing, ShowSame, showing_both, HasDone, shown_after, IsFresh}
+use Rattle.soundness.specs.Showing.{Shown, showing, ShowSame, showing_both, IsAbsent, HasDone, shown_after, IsFresh}
 
 showing_same : (a b : Shown) (path : List Bool) (entry : Option Entry) → ShowSame a b
     → ShowSame (showing a path entry) (showing b path entry)
@@ -57,6 +57,16 @@ did_shown longest digest old told new same (did_put before after) did path =
     did.shown path ∙ showing_same old told before.path (Some after) same path
 did_shown longest digest old told new same (did_next_epoch sealed) did path = did path ∙ same path
 
+-- what was read by what one cache shows is read by what the other does
+had_same : (a b : Shown) → ShowSame a b → (entry : Entry) → (a entry.path ≡ Some entry) ⊎ IsAbsent a entry
+    → (b entry.path ≡ Some entry) ⊎ IsAbsent b entry
+had_same a b same entry (inl had) = inl (sym (same entry.path) ∙ had)
+had_same a b same entry (inr is) = inr (record {
+  parent = is.parent;
+  had_parent = sym (same is.parent.path) ∙ is.had_parent;
+  absent = is.absent;
+})
+
 -- so it did what its change tells
 pub retold : (longest : ℕ) (digest : Digest) (old told new : Shown) → ShowSame old told → (change : Change)
     → HasDone longest digest old new change → HasDone longest digest told (shown_after told change) change
@@ -95,7 +105,7 @@ retold longest digest old told new same (did_evict_bm parent after child element
   shown = λ path. refl;
 }
 retold longest digest old told new same (did_get entry) did = record {
-  had = sym (same entry.path) ∙ did.had;
+  had = had_same old told same entry did.had;
   at_data = did.at_data;
   shown = λ path. refl;
 }

@@ -1,5 +1,5 @@
 -- What soundness knows of a step of a verifier: what its cache shows before and after, by what was done.
-use Rattle.std.specs.Prelude.{◌≡◌, ℕ, Bool, false, List, Option, Some, None, IsNone, Ok, if◌then◌else◌}
+use Rattle.std.specs.Prelude.{◌≡◌, ◌⊎◌, ℕ, Bool, false, List, Option, Some, None, IsNone, Ok, if◌then◌else◌}
 use Rattle.tree_keys.specs.Path.{same_path, IsData}
 use Rattle.lamport_clocks.specs.declared.header.Header.{Header}
 use Rattle.record_text.specs.declared.value.Value.{Value}
@@ -12,7 +12,7 @@ use Rattle.verifier_cache.specs.Entry.{has_kid, new_entry, with_value}
 use Rattle.verifier_cache.specs.Cache.{entry_of}
 use Rattle.verifier_commands.specs.declared.state.State.{State}
 use Rattle.verifier_commands.specs.State.{opening}
-use Rattle.verifier_commands.specs.Changes.{add_under, evict_under, defer_under}
+use Rattle.verifier_commands.specs.Changes.{add_under, evict_under, defer_under, absent_under}
 use Rattle.verifier_commands.specs.Change.{Change, did_add_m, did_evict_m, did_add_b, did_evict_b, did_evict_bm, did_get, did_put, did_next_epoch}
 
 -- what a cache shows of each path
@@ -78,9 +78,15 @@ pub record DidEvictBM (old new : Shown) (parent after child : Entry) (element : 
   pub value : element.value ≡ child.value
   pub shown : ShowSame new (showing_both old after child.path None)
 
--- a data value was read
+-- an entry that a path without a record would come in with, under a parent that is shown and doesn't lead to it
+pub record IsAbsent (old : Shown) (entry : Entry) : Type 0 where
+  pub parent : Entry
+  pub had_parent : old parent.path ≡ Some parent
+  pub absent : absent_under parent entry.path ≡ Ok entry
+
+-- a data value was read: that of an entry that is shown, or that of one that is absent
 pub record DidGet (old new : Shown) (entry : Entry) : Type 0 where
-  pub had : old entry.path ≡ Some entry
+  pub had : (old entry.path ≡ Some entry) ⊎ IsAbsent old entry
   pub at_data : IsData entry.path
   pub shown : ShowSame new old
 

@@ -20,6 +20,7 @@ IsPathTyped longest (paths.EvictBM path parent stamp) = Unit {0}
 IsPathTyped longest (paths.Get path value) = Unit {0}
 IsPathTyped longest (paths.Put path value) = IsOf longest path value
 IsPathTyped longest paths.NextEpoch = Unit {0}
+IsPathTyped longest (paths.Absent path parent) = Unit {0}
 
 -- the value that a command which names slots brings in is of its path's kind
 abbrev pub IsSlotTyped : ℕ → SlotCommand → Type 0
@@ -31,6 +32,7 @@ IsSlotTyped longest (slots.EvictBM slot parent stamp) = Unit {0}
 IsSlotTyped longest (slots.Get slot value) = Unit {0}
 IsSlotTyped longest (slots.Put slot value) = IsBlob longest value
 IsSlotTyped longest slots.NextEpoch = Unit {0}
+IsSlotTyped longest (slots.Absent path parent) = Unit {0}
 
 -- the value that a command brings in is of its path's kind
 abbrev pub IsTyped : ℕ → LogCommand → Type 0

@@ -1,14 +1,14 @@
 -- All caches together, what was last evicted and the plain map, and the spots that agree with them; and what events leave.
-use Rattle.std.specs.Prelude.{◌≡◌, ◌⊎◌, ℕ, ◌≤◌, ◌==◌, Bool, true, List, [], ◌∷◌, map, Option, Some, None, if◌then◌else◌}
+use Rattle.std.specs.Prelude.{◌≡◌, ◌⊎◌, ℕ, ◌≤◌, ◌==◌, Bool, true, false, List, [], ◌∷◌, map, Option, Some, None, if◌then◌else◌}
 use Rattle.std.specs.Option.{unwrap_or}
-use Rattle.tree_keys.specs.Path.{IsIn, IsData, key_of}
+use Rattle.tree_keys.specs.Path.{IsIn, IsData, key_of, side}
 use Rattle.lamport_clocks.specs.declared.header.Header.{Header}
 use Rattle.record_text.specs.declared.value.Value.{Value}
 use Rattle.record_text.specs.declared.element.Element.{Element}
 use Rattle.record_text.specs.declared.operation.Operation.{Operation}
 use Rattle.record_text.specs.Tree.{wide_of}
 use Rattle.record_text.specs.Longest.{longest_of}
-use Rattle.merkle_records.specs.Merkle.{Digest}
+use Rattle.merkle_records.specs.Merkle.{Digest, leads_over}
 use Rattle.stamp_order.specs.Serial.{none_everywhere, map_after}
 use Rattle.verifier_cache.specs.declared.entry.Entry.{Entry}
 use Rattle.verifier_commands.specs.Outcome.{blob_of}
@@ -19,7 +19,7 @@ use Rattle.soundness.specs.Clash.{LastEvicted, none_evicted, last_evicted_after}
 use Rattle.soundness.specs.Timed.{added_among, evicted_among}
 use Rattle.soundness.specs.Permutation.{count_of, without_one}
 use Rattle.soundness.specs.Showing.{Shown, opening_shown, shown_after}
-use Rattle.soundness.specs.Spot.{Spot, untouched, cached, merkle, waiting, Spots, is_touched, value_at, IsTree}
+use Rattle.soundness.specs.Spot.{Spot, untouched, cached, merkle, waiting, Spots, is_touched, value_at, pointer_at, IsTree}
 
 -- ---- what a spot shows
 
@@ -129,6 +129,19 @@ pub record IsBehind (digest : Digest) (header : Header) (events : List Event) (s
 -- each path has one spot behind these events
 abbrev pub HaveSpots : Digest → Header → List Event → Type 0
 HaveSpots digest header events = (spots : Spots) × IsBehind digest header events spots
+
+-- A data path below a touched one is untouched and has no value, where the pointer of its side leads neither to it nor to a
+-- path above it.
+abbrev pub AreAbsent : Stored → Spots → Type 0
+AreAbsent stored spots =
+    (path key : List Bool) (on : Bool) → is_touched (spots path) ≡ true → side path key ≡ Some on → IsData key
+    → leads_over (pointer_at (spots path) on) key ≡ false → (spots key ≡ untouched) × (stored (key_of key) ≡ None)
+
+-- each path has one spot behind these events, and data paths to which no pointer leads are untouched and have no value
+abbrev pub HaveAbsentKeys : Digest → Header → List Event → Type 0
+HaveAbsentKeys digest header events =
+    (spots : Spots) × IsBehind digest header events spots
+    × AreAbsent (stored_behind none_everywhere (operations_in events)) spots
 
 -- a child joins where nothing was, or with the value that its digest keeps and the last evictM took; an element comes
 -- where it waits, and its record comes in with its value

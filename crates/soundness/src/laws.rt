@@ -10,9 +10,10 @@ ghost use Rattle.log_codec.specs.declared.slot_command.SlotCommand.{SlotCommand}
 ghost use Rattle.log_codec.specs.declared.log_command.LogCommand.{LogCommand};
 ghost use Rattle.log_codec.specs.declared.log_command.LogCommand.TheVariants.{ByPath, BySlot};
 ghost use Rattle.record_hash.specs.Functions.{DigestFunctions};
-ghost use Rattle.merkle_records.specs.Merkle.{GivesDigests};
+ghost use Rattle.merkle_records.specs.Merkle.{Digest, GivesDigests};
 ghost use Rattle.merkle_records.specs.Scheme.{Scheme, scheme_of};
 ghost use Rattle.stamp_order.specs.Merged.{up_to, of_verifier};
+ghost use Rattle.stamp_order.specs.Serial.{none_everywhere};
 ghost use Rattle.record_text.specs.declared.element.Element.{Element};
 ghost use Rattle.soundness.specs.History.{Event, log_events, log_refusal, histories_of};
 ghost use Rattle.soundness.specs.StateHistory.{HistoryFromState};
@@ -29,7 +30,7 @@ ghost use Rattle.soundness.specs.Scheduled.{IsScheduled, ArePermuted};
 ghost use Rattle.soundness.specs.Sound.{AreBalanced, IsSerialOrCollides, histories_read};
 ghost use Rattle.soundness.specs.Spot.{waiting, Spots};
 ghost use Rattle.soundness.specs.Behind.{CachesShow};
-ghost use Rattle.soundness.specs.World.{changes_in, pending_behind, IsPending, IsBehind, HaveSpots, TakesFromSpots};
+ghost use Rattle.soundness.specs.World.{changes_in, pending_behind, stored_behind, IsPending, IsBehind, AreAbsent, HaveSpots, HaveAbsentKeys, TakesFromSpots};
 
 /// Of epochs that are balanced, from the first on, the gets and puts are serial and there is nothing to
 /// exhibit, or the exhibit collides. So it is of any histories, and so of those of logs. Whatever bytes the logs
@@ -182,6 +183,21 @@ pub fn records_have_one_spot()
         → order_up_to last histories ≡ front ++ back
         → first_clash none_evicted (changes_in front) ≡ None
         → HaveSpots functions.digest header front }
+{}
+
+/// So one touched path shows that a key has no value: behind each front of the merged order that shows no clash, a data
+/// path below a touched path is untouched, and has no value in the plain map, where the pointer of that side leads neither to
+/// it nor to a path above it. It is so in any spots that agree with what the front left.
+pub fn absent_keys_have_no_value()
+    ensures of_spots { (digest : Digest) (header : Header) (events : List Event) (spots : Spots)
+        → IsBehind digest header events spots → AreAbsent (stored_behind none_everywhere (operations_in events)) spots }
+    ensures absent { (functions : DigestFunctions) (header : Header)
+        (histories : List (List Event)) (last : ℕ) (front back : List Event)
+        → GivesDigests functions.digest → AreHistories (longest_of header) functions.digest header 0 histories
+        → ArePermuted header.first last (order_of histories)
+        → order_up_to last histories ≡ front ++ back
+        → first_clash none_evicted (changes_in front) ≡ None
+        → HaveAbsentKeys functions.digest header front }
 {}
 
 /// Of typed logs it is so of the caches themselves: behind each front of the merged order that shows no clash, no path stands

@@ -11,8 +11,8 @@
 //! events of a log are one is a law by itself (`logs_have_histories`), and all that another version of the
 //! command format owes.
 //!
-//! What makes it so is told by two laws more: behind each front of that order that shows no clash, each path
-//! has one spot, and each add takes what is there.
+//! What makes it so is told by three laws more: behind each front of that order that shows no clash, each path
+//! has one spot, each add takes what is there, and a key to which no pointer leads has no value.
 //!
 //! The crate stands on `verifier_commands`, whose transition says what a command does, on `log_codec`,
 //! `multiset_sum` and `stamp_order`; it has no code to run. Begin with `laws.rt`, whose first law is the
@@ -22,9 +22,10 @@
 mod laws;
 
 pub use laws::{
-    adds_take_what_is_there, caches_hold_each_path_once, certified_is_serial_or_collides,
-    elements_added_later_wait, even_epochs_are_scheduled, evicted_elements_are_distinct,
-    evicted_elements_are_timed, histories_are_told_from_states, logs_have_histories,
-    merged_order_keeps_each_log, operations_come_epoch_by_epoch, path_logs_have_histories,
-    records_have_one_spot, slot_logs_have_histories, versions_name_paths_or_slots,
+    absent_keys_have_no_value, adds_take_what_is_there, caches_hold_each_path_once,
+    certified_is_serial_or_collides, elements_added_later_wait, even_epochs_are_scheduled,
+    evicted_elements_are_distinct, evicted_elements_are_timed, histories_are_told_from_states,
+    logs_have_histories, merged_order_keeps_each_log, operations_come_epoch_by_epoch,
+    path_logs_have_histories, records_have_one_spot, slot_logs_have_histories,
+    versions_name_paths_or_slots,
 };
