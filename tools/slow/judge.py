@@ -108,6 +108,7 @@ def judge_random(program, count, times, seed):
         hot = number % 2 == 1 and "--hot" not in LATER
         version = 2 if number % 4 > 1 and "--format" not in LATER else 1
         asked, script = random_run(chance, chance.choice([2, 3, 8]), hot, shared=True, version=version)
+        asked += ["--absent"] if number % 3 == 1 and "--absent" not in LATER else []
         if fastver.fastver(asked, script)[0].status not in (0, 10):
             continue
         seen = set()

@@ -11,9 +11,8 @@ use Rattle.record_text.specs.declared.value.Value.{Value}
 use Rattle.record_text.specs.declared.refusal.Refusal.{Refusal}
 use Rattle.record_text.specs.Value.{node_side}
 use Rattle.verifier_cache.specs.declared.entry.Entry.{Entry}
-use Rattle.verifier_commands.specs.declared.changes.Family.{Family}
 use Rattle.verifier_commands.specs.Change.{Change, did_add_m}
-use Rattle.verifier_commands.specs.Changes.{node_of, above, above_on, leads_to, add_under}
+use Rattle.verifier_commands.specs.Changes.{Family, node_of, above, above_on, leads_to, add_under}
 use Rattle.verifier_commands.specs.Transition.{Rules}
 use Rattle.soundness.specs.Clash.{is_known}
 use Rattle.soundness.proofs.FamilyLaws.{IsAdd, on_empty, on_same, on_split, IsAdded, added_how}

@@ -9,7 +9,7 @@ use Rattle.base_words.proofs.StepLaws.{test-ok}
 use Rattle.record_text.specs.declared.value.Value.TheVariants as values
 use Rattle.record_text.specs.Same.{same_value}
 use Rattle.log_codec.specs.declared.command.Command.{Command}
-use Rattle.log_codec.specs.declared.command.Command.TheVariants.{AddM, EvictM, AddB, EvictB, EvictBM, Get, Put, NextEpoch}
+use Rattle.log_codec.specs.declared.command.Command.TheVariants.{AddM, EvictM, AddB, EvictB, EvictBM, Get, Put, NextEpoch, Absent}
 use Rattle.log_codec.specs.declared.slot_command.SlotCommand.{SlotCommand}
 use Rattle.log_codec.specs.declared.slot_command.SlotCommand.TheVariants as slots
 use Rattle.log_codec.specs.declared.log_command.LogCommand.{LogCommand}
@@ -21,7 +21,7 @@ use Rattle.verifier_cache.specs.Slots.{is_slot, entry_at}
 use Rattle.verifier_commands.specs.declared.state.State.{State}
 use Rattle.verifier_commands.specs.declared.slot_state.SlotState.{SlotState}
 use Rattle.verifier_commands.specs.Change.{Change}
-use Rattle.verifier_commands.specs.Changes.{add_under, evict_under, defer_under, is_by_stamp}
+use Rattle.verifier_commands.specs.Changes.{add_under, evict_under, defer_under, absent_under, is_by_stamp}
 use Rattle.verifier_commands.specs.Transition.{Rules, is_root, is_full, transition}
 use Rattle.verifier_commands.specs.SlotTransition.{slot_transition}
 use Rattle.verifier_commands.specs.VerifierState.{AnyCache, by_path, by_slot, VerifierState, perform_on, perform}
@@ -90,6 +90,11 @@ path_deed_told rules state (Put path value) done is =
 path_deed_told rules state NextEpoch done is =
     let turn = timed-ok (advanced state.clock) _ done is in
     IfOk-at_ok (DidAsTold None) turn.2 refl
+path_deed_told rules state (Absent path parent) done is =
+    let data_path = test-ok (not (is_data path)) _ _ done is in
+    with_needed (DidAsTold None done) (found_in state parent) _ _ done data_path.1 (λ holder there next.
+    let entry = and_then-ok (absent_under holder path) _ done next in
+    IfOk-at_ok (DidAsTold None) entry.2 refl)
 
 -- ---- commands that name slots
 
@@ -150,6 +155,11 @@ slot_deed_told rules state (slots.Put slot value) done is =
 slot_deed_told rules state slots.NextEpoch done is =
     let turn = timed-ok (advanced state.clock) _ done is in
     IfOk-at_ok (DidAsTold None) turn.2 refl
+slot_deed_told rules state (slots.Absent path parent) done is =
+    let data_path = test-ok (not (is_data path)) _ _ done is in
+    with_needed (DidAsTold None done) (found_at state parent) _ _ done data_path.1 (λ holder there next.
+    let entry = and_then-ok (absent_under holder path) _ done next in
+    IfOk-at_ok (DidAsTold None) entry.2 refl)
 
 -- ---- commands of either kind
 

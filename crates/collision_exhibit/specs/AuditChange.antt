@@ -4,7 +4,7 @@ use Rattle.std.specs.Option.{option_map}
 use Rattle.lamport_clocks.specs.declared.stamp.Stamp.{Stamp}
 use Rattle.record_text.specs.declared.value.Value.{Value}
 use Rattle.log_codec.specs.declared.command.Command.{Command}
-use Rattle.log_codec.specs.declared.command.Command.TheVariants.{AddM, EvictM, AddB, EvictB, EvictBM, Get, Put, NextEpoch}
+use Rattle.log_codec.specs.declared.command.Command.TheVariants.{AddM, EvictM, AddB, EvictB, EvictBM, Get, Put, NextEpoch, Absent}
 use Rattle.log_codec.specs.declared.slot_command.SlotCommand.{SlotCommand}
 use Rattle.log_codec.specs.declared.slot_command.SlotCommand.TheVariants as slots
 use Rattle.log_codec.specs.declared.log_command.LogCommand.{LogCommand}
@@ -41,6 +41,7 @@ path_audit_change number found (EvictBM path parent stamp) = option_map (evicted
 path_audit_change number found (Get path value) = None
 path_audit_change number found (Put path value) = None
 path_audit_change number found NextEpoch = None
+path_audit_change number found (Absent path parent) = None
 
 -- what a command that names slots does for it, by the entries that are found in slots
 abbrev pub slot_audit_change : ℕ → (ℕ → Option Entry) → SlotCommand → Option AuditChange
@@ -53,6 +54,7 @@ slot_audit_change number found (slots.EvictBM slot parent stamp) = option_map (e
 slot_audit_change number found (slots.Get slot value) = None
 slot_audit_change number found (slots.Put slot value) = None
 slot_audit_change number found slots.NextEpoch = None
+slot_audit_change number found (slots.Absent path parent) = None
 
 -- What a command of the verifier of this number does for an audit, by the cache before it.
 abbrev pub audit_change_of : ℕ → AnyCache → LogCommand → Option AuditChange

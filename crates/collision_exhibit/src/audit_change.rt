@@ -52,7 +52,8 @@ fn path_change(number: u16, verifier: &Verifier, command: &Command) -> Option<Au
             parent: _,
             stamp,
         } => went(number, verifier.entry_of(path), *stamp),
-        Command::Get { .. } | Command::Put { .. } | Command::NextEpoch => None,
+        Command::Get { .. } | Command::Put { .. } | Command::NextEpoch | Command::Absent { .. } =>
+            None,
     }
 }
 
@@ -81,7 +82,10 @@ fn slot_change(number: u16, verifier: &Verifier, command: &SlotCommand) -> Optio
             parent: _,
             stamp,
         } => went(number, verifier.entry_at(*slot), *stamp),
-        SlotCommand::Get { .. } | SlotCommand::Put { .. } | SlotCommand::NextEpoch => None,
+        SlotCommand::Get { .. }
+        | SlotCommand::Put { .. }
+        | SlotCommand::NextEpoch
+        | SlotCommand::Absent { .. } => None,
     }
 }
 

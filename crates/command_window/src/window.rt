@@ -7,6 +7,7 @@ ghost use Rattle.command_window.specs.Window.{AreReadOf, AreRight, IsRight, AreF
 
 use crate::asking::ask;
 use crate::hashing::hash_all;
+use crate::places::{MOST_COMMANDS, Places};
 use crate::read_command::{Asked, AskedKind, ReadCommand};
 use base_words::Memory;
 use lamport_clocks::Header;
@@ -14,9 +15,6 @@ use log_codec::{Decoded, read_command};
 use record_hash::{Digests, KnownDigests};
 use std::alloc::Global;
 use std::marker::Model;
-
-// A window has at most so many commands.
-const MOST_COMMANDS: usize = 64;
 
 /// The next commands of the log of a verifier, and what each will ask for.
 ///
@@ -27,6 +25,8 @@ pub struct CommandWindow {
     reads: Vec<ReadCommand>,
     // What the command at each place asks for: as many as there is room for commands, used again by each reading.
     asked: Vec<Asked>,
+    // where the commands name which records
+    places: Places,
 }
 
 impl Model for CommandWindow {
@@ -54,6 +54,7 @@ impl CommandWindow {
             number,
             reads,
             asked,
+            places: Places::none(),
         }
     }
 
@@ -73,6 +74,7 @@ impl CommandWindow {
         ensures right { (functions : DigestFunctions) → AreRight functions self.new.asked }
     {
         self.reads.clear();
+        self.places.forget();
         forget_all(self.asked.as_mut_slice());
         let room = self.reads.capacity().min(self.asked.len());
         let mut taken = 0;
@@ -83,9 +85,11 @@ impl CommandWindow {
                     ask(
                         &mut self.asked[place],
                         self.reads.as_slice(),
+                        &self.places,
                         &command,
                         self.number,
                     );
+                    self.places.note(place, &command);
                     self.reads.push_reserved(ReadCommand { command, len });
                     taken += len;
                 }

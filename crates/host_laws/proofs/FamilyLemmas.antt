@@ -19,8 +19,7 @@ use Rattle.verifier_cache.specs.declared.entry.Entry.{Entry}
 use Rattle.verifier_cache.specs.declared.entry.Hold.{Hold}
 use Rattle.verifier_cache.specs.declared.entry.Hold.TheVariants.{M}
 use Rattle.verifier_cache.specs.Entry.{kid_of, set_kid, has_kid, new_entry}
-use Rattle.verifier_commands.specs.declared.changes.Parent.{Parent}
-use Rattle.verifier_commands.specs.Changes.{above, above_on, leads_to, is_deferred, has_digest, leads_below, set_kid_on, family_of, add_by, add_under, left_by, evict_under, holds_wrong, is_by_digest, defer_under}
+use Rattle.verifier_commands.specs.Changes.{Parent, above, above_on, leads_to, is_deferred, has_digest, leads_below, set_kid_on, family_of, add_by, add_under, left_by, evict_under, holds_wrong, is_by_digest, defer_under}
 use Rattle.verifier_commands.proofs.BelowLaws.{below_apart}
 use Rattle.host_laws.proofs.StepLemmas.{test-passed, need-there}
 

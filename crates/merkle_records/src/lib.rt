@@ -12,4 +12,4 @@ mod nodes;
 
 pub use cases::AddCase;
 pub use laws::{digests_have_32_bytes, one_pointer_changes, records_stay_of_their_kinds};
-pub use nodes::{add_case, after_add, after_evict, defer, digest_of, leads_over};
+pub use nodes::{add_case, after_add, defer, digest_of, leads_over, pointer_to, side_of};

@@ -1,9 +1,10 @@
-//! What an add, an evict and a deferral do to a node.
-ghost use Rattle.std.specs.Prelude.{◌≡◌, ◌≢◌, Bool, Some};
-ghost use Rattle.tree_keys.specs.Path.{side, IsBelow};
-ghost use Rattle.record_text.specs.Value.{node_side};
+//! What an add, an evict and a deferral do to a node: which pointer it has then on their side.
+ghost use Rattle.std.specs.Prelude.{◌≡◌, ◌≢◌, Bool};
+ghost use Rattle.std.specs.Option.{option_map};
+ghost use Rattle.tree_keys.specs.Path.{side};
+ghost use Rattle.record_text.specs.Value.{node_side, with_side};
 ghost use Rattle.record_text.specs.Texts.{value_text};
-ghost use Rattle.merkle_records.specs.Merkle.{case_of, leads_over, IsAdded, taken_over, after_add, after_evict, after_defer, pointer_to};
+ghost use Rattle.merkle_records.specs.Merkle.{case_of, leads_over, IsAdded, taken_over, after_add, pointer_to, deferred_pointer};
 ghost use Rattle.merkle_records.specs.declared.cases.AddCase.TheVariants.{Foreign};
 
 use crate::cases::AddCase;
@@ -11,13 +12,18 @@ use record_hash::Digests;
 use record_text::{Node, Pointer, Value, initial, value_text};
 use tree_keys::Path;
 
-/// Where a node's pointer leads on the side of a path below it.
-pub fn add_case(node: &Node, at: &Path, k: &Path) -> AddCase
-    requires below { IsBelow at.now k.now }
-    ensures case { (on : Bool) → side at.now k.now ≡ Some on
-        → result ≡ case_of (node_side node.now on) k.now }
+/// The pointer of a side.
+pub fn side_of(node: &Node, side: bool) -> &Option<Pointer>
+    ensures value { result.now ≡ node_side node.now side }
 {
-    match node.side(k.side_below(at)) {
+    if side { &node.side1 } else { &node.side0 }
+}
+
+/// Where the pointer of a side leads, seen from a path below the node on that side.
+pub fn add_case(pointer: &Option<Pointer>, k: &Path) -> AddCase
+    ensures case { result ≡ case_of pointer.now k.now }
+{
+    match pointer {
         None => AddCase::Empty,
         Some(pointer) => {
             if pointer.path.is_same(k) {
@@ -48,8 +54,8 @@ pub fn digest_of<D: Digests>(d: &D, value: &Value) -> [u8; 32]
     d.text_digest(value_text(value).as_slice())
 }
 
-// A pointer to a path with the digest of its value.
-fn pointer_to<D: Digests>(d: &D, path: &Path, value: &Value) -> Pointer
+/// A pointer to a path with the digest of its value: that of its side, once the path was evicted with this value.
+pub fn pointer_to<D: Digests>(d: &D, path: &Path, value: &Value) -> Pointer
     ensures value { result ≡ pointer_to (D.functions d.now).digest path.now value.now }
 {
     Pointer {
@@ -59,32 +65,26 @@ fn pointer_to<D: Digests>(d: &D, path: &Path, value: &Value) -> Pointer
     }
 }
 
-/// The node after a path below it was evicted with this value: the pointer of its side has the digest.
-pub fn after_evict<D: Digests>(d: &D, node: &Node, at: &Path, k: &Path, v: &Value) -> Node
-    requires below { IsBelow at.now k.now }
-    ensures node { (on : Bool) → side at.now k.now ≡ Some on
-        → result ≡ after_evict (D.functions d.now).digest node.now on k.now v.now }
+/// The pointer of a side once a path was added there, and the value with which the path stands in the cache.
+#[tactic(auto, using(crate::proofs::AddLemmas::added_view))]
+pub fn after_add<D: Digests>(
+    d: &D,
+    pointer: &Option<Pointer>,
+    k: &Path,
+    v: &Value,
+) -> (Option<Pointer>, Value)
+    requires case { case_of pointer.now k.now ≢ Foreign }
+    ensures added { (node : Node) (on : Bool) → node_side node on ≡ pointer.now
+        → IsAdded (with_side node on result.0, result.1) (after_add (D.functions d.now).digest node on k.now v.now) }
 {
-    node.with_side(k.side_below(at), Some(pointer_to(d, k, v)))
-}
-
-/// The node after a path below it was added, and the value with which the path stands in the cache.
-pub fn after_add<D: Digests>(d: &D, node: &Node, at: &Path, k: &Path, v: &Value) -> (Node, Value)
-    requires below { IsBelow at.now k.now }
-    requires case { (on : Bool) → side at.now k.now ≡ Some on
-        → case_of (node_side node.now on) k.now ≢ Foreign }
-    ensures added { (on : Bool) → side at.now k.now ≡ Some on
-        → IsAdded result (after_add (D.functions d.now).digest node.now on k.now v.now) }
-{
-    let on = k.side_below(at);
-    match node.side(on) {
-        None => (after_evict(d, node, at, k, v), v.copy()),
-        Some(pointer) => {
-            if pointer.path.is_same(k) {
-                return (*node, v.copy());
+    match pointer {
+        None => (Some(pointer_to(d, k, v)), v.copy()),
+        Some(old) => {
+            if old.path.is_same(k) {
+                return (Some(*old), v.copy());
             }
-            let split = node.with_side(on, Some(pointer_to(d, k, &initial(k))));
-            (split, Value::Node(taken_over(k, &pointer)))
+            let new = Some(pointer_to(d, k, &initial(k)));
+            (new, Value::Node(taken_over(k, old)))
         }
     }
 }
@@ -99,20 +99,15 @@ fn taken_over(k: &Path, pointer: &Pointer) -> Node
     }
 }
 
-/// The node once the record of a path below it is to be checked later: the flag of its pointer is set.
-pub fn defer(node: &Node, at: &Path, k: &Path) -> Node
-    requires below { IsBelow at.now k.now }
-    ensures node { (on : Bool) → side at.now k.now ≡ Some on → result ≡ after_defer node.now on }
+/// The pointer once the record that it leads to is to be checked later: its flag is set.
+pub fn defer(pointer: &Option<Pointer>) -> Option<Pointer>
+    ensures pointer { result ≡ option_map deferred_pointer pointer.now }
 {
-    let on = k.side_below(at);
-    match node.side(on) {
-        None => *node,
-        Some(pointer) => node.with_side(
-            on,
-            Some(Pointer {
-                deferred: true,
-                ..pointer
-            }),
-        ),
+    match pointer {
+        None => None,
+        Some(pointer) => Some(Pointer {
+            deferred: true,
+            ..*pointer
+        }),
     }
 }

@@ -29,11 +29,9 @@ use Rattle.verifier_cache.specs.declared.entry.Hold.TheVariants.{M, B}
 use Rattle.verifier_cache.specs.Entry.{kid_of, has_kid, new_entry}
 use Rattle.verifier_cache.specs.Cache.{entry_of, without, changed, replaced}
 use Rattle.verifier_cache.proofs.EntriesLaws.{entry_of-path}
-use Rattle.verifier_commands.specs.declared.changes.Parent.{Parent}
-use Rattle.verifier_commands.specs.declared.changes.Family.{Family}
 use Rattle.verifier_commands.specs.declared.state.State.{State}
 use Rattle.verifier_commands.specs.Change.{Change}
-use Rattle.verifier_commands.specs.Changes.{node_of, above_on, above, leads_to, is_deferred, has_digest, leads_below, holds_wrong, is_by_digest, is_by_stamp, set_kid_on, family_of, add_by, add_under, evict_under, defer_under, absent_under}
+use Rattle.verifier_commands.specs.Changes.{Parent, Family, node_of, above_on, above, leads_to, is_deferred, has_digest, leads_below, holds_wrong, is_by_digest, is_by_stamp, set_kid_on, family_of, add_by, add_under, evict_under, defer_under, absent_under}
 use Rattle.verifier_commands.specs.Transition.{Rules, Step, is_root, is_full, transition, add_m, evict_m, add_b, evict_b, evict_bm, get, put, absent}
 use Rattle.verifier_commands.proofs.InvertLaws.{need-ok, and_then-ok, timed-ok}
 use Rattle.verifier_commands.proofs.TickLaws.{ticks_step}

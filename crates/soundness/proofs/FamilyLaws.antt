@@ -20,11 +20,9 @@ use Rattle.merkle_records.specs.declared.cases.AddCase.TheVariants as cases
 use Rattle.merkle_records.specs.Merkle.{Digest, case_of, pointing, Added, added_by, after_add, after_evict, after_defer, taken_over, deferred_pointer, leads_over}
 use Rattle.verifier_cache.specs.declared.entry.Entry.{Entry}
 use Rattle.verifier_cache.specs.Entry.{kid_of, set_kid, has_kid}
-use Rattle.verifier_commands.specs.declared.changes.Parent.{Parent}
-use Rattle.verifier_commands.specs.declared.changes.Family.{Family}
 use Rattle.record_text.specs.Same.{same_value, same_bytes}
 use Rattle.record_text.proofs.SameTestLaws.{same_value-true, same_bytes-true}
-use Rattle.verifier_commands.specs.Changes.{node_of, above_on, above, leads_to, is_deferred, has_digest, leads_below, family_of, add_by, add_under, holds_wrong, left_by, evict_under, is_by_digest, defer_under, unset, absent_under}
+use Rattle.verifier_commands.specs.Changes.{Parent, Family, node_of, above_on, above, leads_to, is_deferred, has_digest, leads_below, family_of, add_by, add_under, holds_wrong, left_by, evict_under, is_by_digest, defer_under, unset, absent_under}
 use Rattle.verifier_commands.proofs.InvertLaws.{need-ok}
 
 -- ---- tests in order, from their outcome back

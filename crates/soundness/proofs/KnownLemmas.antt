@@ -13,10 +13,9 @@ use Rattle.merkle_records.specs.Merkle.{Digest, GivesDigests}
 use Rattle.verifier_cache.specs.declared.entry.Entry.{Entry}
 use Rattle.verifier_cache.specs.declared.entry.Hold.TheVariants.{M}
 use Rattle.verifier_cache.specs.Entry.{kid_of, new_entry}
-use Rattle.verifier_commands.specs.declared.changes.Family.{Family}
 use Rattle.record_text.specs.Same.{same_bytes}
 use Rattle.record_text.proofs.SameTestLaws.{same_bytes-self, same_bytes-true}
-use Rattle.verifier_commands.specs.Changes.{node_of, above_on, leads_to}
+use Rattle.verifier_commands.specs.Changes.{Family, node_of, above_on, leads_to}
 use Rattle.verifier_commands.specs.Outcome.{blob_of}
 use Rattle.verifier_commands.specs.Change.{Change, did_add_m}
 use Rattle.soundness.specs.Clash.{LastEvicted, Strings, is_known, differing, clash_at, clash_of}

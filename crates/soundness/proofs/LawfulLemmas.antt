@@ -24,12 +24,10 @@ use Rattle.verifier_cache.specs.declared.entry.Hold.TheVariants.{Root, M, B}
 use Rattle.verifier_cache.specs.Entry.{kid_of, has_kid, new_entry, with_value}
 use Rattle.verifier_cache.specs.Cache.{entry_of, AreDistinct}
 use Rattle.verifier_cache.proofs.EntriesLaws.{entry_of-path, AreDistinct-without, AreDistinct-append}
-use Rattle.verifier_commands.specs.declared.changes.Parent.{Parent}
-use Rattle.verifier_commands.specs.declared.changes.Family.{Family}
 use Rattle.verifier_commands.specs.declared.state.State.{State}
 use Rattle.verifier_commands.specs.State.{opening, root_entry}
 use Rattle.verifier_commands.specs.Change.{Change}
-use Rattle.verifier_commands.specs.Changes.{above, leads_to, is_deferred, has_digest, holds_wrong, is_by_digest, set_kid_on, add_by, add_under, evict_under, defer_under, absent_under, is_by_stamp}
+use Rattle.verifier_commands.specs.Changes.{Parent, Family, above, leads_to, is_deferred, has_digest, holds_wrong, is_by_digest, set_kid_on, add_by, add_under, evict_under, defer_under, absent_under, is_by_stamp}
 use Rattle.record_text.specs.Same.{same_value}
 use Rattle.verifier_commands.specs.Transition.{Rules, is_root, is_full, transition, add_m, evict_m, add_b, evict_b, evict_bm, get, put, absent, next_epoch}
 use Rattle.soundness.specs.Showing.{HasDone, shown_by, showing, ShowSame}

@@ -6,11 +6,10 @@ use Rattle.record_text.specs.declared.value.Value.{Value}
 use Rattle.merkle_records.specs.Merkle.{Digest}
 use Rattle.verifier_cache.specs.declared.entry.Entry.{Entry}
 use Rattle.verifier_cache.specs.Cache.{AreDistinct}
-use Rattle.verifier_commands.specs.declared.changes.Family.{Family}
 use Rattle.verifier_commands.specs.declared.state.State.{State}
 use Rattle.verifier_commands.specs.declared.slot_state.SlotState.{SlotState}
 use Rattle.verifier_commands.specs.Change.{Change}
-use Rattle.verifier_commands.specs.Changes.{add_under, evict_under, defer_under}
+use Rattle.verifier_commands.specs.Changes.{Family, add_under, evict_under, defer_under}
 use Rattle.verifier_commands.specs.Transition.{Rules, transition}
 use Rattle.verifier_commands.specs.SlotTransition.{slot_transition}
 use Rattle.soundness.specs.Typed.{IsPathTyped, IsSlotTyped}

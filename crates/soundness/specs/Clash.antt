@@ -6,9 +6,8 @@ use Rattle.record_text.specs.declared.value.Value.{Value}
 use Rattle.record_text.specs.Value.{node_side}
 use Rattle.record_text.specs.Texts.{value_text}
 use Rattle.verifier_cache.specs.declared.entry.Entry.{Entry}
-use Rattle.verifier_commands.specs.declared.changes.Parent.{Parent}
 use Rattle.record_text.specs.Same.{same_bytes}
-use Rattle.verifier_commands.specs.Changes.{above, leads_to}
+use Rattle.verifier_commands.specs.Changes.{Parent, above, leads_to}
 use Rattle.verifier_commands.specs.Change.{Change, did_add_m, did_evict_m, did_add_b, did_evict_b, did_evict_bm, did_get, did_put, did_next_epoch}
 
 -- the value that the last evictM of each path took out of a cache, if there was one

@@ -2,7 +2,8 @@
 use crate::rows::{bytes_of, data_value, field, same, same_bytes, stamp};
 use lamport_clocks::Header;
 use log_codec::{
-    Command, Decoded, LONGEST_PATH_COMMAND_TEXT, LogCommand, read_command, write_path_command,
+    Command, Decoded, LONGEST_PATH_COMMAND_TEXT, LogCommand, SlotCommand, read_command,
+    write_path_command, write_slot_command,
 };
 use record_text::{Blob, Node, Pointer, Value};
 use std::process::Abort;
@@ -104,6 +105,11 @@ fn command_at_a_key(rt: &impl Abort, name: &str) -> Command {
             parent: root.child(false),
         },
         "get 5 6162" => Command::Get { path, value },
+        "absent 5 root" => Command::Absent { path, parent: root },
+        "absent 5 0" => Command::Absent {
+            path,
+            parent: root.child(false),
+        },
         _ => panic!(rt; "a command of another name"),
     }
 }
@@ -114,6 +120,8 @@ put 5 6162 | 07 40 0000000000000005 01 02 6162
 evictM 5 root | 02 40 0000000000000005 00 0000000000000000
 addM 5 6162 0 | 01 40 0000000000000005 01 02 6162 01 0000000000000000
 get 5 6162 | 06 40 0000000000000005 01 02 6162
+absent 5 root | 09 40 0000000000000005 00 0000000000000000
+absent 5 0 | 09 40 0000000000000005 01 0000000000000000
 ";
 
 #[test]
@@ -124,6 +132,37 @@ fn commands_of_keys_have_a_tag_and_fields(rt: HostRuntime) {
         let text = bytes_of(&rt, rt.alloc(), text);
         assert_command(&rt, command_at_a_key(&rt, name), text, row);
     }
+}
+
+// By slots an absence keeps its path, and its parent is told by its slot.
+#[test]
+fn an_absence_by_slot_has_its_path(rt: HostRuntime) {
+    let header = Header {
+        version: 2,
+        ..Header::by_path(1, 4, 0, 16_777_215)
+    };
+    let row = "09 40 0000000000000005 0102";
+    let text = bytes_of(&rt, rt.alloc(), row);
+    let command = SlotCommand::Absent {
+        path: Path::of_key(5),
+        parent: 0x0102,
+    };
+    same_bytes(
+        &rt,
+        row,
+        write_slot_command(&command).as_slice(),
+        text.as_slice(),
+    );
+    for cut in 0..text.len() {
+        same(
+            &rt,
+            row,
+            &read_command(&header, &text[..cut]),
+            &Decoded::Truncated,
+        );
+    }
+    let wanted = Decoded::Read(LogCommand::BySlot(command), 12);
+    same(&rt, row, &read_command(&header, &text), &wanted);
 }
 
 // A pointer to the path one bit longer than this one, on a side.
@@ -172,7 +211,7 @@ fn the_longest_has_104_bytes(rt: HostRuntime) {
 // pointer leads elsewhere.
 const MALFORMED: &str = "
 00
-09
+0a
 ff
 01 41 0000000000000000
 02 01 0000000000000000 01 4000000000000000
@@ -181,6 +220,8 @@ ff
 05 01 4000000000000000
 06 40 0000000000000005 02
 07 40 0000000000000005 01 41
+09 41 0000000000000000
+09 40 0000000000000005 01 4000000000000000
 ";
 
 #[test]

@@ -59,11 +59,15 @@ bytes 07
 -> 8
 refused v0 command 1 Truncated
 == no command
-bytes 09
+bytes 0a
 -> 8
 refused v0 command 0 Malformed
-== a refusal goes before a bad frame
+== an absence that is cut
 bytes 09
+-> 8
+refused v0 command 0 Truncated
+== a refusal goes before a bad frame
+bytes 0a
 raw 000000000000
 -> 8
 refused v0 command 0 Malformed
@@ -89,7 +93,7 @@ done 1
 
 #[test]
 fn whole_bundles_have_their_reports(rt: HostRuntime) {
-    assert_cases(&rt, rt.alloc(), WHOLE_BUNDLES, 9);
+    assert_cases(&rt, rt.alloc(), WHOLE_BUNDLES, 10);
 }
 
 // Bundles of two verifiers.
@@ -145,14 +149,14 @@ verifiers 2
 next
 next
 log 1
-bytes 09
+bytes 0a
 -> 8
 refused v1 command 0 Malformed
 == the lowest refused log is named
 verifiers 2
-bytes 09
+bytes 0a
 log 1
-bytes 09
+bytes 0a
 -> 8
 refused v0 command 0 Malformed
 == two verifiers with empty logs
@@ -164,6 +168,57 @@ done 0
 #[test]
 fn many_verifiers_have_one_report(rt: HostRuntime) {
     assert_cases(&rt, rt.alloc(), MANY_VERIFIERS, 6);
+}
+
+// Keys without a record: an absence is a get that answers none.
+const ABSENT_KEYS: &str = "\
+== a key that no verifier ever had
+absent 5 root
+next
+next
+-> 0
+epoch 0 certified 1
+0.0 v0 get 5 none
+done 1
+== a key that is there
+addM 5 none root
+absent 5 root
+-> 8
+refused v0 command 1 Present
+== a key beside one that is there
+addM 5 none root
+absent 7 root
+next
+next
+-> 0
+epoch 0 certified 1
+0.0 v0 get 7 none
+done 1
+== a key that was put
+absent 5 root
+addM 5 none root
+put 5 6162
+absent 5 root
+-> 8
+refused v0 command 3 Present
+== a key that waits with its stamp
+addM 5 none root
+evictBM 5 root 0.1
+absent 5 root
+-> 8
+refused v0 command 2 Present
+== under a parent that verifier 0 alone has
+verifiers 2
+absent 5 root
+log 1
+absent 5 root
+-> 8
+refused v1 command 0 ParentNotCached
+";
+
+#[test]
+fn absent_keys_are_gets_that_answer_none(rt: HostRuntime) {
+    assert_cases(&rt, rt.alloc(), ABSENT_KEYS, 6);
 }
 
 // Refusals beside those of the lying logs.

@@ -1,6 +1,6 @@
 -- Looking up, taking out and replacing entries, by path and by index.
 use Rattle.std.proofs.Common.{◌≡◌, ℕ, zero, suc, ◌+◌, Bool, true, false, List, [], ◌∷◌, ◌++◌, length, get_or, set, Option, Some, None, IsSome, IsNone, if◌then◌else◌, refl, sym, ◌∙◌, ap, subst, arith}
-use Rattle.std.specs.Option.{option_or, option_map}
+use Rattle.std.specs.Option.{option_or, option_map, IfSome}
 use Rattle.std.proofs.lemmas.Option.{none-some, same_Some}
 use Rattle.std.specs.List.{remove}
 use Rattle.std.proofs.lemmas.Bool.{false≢true}
@@ -113,6 +113,14 @@ changed-same k f g (x ∷ xs) e found same = go (λ is. changed-same k f g xs e 
 -- a change and a replacement are one where the entry is known
 pub changed-replaced : (k : List Bool) (f : Entry → Entry) (xs : List Entry) (e : Entry) → entry_of k xs ≡ Some e → (f e).path ≡ k → changed k f xs ≡ replaced (f e) xs
 changed-replaced k f xs e found keeps = changed-same k f (λ old. f e) xs e found refl ∙ sym (ap (λ (p : List Bool). changed p (λ old. f e) xs) keeps)
+
+-- a change of a path's entry that keeps its path puts another in its place
+pub changed-there : (k : List Bool) (f : Entry → Entry) (xs ys : List Entry) → KeepsPath k f → ys ≡ changed k f xs → IfSome (entry_of k xs) (λ e. ys ≡ replaced (f e) xs)
+changed-there k f xs ys keeps is = go (entry_of k xs) refl
+  where
+    go : (o : Option Entry) → entry_of k xs ≡ o → IfSome o (λ e. ys ≡ replaced (f e) xs)
+    go None found = tt
+    go (Some e) found = is ∙ changed-replaced k f xs e found (keeps e (entry_of-path k xs e found))
 
 -- As many entries as before.
 pub length-changed : (k : List Bool) (f : Entry → Entry) (xs : List Entry) → length (changed k f xs) ≡ length xs

@@ -1,7 +1,10 @@
 -- An entry of a cache: a record that stands in it, how it came in, and which of its children stand in it too.
-use Rattle.std.specs.Prelude.{Bool, true, false, ◌||◌, List, [], ◌∷◌, slice_index_or, if◌then◌else◌}
+use Rattle.std.specs.Prelude.{Bool, true, false, ◌||◌, List, [], ◌∷◌, slice_index_or, Option, if◌then◌else◌}
 use Rattle.tree_keys.specs.Path.{same_bit}
+use Rattle.record_text.specs.declared.value.Pointer.{Pointer}
 use Rattle.record_text.specs.declared.value.Value.{Value}
+use Rattle.record_text.specs.declared.value.Value.TheVariants as values
+use Rattle.record_text.specs.Value.{with_side}
 use Rattle.verifier_cache.specs.declared.entry.Entry.{Entry}
 use Rattle.verifier_cache.specs.declared.entry.Hold.{Hold}
 
@@ -25,6 +28,15 @@ has_kid entry = kid_of entry false || kid_of entry true
 -- the entry with another value
 abbrev pub with_value : Entry → Value → Entry
 with_value entry value = record entry { value = value }
+
+-- the value with another pointer on a side, if it is a node
+abbrev pub with_pointer : Value → Bool → Option Pointer → Value
+with_pointer (values.Blob blob) side pointer = values.Blob blob
+with_pointer (values.Node node) side pointer = values.Node (with_side node side pointer)
+
+-- the entry with another pointer on a side, and with the kid bit of that side set or cleared
+abbrev pub linked : Entry → Bool → Option Pointer → Bool → Entry
+linked entry side pointer kid = set_kid (with_value entry (with_pointer entry.value side pointer)) side kid
 
 -- a record that comes in, with no child under it
 abbrev pub new_entry : List Bool → Value → Hold → Entry

@@ -3,14 +3,14 @@ ghost use Rattle.std.specs.Prelude.{◌≡◌, ◌+◌, ◌-◌, ◌*◌, ◌^�
 ghost use Rattle.std.specs.Option.{option_map, option_copied};
 ghost use Rattle.std.specs.Borrow.{sem};
 ghost use Rattle.verifier_cache.specs.LendsValue.{LendsValue};
-ghost use Rattle.verifier_cache.specs.Entry.{kid_of, set_kid, new_entry};
+ghost use Rattle.verifier_cache.specs.Entry.{kid_of, set_kid, linked, new_entry};
 ghost use Rattle.verifier_cache.specs.Cache.{Held, IsHeld, entry_of, without, changed, replaced};
 
 use crate::entry::{Entry, Hold};
 use crate::table::Table;
 use base_words::Memory;
 use path_index::{Hint, Steps};
-use record_text::Value;
+use record_text::{Pointer, Value};
 use std::alloc::Global;
 use std::marker::{Brand, Model};
 use std::sync::ledger::{Blank, Ledger};
@@ -178,6 +178,15 @@ impl Cache {
         self.table.remove(k, hint, self.room)
     }
 
+    /// Takes the entry of a path out by a hint.
+    pub fn leave_near(&mut self, k: &Path, hint: Hint)
+        requires there { IsSome (entry_of k.now self.old.entries) }
+        ensures entries { self.new.entries ≡ without k.now self.old.entries }
+        ensures room { self.new.room ≡ self.old.room }
+    {
+        self.table.leave(k, hint, self.room);
+    }
+
     /// Puts an entry in the place of the one of its path.
     pub fn replace(&mut self, entry: Entry)
         requires there { IsSome (entry_of entry.path self.old.entries) }
@@ -237,5 +246,26 @@ impl Cache {
         let hint = self.table.hint(k);
         let at = self.table.at(k, hint);
         self.table.stored[at].entry.set_kid(side, on);
+    }
+
+    /// Writes the pointer of a side of a path's node, and sets or clears the kid bit of that side, by a hint.
+    pub fn link_near(
+        &mut self,
+        k: &Path,
+        hint: Hint,
+        side: bool,
+        pointer: Option<Pointer>,
+        kid: bool,
+    )
+        requires there { IsSome (entry_of k.now self.old.entries) }
+        ensures entries { IfSome (entry_of k.now self.old.entries)
+            (λ entry. self.new.entries ≡ replaced (linked entry side pointer kid) self.old.entries) }
+        ensures room { self.new.room ≡ self.old.room }
+        ensures len { length self.new.entries ≡ length self.old.entries }
+        ensures absent { (j : List Bool) → IsNone (entry_of j self.old.entries)
+            → IsNone (entry_of j self.new.entries) }
+    {
+        let at = self.table.at(k, hint);
+        self.table.stored[at].entry.link(side, pointer, kid);
     }
 }

@@ -1,8 +1,9 @@
 //! What a cache keeps of a record.
 ghost use Rattle.std.specs.Prelude.{◌≡◌};
-ghost use Rattle.verifier_cache.specs.Entry.{kid_of, set_kid, has_kid, new_entry};
+ghost use Rattle.record_text.specs.Value.{with_side};
+ghost use Rattle.verifier_cache.specs.Entry.{kid_of, set_kid, has_kid, linked, new_entry};
 
-use record_text::Value;
+use record_text::{Node, Pointer, Value};
 use tree_keys::Path;
 
 /// How a record came into the cache.
@@ -64,5 +65,26 @@ impl Entry {
             [on, self.kid(true)]
         };
         self.kids = kids;
+    }
+
+    /// Writes the pointer of a side, if the value is a node, and sets or clears the kid bit of that side.
+    pub fn link(&mut self, side: bool, pointer: Option<Pointer>, kid: bool)
+        ensures value { self.new ≡ linked self.old side pointer kid }
+    {
+        if let Value::Node(node) = &mut self.value {
+            point(node, side, pointer);
+        }
+        self.set_kid(side, kid);
+    }
+}
+
+// Writes the pointer of a side.
+fn point(node: &mut Node, side: bool, pointer: Option<Pointer>)
+    ensures value { node.new ≡ with_side node.old side pointer }
+{
+    if side {
+        node.side1 = pointer;
+    } else {
+        node.side0 = pointer;
     }
 }

@@ -1,10 +1,12 @@
 //! The cache of a verifier whose commands name slots.
-ghost use Rattle.std.specs.Prelude.{◌≡◌, Some, None, IsSome, IsNone, IsTrue, IfOk};
+ghost use Rattle.std.specs.Prelude.{◌≡◌, Some, None, IsSome, IsNone, IsTrue, IfSome, IfOk};
 ghost use Rattle.std.specs.Option.{option_copied};
+ghost use Rattle.verifier_cache.specs.Entry.{with_value, linked};
 ghost use Rattle.verifier_cache.specs.Slots.{is_slot, entry_at, with_slot, empty_slots};
 
 use crate::entry::Entry;
 use base_words::Memory;
+use record_text::{Pointer, Value};
 use std::alloc::Global;
 use std::marker::Model;
 
@@ -15,6 +17,7 @@ pub struct SlotCache {
 }
 
 impl Model for SlotCache {
+    ghost use Rattle.verifier_cache.specs.Entry.{with_value, linked};
     ghost use Rattle.verifier_cache.specs.Slots.{Slots};
 
     ghost Value = { Slots };
@@ -61,12 +64,34 @@ impl SlotCache {
         self.slots[place] = Some(entry);
     }
 
-    /// Puts an entry in the place of the one in a slot.
-    pub fn replace_at(&mut self, slot: u16, entry: Entry)
+    /// Writes the pointer of a side of a slot's node, and sets or clears the kid bit of that side.
+    pub fn link_at(&mut self, slot: u16, side: bool, pointer: Option<Pointer>, kid: bool)
         requires there { IsSome (entry_at self.old slot) }
-        ensures slots { self.new ≡ with_slot self.old slot (Some entry) }
+        ensures slots { IfSome (entry_at self.old slot)
+            (λ entry. self.new ≡ with_slot self.old slot (Some (linked entry side pointer kid))) }
     {
-        self.slots[usize::from(slot)] = Some(entry);
+        if let Some(entry) = &mut self.slots[usize::from(slot)] {
+            entry.link(side, pointer, kid);
+        }
+    }
+
+    /// Writes the value of the entry in a slot.
+    pub fn write_at(&mut self, slot: u16, value: Value)
+        requires there { IsSome (entry_at self.old slot) }
+        ensures slots { IfSome (entry_at self.old slot)
+            (λ entry. self.new ≡ with_slot self.old slot (Some (with_value entry value))) }
+    {
+        if let Some(entry) = &mut self.slots[usize::from(slot)] {
+            entry.value = value;
+        }
+    }
+
+    /// Empties a slot.
+    pub fn leave_at(&mut self, slot: u16)
+        requires there { IsSome (entry_at self.old slot) }
+        ensures slots { self.new ≡ with_slot self.old slot None }
+    {
+        self.slots[usize::from(slot)] = None;
     }
 
     /// Takes the entry out of a slot, which is empty then.

@@ -177,13 +177,24 @@ impl Table {
         ensures value { IfSome (entry_of k.now (standing self.old.stored.items)) (λ entry. result ≡ entry.value) }
         ensures entries { standing self.new.stored.items ≡ without k.now (standing self.old.stored.items) }
     {
+        let value = self.entry_near(k, hint).unwrap().value.copy();
+        self.leave(k, hint, room);
+        value
+    }
+
+    /// Takes the entry of a path out.
+    pub(crate) fn leave(&mut self, k: &Path, hint: Hint, room: u32)
+        requires table { IsTable self.old }
+        requires fits { HasRoom room self.old }
+        requires there { IsSome (entry_of k.now (standing self.old.stored.items)) }
+        ensures table { IsTable self.new }
+        ensures fits { HasRoom room self.new }
+        ensures entries { standing self.new.stored.items ≡ without k.now (standing self.old.stored.items) }
+    {
         let rank = search_near(&self.index, k, hint).unwrap();
         let at = self.index.mark(rank).at;
         self.index.remove(rank);
-        let left = &mut self.stored[at];
-        let value = left.entry.value.copy();
-        left.live = false;
-        value
+        self.stored[at].live = false;
     }
 }
 

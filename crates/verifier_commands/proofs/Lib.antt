@@ -2,6 +2,7 @@
 mod KeyLemmas
 pub mod BelowLaws
 mod CacheLemmas
+mod LinkLemmas
 mod SlotLemmas
 mod EitherLemmas
 pub mod BoundLaws

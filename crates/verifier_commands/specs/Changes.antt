@@ -17,10 +17,19 @@ use Rattle.merkle_records.specs.Merkle.{Digest, case_of, Added, after_add, after
 use Rattle.verifier_cache.specs.declared.entry.Entry.{Entry}
 use Rattle.verifier_cache.specs.declared.entry.Hold.{Hold}
 use Rattle.verifier_cache.specs.declared.entry.Hold.TheVariants.{Root, M, B}
-use Rattle.verifier_cache.specs.Entry.{kid_of, set_kid, has_kid, new_entry}
-use Rattle.verifier_commands.specs.declared.changes.Parent.{Parent}
-use Rattle.verifier_commands.specs.declared.changes.Family.{Family}
+use Rattle.verifier_cache.specs.Entry.{kid_of, set_kid, has_kid, linked, new_entry}
+use Rattle.verifier_commands.specs.declared.changes.Join.{Join}
 use Rattle.record_text.specs.Same.{same_bytes, same_value}
+
+-- an entry as the parent of a path: the side on which that lies properly below it, and the entry's node
+pub record Parent : Type 0 where
+  pub on : Bool
+  pub node : Node
+
+-- the parent and the child after an add
+pub record Family : Type 0 where
+  pub parent : Entry
+  pub child : Entry
 
 -- the node that a value is, if it is one
 abbrev pub node_of : Value → Option Node
@@ -73,6 +82,10 @@ family_of parent above added path taken_over = record {
   parent = set_kid (with_node parent added.node) above.on true;
   child = set_kid_on (new_entry path added.value M) taken_over (kid_of parent above.on);
 }
+
+-- the same family, by what the parent gets and the child
+abbrev pub family_by : Entry → Join → Family
+family_by parent join = record { parent = linked parent join.link.on join.link.pointer true; child = join.child }
 
 -- the path has not been added before: the pointer leads nowhere or below it
 abbrev pub IsFirst : AddCase → Type 0

@@ -1,42 +1,47 @@
-//! What the commands that go by digests do to a parent and a child.
-ghost use Rattle.std.specs.Prelude.{◌≡◌, true, Some, Ok, Err, IfSome, IsSome, IfOk, IfErr, OnOk, ◌≢◌};
+//! What the commands that go by digests do to a parent and a child: the tests, and what is then written where they stand.
+ghost use Rattle.std.specs.Prelude.{◌≡◌, true, false, Some, None, Ok, Err, IfSome, IsNone, IfOk, IfErr, OnOk, ◌≢◌};
 ghost use Rattle.tree_keys.specs.Path.{side};
+ghost use Rattle.record_text.specs.declared.value.Value.TheVariants as values;
 ghost use Rattle.record_text.specs.Value.{node_side};
-ghost use Rattle.verifier_commands.specs.Changes.{above, add_by, add_under, evict_under, defer_under, absent_under, unset, leads_to, is_deferred, has_digest, leads_below, holds_wrong, left_by, with_node, is_by_digest, IsFirst};
-ghost use Rattle.verifier_cache.specs.Entry.{set_kid};
+ghost use Rattle.verifier_commands.specs.Changes.{above, add_by, add_under, evict_under, defer_under, absent_under, unset, leads_to, is_deferred, has_digest, leads_below, holds_wrong, family_by, is_by_digest, IsFirst};
+ghost use Rattle.verifier_cache.specs.Entry.{linked};
 ghost use Rattle.merkle_records.specs.declared.cases.AddCase.TheVariants.{Same};
-ghost use Rattle.merkle_records.specs.Merkle.{case_of, after_add};
+ghost use Rattle.merkle_records.specs.Merkle.{case_of};
 
 use crate::state::{is_same_bytes, is_same_value};
-use merkle_records::{AddCase, add_case, after_add, after_evict, defer, digest_of, leads_over};
+use merkle_records::{
+    AddCase, add_case, after_add, defer, digest_of, leads_over, pointer_to, side_of,
+};
 use record_hash::Digests;
 use record_text::{Node, Pointer, Refusal, Value, initial};
 use tree_keys::Path;
 use verifier_cache::{Entry, Hold};
 
-/// The parent and the child after an add.
+/// What a parent gets when a record comes in under it or leaves it: another pointer on this side.
+#[derive(Clone, Copy)]
+pub struct Link {
+    pub on: bool,
+    pub pointer: Option<Pointer>,
+}
+
+/// What an add makes: what the parent gets, and the child.
 #[derive(Drop)]
-pub struct Family {
-    pub parent: Entry,
+pub struct Join {
+    pub link: Link,
     pub child: Entry,
 }
 
-/// An entry as the parent of a path: the side on which that lies properly below it, and the entry's node.
-#[derive(Clone, Copy)]
-pub struct Parent {
-    pub on: bool,
-    pub node: Node,
-}
-
 #[tactic(auto, using(crate::proofs::BelowLaws::below_view))]
-// The entry as a parent of the path, if that lies properly below it.
-fn above(parent: &Entry, path: &Path) -> Option<Parent>
-    ensures value { result ≡ above parent.now path.now }
-    ensures on { IfSome result (λ above. side parent.now.path path.now ≡ Some above.on) }
-    ensures apart { IsSome result → path.now ≢ parent.now.path }
+// The entry as a parent of the path, if that lies properly below it: on which side, and the entry's node.
+fn above<'a>(parent: &'a Entry, path: &Path) -> Option<(bool, &'a Node)>
+    ensures found { IfSome result (λ found. above parent.now path.now ≡ Some (record { on = found.0; node = found.1.now })) }
+    ensures none { IsNone result → above parent.now path.now ≡ None }
+    ensures node { IfSome result (λ found. parent.now.value ≡ values.Node found.1.now) }
+    ensures on { IfSome result (λ found. side parent.now.path path.now ≡ Some found.0) }
+    ensures apart { IfSome result (λ found. path.now ≢ parent.now.path) }
 {
     match (parent.path.side(path), &parent.value) {
-        (Some(on), Value::Node(node)) => Some(Parent { on, node: *node }),
+        (Some(on), Value::Node(node)) => Some((on, node)),
         _ => None,
     }
 }
@@ -73,62 +78,36 @@ fn has_digest(pointer: &Option<Pointer>, digest: &[u8; 32]) -> bool
 
 // An add under a parent whose pointer leads nowhere or below the path, which is its first: it must come
 // with its initial value.
+#[tactic(auto, using(crate::proofs::LinkLemmas::join_view))]
 fn add_first<D: Digests>(
     d: &D,
     parent: &Entry,
-    above: &Parent,
+    on: bool,
+    node: &Node,
     path: &Path,
     value: &Value,
-) -> Result<Family, Refusal>
-    requires on { side parent.now.path path.now ≡ Some above.now.on }
-    requires first { IsFirst (case_of (node_side above.now.node above.now.on) path.now) }
-    ensures value { result ≡ add_by (D.functions d.now).digest parent.now above.now path.now value.now
-        (case_of (node_side above.now.node above.now.on) path.now) }
-    ensures parent { IfOk result (λ family. family.parent.path ≡ parent.now.path) }
-    ensures child { IfOk result (λ family. family.child.path ≡ path.now) }
+) -> Result<Join, Refusal>
+    requires node { parent.now.value ≡ values.Node node.now }
+    requires first { IsFirst (case_of (node_side node.now on) path.now) }
+    ensures added { IfOk result (λ join. add_by (D.functions d.now).digest parent.now (record { on = on; node = node.now }) path.now value.now
+        (case_of (node_side node.now on) path.now) ≡ Ok (family_by parent.now join)) }
+    ensures refused { IfErr result (λ refusal. add_by (D.functions d.now).digest parent.now (record { on = on; node = node.now }) path.now value.now
+        (case_of (node_side node.now on) path.now) ≡ Err refusal) }
+    ensures child { IfOk result (λ join. join.child.path ≡ path.now) }
 {
     if !is_same_value(value, &initial(path)) {
         return Err(Refusal::NotInitial);
     }
-    let (node, value) = after_add(d, &above.node, &parent.path, path, value);
+    let old = side_of(node, on);
+    let (pointer, value) = after_add(d, old, path, value);
     let mut child = Entry::new(*path, value, Hold::M);
-    if let Some(below) = leads_below(path, &above.node.side(above.on)) {
-        child.set_kid(below, parent.kid(above.on));
+    if let Some(below) = leads_below(path, old) {
+        child.set_kid(below, parent.kid(on));
     }
-    Ok(Family {
-        parent: joined(parent, above, node),
+    Ok(Join {
+        link: Link { on, pointer },
         child,
     })
-}
-
-// The parent with another node and its kid bit set.
-fn joined(parent: &Entry, above: &Parent, node: Node) -> Entry
-    ensures value { result ≡ set_kid (with_node parent.now node) above.now.on true }
-{
-    let mut after = with_node(parent, node);
-    after.set_kid(above.on, true);
-    after
-}
-
-// The parent with another node and its kid bit cleared.
-fn left(parent: &Entry, above: &Parent, node: Node) -> Entry
-    ensures value { result ≡ left_by parent.now above.now node }
-{
-    let mut after = with_node(parent, node);
-    after.set_kid(above.on, false);
-    after
-}
-
-// The entry with another node.
-fn with_node(entry: &Entry, node: Node) -> Entry
-    ensures value { result ≡ with_node entry.now node }
-{
-    Entry {
-        path: entry.path,
-        value: Value::Node(node),
-        hold: entry.hold,
-        kids: entry.kids,
-    }
 }
 
 // The side of the path on which the pointer leads below it.
@@ -142,34 +121,37 @@ fn leads_below(path: &Path, pointer: &Option<Pointer>) -> Option<bool>
 }
 
 // An add under a parent whose pointer is to the path: the value must have the digest that it keeps.
+#[tactic(auto, using(crate::proofs::LinkLemmas::join_view))]
 fn add_again<D: Digests>(
     d: &D,
     parent: &Entry,
-    above: &Parent,
+    on: bool,
+    node: &Node,
     path: &Path,
     value: &Value,
-) -> Result<Family, Refusal>
-    requires on { side parent.now.path path.now ≡ Some above.now.on }
-    requires same { case_of (node_side above.now.node above.now.on) path.now ≡ Same }
-    ensures value { result ≡ add_by (D.functions d.now).digest parent.now above.now path.now value.now Same }
-    ensures parent { IfOk result (λ family. family.parent.path ≡ parent.now.path) }
-    ensures child { IfOk result (λ family. family.child.path ≡ path.now) }
+) -> Result<Join, Refusal>
+    requires node { parent.now.value ≡ values.Node node.now }
+    requires same { case_of (node_side node.now on) path.now ≡ Same }
+    ensures added { IfOk result (λ join. add_by (D.functions d.now).digest parent.now (record { on = on; node = node.now }) path.now value.now Same
+        ≡ Ok (family_by parent.now join)) }
+    ensures refused { IfErr result (λ refusal. add_by (D.functions d.now).digest parent.now (record { on = on; node = node.now }) path.now value.now Same
+        ≡ Err refusal) }
+    ensures child { IfOk result (λ join. join.child.path ≡ path.now) }
 {
-    let pointer = above.node.side(above.on);
-    if is_deferred(&pointer) {
+    let pointer = side_of(node, on);
+    if is_deferred(pointer) {
         return Err(Refusal::Deferred);
     }
-    if !has_digest(&pointer, &digest_of(d, value)) {
+    if !has_digest(pointer, &digest_of(d, value)) {
         return Err(Refusal::WrongDigest);
     }
-    if parent.kid(above.on) {
+    if parent.kid(on) {
         return Err(Refusal::HasChild);
     }
-    let (node, value) = after_add(d, &above.node, &parent.path, path, value);
-    let child = Entry::new(*path, value, Hold::M);
-    Ok(Family {
-        parent: joined(parent, above, node),
-        child,
+    let (pointer, value) = after_add(d, pointer, path, value);
+    Ok(Join {
+        link: Link { on, pointer },
+        child: Entry::new(*path, value, Hold::M),
     })
 }
 
@@ -179,18 +161,18 @@ pub(crate) fn add_under<D: Digests>(
     parent: &Entry,
     path: &Path,
     value: &Value,
-) -> Result<Family, Refusal>
-    ensures value { result ≡ add_under (D.functions d.now).digest parent.now path.now value.now }
-    ensures parent { IfOk result (λ family. family.parent.path ≡ parent.now.path) }
-    ensures child { IfOk result (λ family. family.child.path ≡ path.now) }
+) -> Result<Join, Refusal>
+    ensures added { IfOk result (λ join. add_under (D.functions d.now).digest parent.now path.now value.now ≡ Ok (family_by parent.now join)) }
+    ensures refused { IfErr result (λ refusal. add_under (D.functions d.now).digest parent.now path.now value.now ≡ Err refusal) }
+    ensures child { IfOk result (λ join. join.child.path ≡ path.now) }
 {
-    let Some(above) = above(parent, path) else {
+    let Some((on, node)) = above(parent, path) else {
         return Err(Refusal::NotBelow);
     };
-    match add_case(&above.node, &parent.path, path) {
+    match add_case(side_of(node, on), path) {
         AddCase::Foreign => Err(Refusal::Foreign),
-        AddCase::Same => add_again(d, parent, &above, path, value),
-        _ => add_first(d, parent, &above, path, value),
+        AddCase::Same => add_again(d, parent, on, node, path, value),
+        _ => add_first(d, parent, on, node, path, value),
     }
 }
 
@@ -205,31 +187,33 @@ fn holds_wrong(hold: Hold, kid: bool, deferred: bool) -> bool
     }
 }
 
-// An evict into a parent: the parent after it.
+// An evict into a parent: what the parent gets.
+#[tactic(auto, using(crate::proofs::LinkLemmas::link_view))]
 pub(crate) fn evict_under<D: Digests>(
     d: &D,
     parent: &Entry,
     leaving: &Entry,
-) -> Result<Entry, Refusal>
-    ensures value { result ≡ evict_under (D.functions d.now).digest parent.now leaving.now }
-    ensures parent { IfOk result (λ after. after.path ≡ parent.now.path) }
-    ensures apart { IfOk result (λ after. leaving.now.path ≢ after.path) }
+) -> Result<Link, Refusal>
+    ensures evicted { IfOk result (λ link. evict_under (D.functions d.now).digest parent.now leaving.now
+        ≡ Ok (linked parent.now link.on link.pointer false)) }
+    ensures refused { IfErr result (λ refusal. evict_under (D.functions d.now).digest parent.now leaving.now ≡ Err refusal) }
+    ensures apart { IfOk result (λ link. leaving.now.path ≢ parent.now.path) }
 {
-    let Some(above) = above(parent, &leaving.path) else {
+    let Some((on, node)) = above(parent, &leaving.path) else {
         return Err(Refusal::NotBelow);
     };
-    let pointer = above.node.side(above.on);
-    if !leads_to(&pointer, &leaving.path) {
+    let pointer = side_of(node, on);
+    if !leads_to(pointer, &leaving.path) {
         return Err(Refusal::NotChild);
     }
     if leaving.has_kid() {
         return Err(Refusal::HasChild);
     }
-    if holds_wrong(leaving.hold, parent.kid(above.on), is_deferred(&pointer)) {
+    if holds_wrong(leaving.hold, parent.kid(on), is_deferred(pointer)) {
         return Err(Refusal::WrongHold);
     }
-    let node = after_evict(d, &above.node, &parent.path, &leaving.path, &leaving.value);
-    Ok(left(parent, &above, node))
+    let pointer = Some(pointer_to(d, &leaving.path, &leaving.value));
+    Ok(Link { on, pointer })
 }
 
 // Whether a record came in by its digest.
@@ -242,16 +226,18 @@ fn is_by_digest(hold: Hold) -> bool
     }
 }
 
-// A deferred evict out of a parent: the parent after it.
-pub(crate) fn defer_under(parent: &Entry, child: &Entry) -> Result<Entry, Refusal>
-    ensures value { result ≡ defer_under parent.now child.now }
-    ensures parent { IfOk result (λ after. after.path ≡ parent.now.path) }
-    ensures apart { IfOk result (λ after. child.now.path ≢ after.path) }
+// A deferred evict out of a parent: what the parent gets.
+#[tactic(auto, using(crate::proofs::LinkLemmas::link_view))]
+pub(crate) fn defer_under(parent: &Entry, child: &Entry) -> Result<Link, Refusal>
+    ensures deferred { IfOk result (λ link. defer_under parent.now child.now ≡ Ok (linked parent.now link.on link.pointer false)) }
+    ensures refused { IfErr result (λ refusal. defer_under parent.now child.now ≡ Err refusal) }
+    ensures apart { IfOk result (λ link. child.now.path ≢ parent.now.path) }
 {
-    let Some(above) = above(parent, &child.path) else {
+    let Some((on, node)) = above(parent, &child.path) else {
         return Err(Refusal::NotBelow);
     };
-    if !leads_to(&above.node.side(above.on), &child.path) {
+    let pointer = side_of(node, on);
+    if !leads_to(pointer, &child.path) {
         return Err(Refusal::NotChild);
     }
     if child.has_kid() {
@@ -260,11 +246,13 @@ pub(crate) fn defer_under(parent: &Entry, child: &Entry) -> Result<Entry, Refusa
     if !is_by_digest(child.hold) {
         return Err(Refusal::WrongHold);
     }
-    if !parent.kid(above.on) {
+    if !parent.kid(on) {
         return Err(Refusal::WrongHold);
     }
-    let node = defer(&above.node, &parent.path, &child.path);
-    Ok(left(parent, &above, node))
+    Ok(Link {
+        on,
+        pointer: defer(pointer),
+    })
 }
 
 // Whether a path has no record, by a parent whose pointer doesn't lead to it.
@@ -272,10 +260,10 @@ pub(crate) fn absent_under(parent: &Entry, path: &Path) -> Result<(), Refusal>
     ensures absent { OnOk result (absent_under parent.now path.now ≡ Ok (unset path.now)) }
     ensures refused { IfErr result (λ refusal. absent_under parent.now path.now ≡ Err refusal) }
 {
-    let Some(above) = above(parent, path) else {
+    let Some((on, node)) = above(parent, path) else {
         return Err(Refusal::NotBelow);
     };
-    if leads_over(&above.node.side(above.on), path) {
+    if leads_over(side_of(node, on), path) {
         return Err(Refusal::Present);
     }
     Ok(())

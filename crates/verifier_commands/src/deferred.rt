@@ -1,19 +1,19 @@
 //! The commands that come and go with a stamp: their records are checked by the sums of an epoch.
-ghost use Rattle.std.specs.Prelude.{◌≡◌, ◌≢◌, IsSome, IfSome, IfOk};
+ghost use Rattle.std.specs.Prelude.{◌≡◌, IfOk};
 ghost use Rattle.base_words.specs.Follows.{Follows};
 ghost use Rattle.verifier_commands.specs.Transition.{add_b, evict_b, evict_bm};
-ghost use Rattle.verifier_cache.specs.Cache.{entry_of, without, replaced};
 ghost use Rattle.verifier_commands.specs.Changes.{is_by_stamp};
 ghost use Rattle.verifier_commands.specs.Outcome.{told};
 ghost use Rattle.verifier_commands.specs.Machine.{ClockMoves};
 
 use crate::changes::defer_under;
+use crate::merkle::leave;
 use crate::outcome::Outcome;
 use crate::state::{State, clock_refusal, is_root};
 use lamport_clocks::Stamp;
 use record_text::{Element, Refusal, Value};
 use tree_keys::Path;
-use verifier_cache::{Cache, Entry, Hint, Hold};
+use verifier_cache::{Entry, Hold};
 
 impl State {
     /// Takes back a record that some verifier evicted with this stamp.
@@ -111,11 +111,12 @@ impl State {
         let Some(holder) = self.cache.entry_near(parent, holders) else {
             return Err(Refusal::ParentNotCached);
         };
-        let after = defer_under(holder, child)?;
+        let link = defer_under(holder, child)?;
         if let Err(fault) = self.clock.on_evict(stamp) {
             return Err(clock_refusal(fault));
         }
-        let value = take_out(&mut self.cache, path, own, after, holders);
+        let value = child.value.copy();
+        leave(&mut self.cache, path, own, parent, holders, &link);
         Ok(Outcome::EvictBM(Element {
             path: *path,
             value,
@@ -133,17 +134,4 @@ pub(crate) fn is_by_stamp(hold: Hold) -> bool
         Hold::B => true,
         _ => false,
     }
-}
-
-// Puts a parent in the place of its entry, and takes the record of another path out.
-#[tactic(auto, using(crate::proofs::CacheLemmas::replaced_view))]
-fn take_out(cache: &mut Cache, path: &Path, own: Hint, parent: Entry, holders: Hint) -> Value
-    requires parent { IsSome (entry_of parent.path cache.old.entries) }
-    requires child { IsSome (entry_of path.now cache.old.entries) }
-    requires apart { path.now ≢ parent.path }
-    ensures value { IfSome (entry_of path.now cache.old.entries) (λ child. result ≡ child.value) }
-    ensures cache { cache.new ≡ record cache.old { entries = without path.now (replaced parent cache.old.entries) } }
-{
-    cache.replace_near(parent, holders);
-    cache.remove_near(path, own)
 }

@@ -1,16 +1,19 @@
 //! The Merkle commands, which come and go by digests: the records that the sparse Merkle tree protects.
-ghost use Rattle.std.specs.Prelude.{IfOk};
+ghost use Rattle.std.specs.Prelude.{◌≡◌, ◌≢◌, false, IsSome, IfSome, IfOk};
 ghost use Rattle.base_words.specs.Follows.{Follows};
+ghost use Rattle.verifier_cache.specs.Entry.{linked};
+ghost use Rattle.verifier_cache.specs.Cache.{entry_of, without, replaced};
 ghost use Rattle.verifier_commands.specs.Transition.{add_m, evict_m};
 ghost use Rattle.verifier_commands.specs.Outcome.{told};
 ghost use Rattle.verifier_commands.specs.Machine.{ClockMoves};
 
-use crate::changes::{add_under, evict_under};
+use crate::changes::{Join, Link, add_under, evict_under};
 use crate::outcome::Outcome;
 use crate::state::{State, is_root};
 use record_hash::Digests;
 use record_text::{Refusal, Value};
 use tree_keys::Path;
+use verifier_cache::{Cache, Hint};
 
 impl State {
     /// Adds a record under its parent, whose digest vouches for it.
@@ -39,14 +42,14 @@ impl State {
         let Some(holder) = self.cache.entry_near(parent, holders) else {
             return Err(Refusal::ParentNotCached);
         };
-        let family = add_under(d, holder, path, value)?;
-        self.cache.replace_near(family.parent, holders);
-        self.cache.insert_near(family.child, own);
+        let Join { link, child } = add_under(d, holder, path, value)?;
+        self.cache
+            .link_near(parent, holders, link.on, link.pointer, true);
+        self.cache.insert_near(child, own);
         Ok(Outcome::AddM)
     }
 
     /// Evicts a record into its parent, which keeps its digest.
-    #[tactic(auto, using(crate::proofs::CacheLemmas::replaced_view))]
     pub(crate) fn evict_m<D: Digests>(
         &mut self,
         d: &D,
@@ -68,9 +71,27 @@ impl State {
         let Some(holder) = self.cache.entry_near(parent, holders) else {
             return Err(Refusal::ParentNotCached);
         };
-        let after = evict_under(d, holder, child)?;
-        self.cache.replace_near(after, holders);
-        let _ = self.cache.remove_near(path, own);
+        let link = evict_under(d, holder, child)?;
+        leave(&mut self.cache, path, own, parent, holders, &link);
         Ok(Outcome::EvictM)
     }
+}
+
+// Writes what the parent of a path gets as that leaves, and takes the path's entry out.
+pub(crate) fn leave(
+    cache: &mut Cache,
+    path: &Path,
+    own: Hint,
+    parent: &Path,
+    holders: Hint,
+    link: &Link,
+)
+    requires parent { IsSome (entry_of parent.now cache.old.entries) }
+    requires child { IsSome (entry_of path.now cache.old.entries) }
+    requires apart { path.now ≢ parent.now }
+    ensures cache { IfSome (entry_of parent.now cache.old.entries) (λ holder.
+        cache.new ≡ record cache.old { entries = without path.now (replaced (linked holder link.now.on link.now.pointer false) cache.old.entries) }) }
+{
+    cache.link_near(parent, holders, link.on, link.pointer, false);
+    cache.leave_near(path, own);
 }

@@ -105,11 +105,11 @@ impl SlotState {
         let Some(holder) = self.slots.at(parent) else {
             return Err(Refusal::SlotEmpty);
         };
-        let after = defer_under(holder, child)?;
+        let link = defer_under(holder, child)?;
         if let Err(fault) = self.clock.on_evict(stamp) {
             return Err(clock_refusal(fault));
         }
-        self.slots.replace_at(parent, after);
+        self.slots.link_at(parent, link.on, link.pointer, false);
         let child = self.slots.take_at(slot);
         Ok(Outcome::EvictBM(evicted_as(number, child, stamp)))
     }

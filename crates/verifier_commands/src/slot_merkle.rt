@@ -5,7 +5,7 @@ ghost use Rattle.verifier_commands.specs.SlotTransition.{add_m, evict_m};
 ghost use Rattle.verifier_commands.specs.Outcome.{told};
 ghost use Rattle.verifier_commands.specs.Machine.{ClockMoves};
 
-use crate::changes::{add_under, evict_under};
+use crate::changes::{Join, add_under, evict_under};
 use crate::outcome::Outcome;
 use crate::slot_state::SlotState;
 use crate::state::is_root;
@@ -40,9 +40,9 @@ impl SlotState {
         let Some(holder) = self.slots.at(parent) else {
             return Err(Refusal::SlotEmpty);
         };
-        let family = add_under(d, holder, path, value)?;
-        self.slots.replace_at(parent, family.parent);
-        self.slots.put_at(slot, family.child);
+        let Join { link, child } = add_under(d, holder, path, value)?;
+        self.slots.link_at(parent, link.on, link.pointer, true);
+        self.slots.put_at(slot, child);
         Ok(Outcome::AddM)
     }
 
@@ -67,9 +67,9 @@ impl SlotState {
         let Some(holder) = self.slots.at(parent) else {
             return Err(Refusal::SlotEmpty);
         };
-        let after = evict_under(d, holder, child)?;
-        self.slots.replace_at(parent, after);
-        let _ = self.slots.take_at(slot);
+        let link = evict_under(d, holder, child)?;
+        self.slots.link_at(parent, link.on, link.pointer, false);
+        self.slots.leave_at(slot);
         Ok(Outcome::EvictM)
     }
 }

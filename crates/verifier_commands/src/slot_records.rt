@@ -3,7 +3,6 @@ ghost use Rattle.std.specs.Prelude.{◌≡◌, IfOk};
 ghost use Rattle.base_words.specs.Follows.{Follows};
 ghost use Rattle.record_text.specs.declared.value.Value.TheVariants as values;
 ghost use Rattle.record_text.specs.Same.{same_value};
-ghost use Rattle.verifier_cache.specs.Entry.{with_value};
 ghost use Rattle.verifier_commands.specs.SlotTransition.{get, put, absent, next_epoch};
 ghost use Rattle.verifier_commands.specs.Outcome.{told};
 ghost use Rattle.verifier_commands.specs.Machine.{ClockMoves};
@@ -15,7 +14,6 @@ use crate::slot_state::SlotState;
 use crate::state::clock_refusal;
 use record_text::{Blob, Refusal, Value};
 use tree_keys::Path;
-use verifier_cache::Entry;
 
 impl SlotState {
     /// A get: the value that is read.
@@ -48,8 +46,7 @@ impl SlotState {
         let Some(key) = entry.path.key() else {
             return Err(Refusal::NotData);
         };
-        let after = written(entry, value);
-        self.slots.replace_at(slot, after);
+        self.slots.write_at(slot, Value::Blob(value.copy()));
         Ok(Outcome::Put(key, value.copy()))
     }
 
@@ -88,17 +85,5 @@ fn is_blob(value: &Value, blob: &Blob) -> bool
     match value {
         Value::Blob(own) => own.is_same(blob),
         Value::Node(_) => false,
-    }
-}
-
-// The entry with this data value.
-fn written(entry: &Entry, value: &Blob) -> Entry
-    ensures value { result ≡ with_value entry.now (values.Blob value.now) }
-{
-    Entry {
-        path: entry.path,
-        value: Value::Blob(value.copy()),
-        hold: entry.hold,
-        kids: entry.kids,
     }
 }

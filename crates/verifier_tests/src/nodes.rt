@@ -1,6 +1,6 @@
 //! Nodes that were worked out by hand, with digests that are sums of bytes.
 use crate::rows::{field, one_byte, path_of, same};
-use merkle_records::{AddCase, add_case, after_add, after_evict, defer, digest_of};
+use merkle_records::{AddCase, add_case, after_add, defer, digest_of, pointer_to, side_of};
 use record_hash::ToyDigests;
 use record_text::{Node, Pointer, Value};
 use std::process::Abort;
@@ -50,16 +50,21 @@ fn case_at(node: &Node, at: &Path, k: &Path) -> Option<AddCase> {
     if !k.is_below(at) {
         return None;
     }
-    Some(add_case(node, at, k))
+    Some(add_case(side_of(node, k.side_below(at)), k))
 }
 
 fn added(node: &Node, at: &Path, k: &Path, v: &Value) -> Option<(Node, Value)> {
     if !k.is_below(at) {
         return None;
     }
-    match add_case(node, at, k) {
+    let on = k.side_below(at);
+    let pointer = side_of(node, on);
+    match add_case(pointer, k) {
         AddCase::Foreign => None,
-        _ => Some(after_add(&ToyDigests, node, at, k, v)),
+        _ => {
+            let (pointer, value) = after_add(&ToyDigests, pointer, k, v);
+            Some((node.with_side(on, pointer), value))
+        }
     }
 }
 
@@ -67,14 +72,16 @@ fn evicted(node: &Node, at: &Path, k: &Path, v: &Value) -> Option<Node> {
     if !k.is_below(at) {
         return None;
     }
-    Some(after_evict(&ToyDigests, node, at, k, v))
+    let pointer = pointer_to(&ToyDigests, k, v);
+    Some(node.with_side(k.side_below(at), Some(pointer)))
 }
 
 fn deferred(node: &Node, at: &Path, k: &Path) -> Option<Node> {
     if !k.is_below(at) {
         return None;
     }
-    Some(defer(node, at, k))
+    let on = k.side_below(at);
+    Some(node.with_side(on, defer(side_of(node, on))))
 }
 
 // A case from its name.

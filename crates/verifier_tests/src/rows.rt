@@ -1,5 +1,6 @@
 //! Tables as texts: a row is a line, with one blank between its fields.
 use record_text::{Blob, Value};
+use std::alloc::Global;
 use std::fmt::Debug;
 use std::process::Abort;
 use tree_keys::Path;
@@ -9,6 +10,30 @@ pub fn field<'a>(rt: &impl Abort, row: &'a str, place: usize) -> &'a str {
     row.split(' ')
         .nth(place)
         .expect(rt, "a row with too few fields")
+}
+
+/// The digits of a row of commands, which stand before a bar.
+pub fn digits_of<'a>(rt: &impl Abort, row: &'a str) -> &'a str {
+    row.split('|').next().expect(rt, "a row of nothing")
+}
+
+/// The answer of a row of commands, which stands behind the bar.
+pub fn answer_of<'a>(rt: &impl Abort, row: &'a str) -> &'a str {
+    row.split('|')
+        .nth(1)
+        .expect(rt, "a row with no answer")
+        .trim()
+}
+
+/// The bytes that these digits spell, between which blanks may stand.
+pub fn bytes_of(rt: &impl Abort, alloc: Global, digits: &str) -> Vec<u8> {
+    let mut bytes = Vec::new(alloc);
+    for word in digits.split_whitespace() {
+        for byte in hex::decode(alloc, word).expect(rt, word) {
+            bytes.push(byte).expect(rt, "memory");
+        }
+    }
+    bytes
 }
 
 /// Two values are the same. Where they aren't, the test ends, and tells the row.

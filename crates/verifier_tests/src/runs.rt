@@ -2,7 +2,7 @@
 ghost use Rattle.std.specs.Prelude.{◌≡◌, ◌<◌};
 ghost use Rattle.lamport_clocks.specs.Header.{IsHeader};
 
-use crate::rows::same;
+use crate::rows::{bytes_of, same};
 use lamport_clocks::{Header, Stamp};
 use multiset_sum::Part;
 use record_hash::{Digests, ShaDigests, ToyDigests};
@@ -54,17 +54,6 @@ const PUT_TWICE: &str = "
 08
 ";
 
-// The bytes of a log from their digits.
-fn log_of(rt: &impl Abort, alloc: Global, text: &str) -> Vec<u8> {
-    let mut log = Vec::new(alloc);
-    for word in text.split_whitespace() {
-        for byte in hex::decode(alloc, word).expect(rt, word) {
-            log.push(byte).expect(rt, "memory");
-        }
-    }
-    log
-}
-
 // What a log comes to, fed in pieces of so many bytes.
 fn in_pieces(rt: &impl Abort, alloc: Global, d: &ShaDigests, log: &[u8], size: usize) -> Run
     requires size { 0 < size }
@@ -112,7 +101,7 @@ fn assert_put_and_got(rt: &impl Abort, label: &str, run: &Run) {
 #[test]
 fn pieces_do_not_matter(rt: HostRuntime) {
     let d = ShaDigests::new(b"a key");
-    let log = log_of(&rt, rt.alloc(), PUT_AND_GOT);
+    let log = bytes_of(&rt, rt.alloc(), PUT_AND_GOT);
     for (size, label) in SIZES {
         let run = in_pieces(&rt, rt.alloc(), &d, &log, size);
         assert_put_and_got(&rt, label, &run);
@@ -131,10 +120,11 @@ fn assert_refused(rt: &impl Abort, alloc: Global, log: &[u8], index: u64, refusa
 
 #[test]
 fn logs_are_refused_where_they_go_wrong(rt: HostRuntime) {
-    let mut log = log_of(&rt, rt.alloc(), PUT_AND_GOT);
+    let mut log = bytes_of(&rt, rt.alloc(), PUT_AND_GOT);
     let cut = log.get(..21).expect(&rt, "a log that is too short");
     assert_refused(&rt, rt.alloc(), cut, 1, Refusal::Truncated);
-    assert_refused(&rt, rt.alloc(), &[9], 0, Refusal::Malformed);
+    assert_refused(&rt, rt.alloc(), &[9], 0, Refusal::Truncated);
+    assert_refused(&rt, rt.alloc(), &[10], 0, Refusal::Malformed);
     // The last byte of the value that the get answers.
     *log.get_mut(89).expect(&rt, "a log that is too short") = b'c';
     assert_refused(&rt, rt.alloc(), &log, 4, Refusal::WrongValue);
@@ -142,7 +132,7 @@ fn logs_are_refused_where_they_go_wrong(rt: HostRuntime) {
 
 // The run of a log that isn't refused.
 fn accepted_run<D: Digests>(rt: &impl Abort, alloc: Global, d: &D, text: &str) -> Run {
-    let log = log_of(rt, alloc, text);
+    let log = bytes_of(rt, alloc, text);
     let run: Run = run_log(alloc, d, 0, &header(), &log).expect(rt, "memory");
     same(rt, text, &run.refused(), &None);
     run
@@ -173,10 +163,10 @@ fn assert_refused_at_1(rt: &impl Abort, label: &str, run: &Run) {
 // A log that goes wrong at its second command takes what follows, and does nothing.
 #[test]
 fn a_refused_run_stays_as_it_is(rt: HostRuntime) {
-    let log = log_of(&rt, rt.alloc(), PUT_AND_GOT);
+    let log = bytes_of(&rt, rt.alloc(), PUT_AND_GOT);
     let more = log.get(..92).expect(&rt, "a log that is too short");
     let mut run = Run::new(rt.alloc(), 0, &header()).expect(&rt, "memory");
-    let _ = run.feed(&ToyDigests, &[8, 9]);
+    let _ = run.feed(&ToyDigests, &[8, 10]);
     assert_refused_at_1(&rt, "refused", &run);
     same(&rt, "more", &run.feed(&ToyDigests, more), &Ok(()));
     run.end();

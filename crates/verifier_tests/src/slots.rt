@@ -1,7 +1,7 @@
 //! Commands that name slots, written out by hand from the table of tags and fields.
 ghost use Rattle.std.specs.Prelude.{◌≡◌, ◌≤◌};
 
-use crate::rows::same;
+use crate::rows::{answer_of, bytes_of, digits_of, same};
 use lamport_clocks::Header;
 use log_codec::{Decoded, LogCommand, SlotCommand, read_command, write_slot_command};
 use record_hash::ToyDigests;
@@ -17,29 +17,6 @@ fn header() -> Header
         version: 2,
         ..Header::by_path(1, 4, 0, 16_777_215)
     }
-}
-
-// A row is a command's digits, a bar, and its answer: `ok`, or the name of the refusal.
-fn digits_of<'a>(rt: &impl Abort, row: &'a str) -> &'a str {
-    row.split('|').next().expect(rt, "a row of nothing")
-}
-
-fn answer_of<'a>(rt: &impl Abort, row: &'a str) -> &'a str {
-    row.split('|')
-        .nth(1)
-        .expect(rt, "a row with no answer")
-        .trim()
-}
-
-// The bytes of these digits.
-fn bytes_of(rt: &impl Abort, alloc: Global, digits: &str) -> Vec<u8> {
-    let mut bytes = Vec::new(alloc);
-    for word in digits.split_whitespace() {
-        for byte in hex::decode(alloc, word).expect(rt, word) {
-            bytes.push(byte).expect(rt, "memory");
-        }
-    }
-    bytes
 }
 
 // The command whose text the digits of a row are: it is written so, and read from no front.
@@ -65,7 +42,7 @@ fn command_of(rt: &impl Abort, alloc: Global, row: &str) -> SlotCommand {
     command
 }
 
-// Each command of a table has its answer, one after another.
+// Each command of a table has its answer, one after another: `ok`, or the name of the refusal.
 fn assert_answers(rt: &impl Abort, alloc: Global, table: &str) {
     let header = header();
     let mut state = SlotState::new(alloc, 0, &header).expect(rt, "memory");
@@ -148,11 +125,12 @@ fn commands_answer_by_their_slots(rt: HostRuntime) {
 // Bytes that no command begins with.
 const MALFORMED: &str = "
 00
-09
+0a
 01 0001 41 0000000000000000
 03 0001 01 0000000000000000 00 03
 06 0001 02
 07 ffff 01 41
+09 410000000000000000
 ";
 
 #[test]
