@@ -4,7 +4,9 @@ Digests are sums of bytes, as `ToyDigests` has them, of which only the digits th
 worker's log for requests, one a line: `get KEY`, `put KEY HEX`, `del KEY`, and `epoch`, where the worker goes to the next epoch
 and moves each shard. With a threshold, keys that were touched so often in an epoch become hot at its end.
 
-    tools/run slow.plans SHARDS WORKER COUNTER [THRESHOLD] < requests
+With `absent` in a threshold's place, a get of a key without a record leaves none.
+
+    tools/run slow.plans SHARDS WORKER COUNTER [THRESHOLD | absent] < requests
 """
 import sys
 
@@ -21,11 +23,11 @@ def digits(digest):
     return digest.lstrip(b"\0").hex() or "00"
 
 
-def serve(host, worker, line, shards):
+def serve(host, worker, line, shards, absent):
     """A request, at the shard of its key."""
     request = request_in(b"0 " + line, host.header)
     shard = int(request.path[: shards.bit_length() - 1], 2)
-    visit = Visit(host.digests, host.shards[shard], Deed(worker, END))
+    visit = Visit(host.digests, host.shards[shard], Deed(worker, END), absent)
     visit.serve(request)
     worker.keep(visit.deed)
 
@@ -41,13 +43,14 @@ def close(host, worker, threshold):
 
 
 def main():
-    shards, number, counter, *threshold = map(int, sys.argv[1:])
+    absent = sys.argv[4:] == ["absent"]
+    shards, number, counter, *threshold = map(int, sys.argv[1:4] if absent else sys.argv[1:])
     host, worker = Host(ToyDigests(), Settings(Header(1, CACHES[64], 0, END), shards, None)), Worker(number, (0, counter))
     for line in sys.stdin.buffer.read().splitlines():
         if line == b"epoch":
             close(host, worker, threshold[0] if threshold else None)
         else:
-            serve(host, worker, line, shards)
+            serve(host, worker, line, shards, absent)
     for command in worker.logged:
         print(row(command, digits))
 

@@ -103,6 +103,7 @@ settings_for numbers = record {
   };
   shards = numbers.shards;
   hot = numbers.hot;
+  absent = numbers.absent;
 }
 
 -- What a call did to a vault: the bytes held and the name, where it tells them, and its count of faults, before and after.

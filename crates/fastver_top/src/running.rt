@@ -138,5 +138,6 @@ pub(crate) fn settings_for(numbers: &HostNumbers) -> Settings
         },
         shards: numbers.shards,
         hot: numbers.hot,
+        absent: numbers.absent,
     }
 }

@@ -18,7 +18,7 @@ use Rattle.soundness.specs.World.{changes_in, last_evicted_behind}
 use Rattle.host_shard.specs.Shard.{Shard, pending_shard}
 use Rattle.host_shard.specs.Content.{Content, cold, hot, vacant}
 use Rattle.host_plan.specs.Plan.{content_after}
-use Rattle.host_plan.specs.Request.{served}
+use Rattle.host_plan.specs.Request.{is_missed, served}
 use Rattle.host_core.specs.Host.{Done, scheme, resting}
 use Rattle.host_core.specs.Deeds.{IsReady, ServeFits}
 use Rattle.host_core.specs.Clear.{IsNotAfter, IsKept, touching, IsClearDeed}
@@ -129,14 +129,14 @@ module _ (setting : Setting) (worker : ℕ) (clock : Reading) (s : ℕ) (content
       mirrors : SeatsMirror (longest_of setting.settings.header) setting.functions.digest contents
       mirrors = serves.ready.mirrored.mirrors
 
-      plan : IsPlanned setting.functions.digest worker clock (get_or contents 0 vacant) request found
+      plan : IsPlanned setting.settings.absent setting.functions.digest worker clock (get_or contents 0 vacant) request found
       plan = planned setting worker clock s 0 contents request found serves
 
       left : Shard
-      left = served setting.functions.digest worker mirrors.shard plan.is.links request clock
+      left = served setting.functions.digest worker mirrors.shard plan.is.links request clock (is_missed setting.settings.absent mirrors.shard plan.is.links request)
 
       after : found.after ≡ cold left
-      after = plan.is.content ∙ ap (λ (cs : List Content). content_after setting.functions.digest worker (get_or cs 0 vacant) plan.is.links request clock) mirrors.is
+      after = plan.is.content ∙ ap (λ (cs : List Content). content_after setting.settings.absent setting.functions.digest worker (get_or cs 0 vacant) plan.is.links request clock) mirrors.is
 
       behind : set contents 0 found.after ≡ cold left ∷ mirrors.places
       behind = ap (λ (c : Content). set contents 0 c) after ∙ ap (λ (cs : List Content). set cs 0 (cold left)) mirrors.is

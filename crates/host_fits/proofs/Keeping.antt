@@ -59,8 +59,8 @@ served_at setting worker clock content request =
     let longest = longest_of setting.settings.header in
     let links = links_of content request.key in
     record {
-      commands = commands_of content links request clock;
-      after = content_after setting.functions.digest worker content links request clock;
+      commands = commands_of setting.settings.absent content links request clock;
+      after = content_after setting.settings.absent setting.functions.digest worker content links request clock;
       clock = clock_after content clock;
     }
 

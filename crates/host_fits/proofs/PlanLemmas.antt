@@ -33,7 +33,7 @@ module _ (functions : DigestFunctions) (settings : Settings) (script : List (Lis
 
   pub plan_served : (content after : Content) (request : Request) (clock later : Reading) (plan : Plan)
       → CanServe longest functions.digest content request.key
-      → IsPlan functions.digest worker content request clock plan after later
+      → IsPlan settings.absent functions.digest worker content request clock plan after later
       → (clock_after content clock).at.counter ≤ clock.end
       → (shipped_host functions settings script).serve worker clock content request ≡ Some (record { commands = plan.commands; after = after; clock = later })
   plan_served content after request clock later plan can is within =
@@ -47,12 +47,12 @@ module _ (functions : DigestFunctions) (settings : Settings) (script : List (Lis
       done_by commands left reading = record { commands = commands; after = left; clock = reading }
 
       by_links : List Link → Done Content
-      by_links ls = done_by (commands_of content ls request clock) (content_after functions.digest worker content ls request clock) (clock_after content clock)
+      by_links ls = done_by (commands_of settings.absent content ls request clock) (content_after settings.absent functions.digest worker content ls request clock) (clock_after content clock)
 
       same : by_links (links_of content request.key) ≡ done_by plan.commands after later
       same =
           ap (λ (ls : List Link). by_links ls) (sym links)
-          ∙ (ap (λ (cs : List Command). done_by cs (content_after functions.digest worker content is.links request clock) (clock_after content clock)) (sym is.commands)
+          ∙ (ap (λ (cs : List Command). done_by cs (content_after settings.absent functions.digest worker content is.links request clock) (clock_after content clock)) (sym is.commands)
           ∙ (ap (λ (c : Content). done_by plan.commands c (clock_after content clock)) (sym is.content)
           ∙ ap (λ (r : Reading). done_by plan.commands after r) (sym is.clock)))
 

@@ -94,13 +94,13 @@ pub record FrontLeft (clock : Reading) (old new : List Content) : Type 0 where
   pub rises : IsNotAfter (front_of old) (front_of new)
   pub since : ((front_of new).epoch ≡ clock.at.epoch) ⊎ (front_of new ≡ front_of old)
 
-front_there : (digest : Digest) (worker : ℕ) (clock : Reading) (request : Request) (links : List Link) (shard : Shard) (places : List Content)
+front_there : (absent : Bool) (digest : Digest) (worker : ℕ) (clock : Reading) (request : Request) (links : List Link) (shard : Shard) (places : List Content)
     (seat : ℕ) (after : Content) → is_open clock shard.stamp.epoch ≡ true
-    → after ≡ content_after digest worker (get_or (cold shard ∷ places) seat vacant) links request clock
+    → after ≡ content_after absent digest worker (get_or (cold shard ∷ places) seat vacant) links request clock
     → FrontLeft clock (cold shard ∷ places) (set (cold shard ∷ places) seat after)
-front_there digest worker clock request links shard places zero after open' is =
+front_there absent digest worker clock request links shard places zero after open' is =
     subst (λ (c : Content). FrontLeft clock (cold shard ∷ places) (c ∷ places)) (sym is) (record { frontier = refl; rises = renewing-rises clock shard.stamp open'; since = inl refl })
-front_there digest worker clock request links shard places (suc k) after open' is =
+front_there absent digest worker clock request links shard places (suc k) after open' is =
     record { frontier = refl; rises = inr (refl, omega arith); since = inr refl }
 
 -- ---- a request
@@ -141,11 +141,11 @@ module _ (setting : Setting) (worker : ℕ) (clock : Reading) (s seat : ℕ) (co
   there : SeatServes longest digest hot_keys content request
   there = seat_serves longest digest contents mirrors seat request small range.1
 
-  pub planned : IsPlanned digest worker clock content request found
-  planned = served_is_planned longest digest worker clock content request found there.own serves.is
+  pub planned : IsPlanned setting.settings.absent digest worker clock content request found
+  planned = served_is_planned setting.settings.absent longest digest worker clock content request found there.own serves.is
 
   keeps : ServeKeeps longest digest worker clock contents seat found
-  keeps = serve_keeps longest digest worker clock contents seat request found serves.settled.digests mirrors small range.1 serves.is
+  keeps = serve_keeps setting.settings.absent longest digest worker clock contents seat request found serves.settled.digests mirrors small range.1 serves.is
 
   counters : (clock_after content clock).at.counter ≤ clock.end
   counters = (done_within clock.end (clock_after content clock).at.counter (served_at setting worker clock content request) found serves.is).1
@@ -171,7 +171,7 @@ module _ (setting : Setting) (worker : ℕ) (clock : Reading) (s seat : ℕ) (co
 
   pub runs : PlanRuns rules (resting (ranged setting) worker clock) content found.after request planned.plan found.clock
   runs =
-      plan_runs rules (resting (ranged setting) worker clock) content found.after request planned.plan found.clock can
+      plan_runs setting.settings.absent rules (resting (ranged setting) worker clock) content found.after request planned.plan found.clock can
       (mirrors_serve longest digest hot_keys content request.key there.mirrors there.own there.cold_there) planned.is
 
   pub logged : run rules (resting (ranged setting) worker clock) found.commands ≡ Ok (runs.told, resting (ranged setting) worker found.clock)
@@ -191,7 +191,7 @@ module _ (setting : Setting) (worker : ℕ) (clock : Reading) (s seat : ℕ) (co
   asked : map (ask_of clock.at.epoch) (access_for request planned.plan.answer ∷ []) ≡ (clock.at.epoch, told request) ∷ []
   asked =
       ap asks (ap (λ (k : ℕ). record { put = request.put; key = k; value = if request.put then planned.plan.answer else None }) (key_of-path false request.key small)
-      ∙ ap (λ (v : Option (List ℕ)). record { put = request.put; key = request.key; value = v }) (asked_so request (value_found content planned.is.links) planned.plan.answer planned.is.answer))
+      ∙ ap (λ (v : Option (List ℕ)). record { put = request.put; key = request.key; value = v }) (asked_so request (value_found setting.settings.absent content planned.is.links request) planned.plan.answer planned.is.answer))
     where
       asks : Request → List (ℕ × Request)
       asks ask = (clock.at.epoch, ask) ∷ []
@@ -201,7 +201,7 @@ module _ (setting : Setting) (worker : ℕ) (clock : Reading) (s seat : ℕ) (co
       is_deed (ranged setting) worker (resting (ranged setting) worker clock) found.commands runs.told found.clock (content ∷ []) (found.after ∷ []) ((clock.at.epoch, told request) ∷ [])
       logged
       (subst (AllByRecursion (IsPathTypedIn (wide_of setting.settings.header) longest)) (sym planned.logged)
-      (plan_typed longest digest worker hot_keys content found.after request clock found.clock planned.plan there.fits there.mirrors there.own there.cold_there planned.is))
+      (plan_typed setting.settings.absent longest digest worker hot_keys content found.after request clock found.clock planned.plan there.fits there.mirrors there.own there.cold_there planned.is))
       (subst (IsClock (ranged setting)) (sym planned.is.clock) (clock_is content counters))
       keeps.same_epoch.epoch
       (subst (AllByRecursion (IsStamped (ranged setting) found.clock.at.epoch)) (sym (append-nil (waiting (pending found.after)))) renewed)
@@ -214,8 +214,8 @@ module _ (setting : Setting) (worker : ℕ) (clock : Reading) (s seat : ℕ) (co
 
   pub front : FrontLeft clock contents (set contents seat found.after)
   front =
-      subst (λ (cs : List Content). found.after ≡ content_after digest worker (get_or cs seat vacant) planned.is.links request clock → FrontLeft clock cs (set cs seat found.after)) (sym mirrors.is)
-      (front_there digest worker clock request planned.is.links mirrors.shard mirrors.places seat found.after (open_now clock mirrors.shard.stamp.epoch shard_stamped.1))
+      subst (λ (cs : List Content). found.after ≡ content_after setting.settings.absent digest worker (get_or cs seat vacant) planned.is.links request clock → FrontLeft clock cs (set cs seat found.after)) (sym mirrors.is)
+      (front_there setting.settings.absent digest worker clock request planned.is.links mirrors.shard mirrors.places seat found.after (open_now clock mirrors.shard.stamp.epoch shard_stamped.1))
       planned.is.content
 
   -- the seats mirror again

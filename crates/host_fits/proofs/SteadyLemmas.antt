@@ -22,7 +22,7 @@ use Rattle.host_shard.specs.declared.content.HotRecord.{HotRecord}
 use Rattle.host_shard.specs.Shard.{pending_shard}
 use Rattle.host_shard.specs.Content.{Content, cold, hot, vacant, pending_hot}
 use Rattle.host_plan.specs.Moments.{renewing}
-use Rattle.host_plan.specs.Request.{served, served_hot}
+use Rattle.host_plan.specs.Request.{is_missed, served, served_hot}
 use Rattle.host_plan.specs.Plan.{content_after, clock_after}
 use Rattle.host_core.specs.Host.{Done, Host}
 use Rattle.host_order.specs.Steady.{HasOne, MovesOn, IsUpFrom, IsSteady}
@@ -109,9 +109,9 @@ module _ (functions : DigestFunctions) (settings : Settings) (script : List (Lis
 
   -- and it is left with that stamp
   leaves_one : (worker : ℕ) (content : Content) (links : List Link) (request : Request) (clock : Reading) (element : Element) → host.pending content ≡ element ∷ []
-      → (new : Element) × (host.pending (content_after functions.digest worker content links request clock) ≡ new ∷ []) × (new.stamp ≡ (clock_after content clock).at)
+      → (new : Element) × (host.pending (content_after settings.absent functions.digest worker content links request clock) ≡ new ∷ []) × (new.stamp ≡ (clock_after content clock).at)
   leaves_one worker (cold shard) links request clock element is =
-      (pending_shard (served functions.digest worker shard links request clock), refl, refl)
+      (pending_shard (served functions.digest worker shard links request clock (is_missed settings.absent shard links request)), refl, refl)
   leaves_one worker (hot found) links request clock element is = (pending_hot (served_hot worker found request clock), refl, refl)
   leaves_one worker vacant links request clock element is = absurd (none_one element is)
 
@@ -136,13 +136,13 @@ module _ (functions : DigestFunctions) (settings : Settings) (script : List (Lis
 
   -- what comes of a content serves the same keys
   serves_after : (seats : List Content) (key : ℕ) (worker : ℕ) (content : Content) (links : List Link) (request : Request) (clock : Reading)
-      → serves_key seats key (content_after functions.digest worker content links request clock) ≡ serves_key seats key content
+      → serves_key seats key (content_after settings.absent functions.digest worker content links request clock) ≡ serves_key seats key content
   serves_after seats key worker (cold shard) links request clock = refl
   serves_after seats key worker (hot found) links request clock = refl
   serves_after seats key worker vacant links request clock = refl
 
   hot_after : (key worker : ℕ) (content : Content) (links : List Link) (request : Request) (clock : Reading)
-      → is_hot_at key (content_after functions.digest worker content links request clock) ≡ is_hot_at key content
+      → is_hot_at key (content_after settings.absent functions.digest worker content links request clock) ≡ is_hot_at key content
   hot_after key worker (cold shard) links request clock = refl
   hot_after key worker (hot found) links request clock = refl
   hot_after key worker vacant links request clock = refl
@@ -162,7 +162,7 @@ module _ (functions : DigestFunctions) (settings : Settings) (script : List (Lis
       ap (λ (b : Bool). b && is_blob longest ask.value)
       (serves_as contents (set contents seat done.after) ask.key (get_or (set contents seat done.after) other vacant) hot_keys ∙ go (nat_eq other seat) refl)
     where
-      left : done.after ≡ content_after functions.digest worker (get_or contents seat vacant) (links_of (get_or contents seat vacant) request.key) request clock
+      left : done.after ≡ content_after settings.absent functions.digest worker (get_or contents seat vacant) (links_of (get_or contents seat vacant) request.key) request clock
       left = ap (λ (d : Done Content). d.after)
           (sym (done_within clock.end (clock_after (get_or contents seat vacant) clock).at.counter (served_at setting worker clock (get_or contents seat vacant) request) done is).0)
 

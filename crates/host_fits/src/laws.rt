@@ -45,7 +45,7 @@ pub fn plans_are_what_the_host_does()
     ensures served { (functions : DigestFunctions) (settings : Settings) (script : List (List Task)) (worker : ℕ)
         (content after : Content) (request : Request) (clock later : Reading) (plan : Plan)
         → CanServe (longest_of settings.header) functions.digest content request.key
-        → IsPlan functions.digest worker content request clock plan after later
+        → IsPlan settings.absent functions.digest worker content request clock plan after later
         → (clock_after content clock).at.counter ≤ clock.end
         → (shipped_host functions settings script).serve worker clock content request
         ≡ Some (record { commands = plan.commands; after = after; clock = later }) }

@@ -12,6 +12,7 @@ pub mod ForkLaws
 mod ChainLaws
 mod EndLemmas
 mod VisitLemmas
+mod MissLemmas
 pub mod BetweenLaws
 pub mod FrontierLaws
 pub mod RequestLaws

@@ -11,17 +11,17 @@ use Rattle.record_text.specs.declared.value.Pointer.{Pointer}
 use Rattle.record_text.specs.declared.value.Value.{Value}
 use Rattle.record_text.specs.declared.value.Value.TheVariants as values
 use Rattle.record_text.specs.Value.{IsBlob, IsOf}
-use Rattle.merkle_records.specs.Merkle.{Digest, GivesDigests}
+use Rattle.merkle_records.specs.Merkle.{Digest, GivesDigests, leads_over}
 use Rattle.log_codec.specs.declared.command.Command.{Command}
-use Rattle.log_codec.specs.declared.command.Command.TheVariants.{EvictM, Get, Put}
+use Rattle.log_codec.specs.declared.command.Command.TheVariants.{EvictM, Get, Put, Absent}
 use Rattle.soundness.specs.Typed.{IsPathTypedIn}
 use Rattle.host_shard.specs.declared.link.Link.{Link}
 use Rattle.host_shard.specs.Tree.{Tree, pointer_of}
-use Rattle.host_shard.specs.Chain.{IsChain, last_value, closed_records}
+use Rattle.host_shard.specs.Chain.{IsChain, pointer_toward, last_value, end_path, known_links, closed_records}
 use Rattle.host_shard.specs.Shard.{Shard, tree_of, one_more, touched}
 use Rattle.host_shard.specs.Content.{Content, cold, hot, vacant}
 use Rattle.host_shard.specs.Mirrors.{IsKeyOf}
-use Rattle.host_plan.specs.Request.{command_of, value_after, served}
+use Rattle.host_plan.specs.Request.{command_of, value_after, is_missed, links_known, links_gone, end_command, served}
 use Rattle.host_plan.specs.Visit.{visit}
 use Rattle.host_plan.specs.Plan.{Owns, CanServe, IsPlan}
 use Rattle.host_plan.specs.declared.plans.Plan.{Plan}
@@ -51,12 +51,27 @@ after_kind longest request found fits whole kind = go request.put
     go false = kind
 
 -- The shard mirrors again once it served a request, with the same keys hot.
-pub served_mirrors : (longest : ℕ) (digest : Digest) (worker : ℕ) (shard : Shard) (hot_keys : List (List Bool)) (links : List Link) (request : Request) (clock : Reading)
+pub served_mirrors : (longest : ℕ) (digest : Digest) (worker : ℕ) (shard : Shard) (hot_keys : List (List Bool)) (links : List Link) (request : Request) (clock : Reading) (missed : Bool)
     → GivesDigests digest → IsBlob longest request.value → IsMirrored longest digest shard hot_keys → IsKeyOf shard (key_path false request.key)
     → (IsAmong hot_keys (key_path false request.key) → ⊥)
     → IsChain (tree_of shard) (key_path false request.key) shard.frontier shard.value links
-    → IsMirrored longest digest (served digest worker shard links request clock) hot_keys
-served_mirrors longest digest worker shard hot_keys links request clock digests fits_blob mirrored own not_hot chain = record {
+    → IsMirrored longest digest (served digest worker shard links request clock missed) hot_keys
+served_mirrors longest digest worker shard hot_keys links request clock true digests fits_blob mirrored own not_hot chain = record {
+  fits = record {
+    below_root = mirrored.fits.below_root;
+    no_data = mirrored.fits.no_data;
+    kinds = mirrored.fits.kinds;
+  };
+  mirrors = record {
+    kept = mirrored.mirrors.kept;
+    waits = mirrored.mirrors.waits;
+    reached = mirrored.mirrors.reached;
+    hot_waits = mirrored.mirrors.hot_waits;
+    hot_keys = mirrored.mirrors.hot_keys;
+    touched = mirrored.mirrors.touched;
+  };
+}
+served_mirrors longest digest worker shard hot_keys links request clock false digests fits_blob mirrored own not_hot chain = record {
   fits = record {
     below_root = mirrored.fits.below_root;
     no_data = mirrored.fits.no_data;
@@ -121,20 +136,20 @@ served_mirrors longest digest worker shard hot_keys links request clock digests 
             keeps_record longest digest tree shard.records shard.frontier shard.value key last lead links k (mirrored.mirrors.touched k some')
 
 -- A content mirrors again once it served a request.
-pub plan_mirrors : (longest : ℕ) (digest : Digest) (worker : ℕ) (hot_keys : List (List Bool)) (content after : Content) (request : Request)
+pub plan_mirrors : (absent : Bool) (longest : ℕ) (digest : Digest) (worker : ℕ) (hot_keys : List (List Bool)) (content after : Content) (request : Request)
     (clock later : Reading) (plan : Plan)
     → GivesDigests digest → IsBlob longest request.value → ContentMirrors longest digest hot_keys content → Owns longest content request.key → IsCold hot_keys content request.key
-    → IsPlan digest worker content request clock plan after later → ContentMirrors longest digest hot_keys after
-plan_mirrors longest digest worker hot_keys (cold shard) after request clock later plan digests fits_blob mirrored owns not_hot is =
+    → IsPlan absent digest worker content request clock plan after later → ContentMirrors longest digest hot_keys after
+plan_mirrors absent longest digest worker hot_keys (cold shard) after request clock later plan digests fits_blob mirrored owns not_hot is =
     subst (ContentMirrors longest digest hot_keys) (sym is.content)
-    (served_mirrors longest digest worker shard hot_keys is.links request clock digests fits_blob mirrored owns.1 not_hot is.way)
-plan_mirrors longest digest worker hot_keys (hot found) after request clock later plan digests fits_blob mirrored owns not_hot is =
+    (served_mirrors longest digest worker shard hot_keys is.links request clock (is_missed absent shard is.links request) digests fits_blob mirrored owns.1 not_hot is.way)
+plan_mirrors absent longest digest worker hot_keys (hot found) after request clock later plan digests fits_blob mirrored owns not_hot is =
     subst (ContentMirrors longest digest hot_keys) (sym is.content) (go request.put)
   where
     go : (b : Bool) → IsBlob longest (if b then request.value else found.value)
     go true = fits_blob
     go false = mirrored
-plan_mirrors longest digest worker hot_keys vacant after request clock later plan digests fits_blob mirrored owns not_hot is = absurd owns
+plan_mirrors absent longest digest worker hot_keys vacant after request clock later plan digests fits_blob mirrored owns not_hot is = absurd owns
 
 -- A content that mirrors can serve a key that it owns.
 pub mirrors_serve : (longest : ℕ) (digest : Digest) (hot_keys : List (List Bool)) (content : Content) (key : ℕ)
@@ -166,17 +181,52 @@ visit_typed wide longest digest tree key lead inner typed path value (link ∷ l
           (visit_typed wide longest digest tree key lead inner typed link.path link.taken links below next.kind next.known chain.1) (((below, within), tt), tt),
     )
 
+-- the same of the links that have records
+known_typed : (wide : Bool) (longest : ℕ) (digest : Digest) (tree : Tree) (key : List Bool) → LeadTo longest digest tree key
+    → (inner : List Command) → AllByRecursion (IsPathTypedIn wide longest) inner
+    → (path : List Bool) (value : Value) (links : List Link) → IsIn wide path → IsOf longest path value → AreOf tree value → IsChain tree key path value links
+    → AllByRecursion (IsPathTypedIn wide longest) (visit path (known_links key path value links) inner)
+known_typed wide longest digest tree key lead inner typed path value [] within kind known chain = typed
+known_typed wide longest digest tree key lead inner typed path value (link ∷ links) within kind known chain =
+    let next = next_fits longest digest tree key lead path value link kind known chain.0 in
+    let below = in-below wide path link.path next.on within next.fits.below in
+    go below next.added (known_typed wide longest digest tree key lead inner typed link.path link.taken links below next.kind next.known chain.1)
+    (leads_over (pointer_toward value (side path key)) key)
+  where
+    more : List Command
+    more = visit link.path (known_links key link.path link.taken links) inner
+
+    go : IsIn wide link.path → IsOf longest link.path link.value → AllByRecursion (IsPathTypedIn wide longest) more → (b : Bool)
+        → AllByRecursion (IsPathTypedIn wide longest) (visit path (if b then link ∷ known_links key link.path link.taken links else []) inner)
+    go below added rest false = typed
+    go below added rest true =
+        (((below, within), added), all-append (IsPathTypedIn wide longest) more (EvictM link.path path ∷ []) rest (((below, within), tt), tt))
+
+-- and the path at their end is of the tree
+known_in : (wide : Bool) (longest : ℕ) (digest : Digest) (tree : Tree) (key : List Bool) → LeadTo longest digest tree key
+    → (path : List Bool) (value : Value) (links : List Link) → IsIn wide path → IsOf longest path value → AreOf tree value → IsChain tree key path value links
+    → IsIn wide (end_path path (known_links key path value links))
+known_in wide longest digest tree key lead path value [] within kind known chain = within
+known_in wide longest digest tree key lead path value (link ∷ links) within kind known chain =
+    let next = next_fits longest digest tree key lead path value link kind known chain.0 in
+    let below = in-below wide path link.path next.on within next.fits.below in
+    go (known_in wide longest digest tree key lead link.path link.taken links below next.kind next.known chain.1) (leads_over (pointer_toward value (side path key)) key)
+  where
+    go : IsIn wide (end_path link.path (known_links key link.path link.taken links)) → (b : Bool)
+        → IsIn wide (end_path path (if b then link ∷ known_links key link.path link.taken links else []))
+    go rest true = rest
+    go rest false = within
+
 -- The paths that a plan's commands name are of one tree, and the values that they bring in are of their paths' kinds.
-pub plan_typed : (longest : ℕ) (digest : Digest) (worker : ℕ) (hot_keys : List (List Bool)) (content after : Content) (request : Request)
+pub plan_typed : (absent : Bool) (longest : ℕ) (digest : Digest) (worker : ℕ) (hot_keys : List (List Bool)) (content after : Content) (request : Request)
     (clock later : Reading) (plan : Plan)
     → IsBlob longest request.value → ContentMirrors longest digest hot_keys content → Owns longest content request.key → IsCold hot_keys content request.key
-    → IsPlan digest worker content request clock plan after later → AllByRecursion (IsPathTypedIn false longest) plan.commands
-plan_typed longest digest worker hot_keys (cold shard) after request clock later plan fits_blob mirrored owns not_hot is =
+    → IsPlan absent digest worker content request clock plan after later → AllByRecursion (IsPathTypedIn false longest) plan.commands
+plan_typed absent longest digest worker hot_keys (cold shard) after request clock later plan fits_blob mirrored owns not_hot is =
     subst (AllByRecursion (IsPathTypedIn false longest)) (sym is.commands) (
       (within, kind),
-      all-append (IsPathTypedIn false longest) (visit shard.frontier is.links inner) _
-          (visit_typed false longest digest (tree_of shard) key lead inner (command_typed longest request _ fits_blob, tt) shard.frontier shard.value is.links within kind (frontier_of shard) is.way)
-          ((within, tt), tt),
+      all-append (IsPathTypedIn false longest) (visit shard.frontier (links_gone shard is.links request missed) (end_command shard is.links request missed ∷ [])) _
+          (gone_typed missed) ((within, tt), tt),
     )
   where
     key : List Bool
@@ -191,9 +241,18 @@ plan_typed longest digest worker hot_keys (cold shard) after request clock later
     within : IsIn false shard.frontier
     within = frontier_in false longest shard key owns.0 owns.1 refl
 
-    inner : List Command
-    inner = command_of request (last_value shard.value is.links) ∷ []
-plan_typed longest digest worker hot_keys (hot found) after request clock later plan fits_blob mirrored owns not_hot is =
+    missed : Bool
+    missed = is_missed absent shard is.links request
+
+    gone_typed : (b : Bool) → AllByRecursion (IsPathTypedIn false longest) (visit shard.frontier (links_gone shard is.links request b) (end_command shard is.links request b ∷ []))
+    gone_typed true =
+        known_typed false longest digest (tree_of shard) key lead _ (absent_typed, tt) shard.frontier shard.value is.links within kind (frontier_of shard) is.way
+      where
+        absent_typed : IsPathTypedIn false longest (Absent key (end_path shard.frontier (links_known shard is.links request)))
+        absent_typed = ((refl, known_in false longest digest (tree_of shard) key lead shard.frontier shard.value is.links within kind (frontier_of shard) is.way), tt)
+    gone_typed false =
+        visit_typed false longest digest (tree_of shard) key lead _ (command_typed longest request _ fits_blob, tt) shard.frontier shard.value is.links within kind (frontier_of shard) is.way
+plan_typed absent longest digest worker hot_keys (hot found) after request clock later plan fits_blob mirrored owns not_hot is =
     subst (AllByRecursion (IsPathTypedIn false longest)) (sym is.commands)
     ((refl, (key_path-data false found.key, mirrored)), (command_typed longest request _ fits_blob, ((refl, tt), tt)))
-plan_typed longest digest worker hot_keys vacant after request clock later plan fits_blob mirrored owns not_hot is = absurd owns
+plan_typed absent longest digest worker hot_keys vacant after request clock later plan fits_blob mirrored owns not_hot is = absurd owns

@@ -14,6 +14,7 @@ use Rattle.record_text.specs.declared.value.Node.{Node}
 use Rattle.record_text.specs.declared.value.Value.{Value}
 use Rattle.record_text.specs.declared.value.Value.TheVariants as values
 use Rattle.record_text.specs.Value.{IsOf}
+use Rattle.log_codec.specs.declared.command.Command.{Command}
 use Rattle.merkle_records.specs.Merkle.{Digest, pointing, pointer_to}
 use Rattle.verifier_cache.specs.declared.entry.Hold.{Hold}
 use Rattle.verifier_cache.specs.declared.entry.Hold.TheVariants.{M}
@@ -27,7 +28,7 @@ use Rattle.host_shard.specs.Tree.{Tree}
 use Rattle.host_shard.specs.Chain.{IsChain, last_value, aimed_on, closed_value, closed_records}
 use Rattle.host_plan.specs.Visit.{visit}
 use Rattle.host_plan.specs.Request.{command_of, value_after}
-use Rattle.host_laws.specs.Running.{Told, added_told, evicted_told, accesses_told}
+use Rattle.host_laws.specs.Running.{Told, Access, added_told, evicted_told, accesses_told}
 use Rattle.host_laws.specs.Carried.{carried, IsVisited, IsCarried}
 use Rattle.host_laws.proofs.ToldLaws.{added_told-append, evicted_told-append, accesses_told-append, carried-append, all-append}
 use Rattle.host_laws.proofs.DepthLaws.{some_path, deeper}
@@ -36,20 +37,21 @@ use Rattle.host_laws.proofs.WorksLaws.{Works, told_visit, descend}
 use Rattle.host_laws.proofs.EndLemmas.{access_by, told_request, works_request}
 use Rattle.host_laws.proofs.ChainLaws.{LeadTo, AreOf, IsNext, next_fits}
 
--- What a request does behind the entry at the head of its chain: it adds and evicts no element, it does its one access
--- at the clock, and of each path at most one visit is told, which leads from the records before to those after it.
+-- What a command at the end of links does behind the entry at their head: it adds and evicts no element, it does its one
+-- access at the clock and leaves the last path this value, and of each path at most one visit is told, which leads from the
+-- records before to those after it.
 pub record Visited (rules : Rules) (base : Tree) (at : List Bool) (hold : Hold) (value : Value) (links : List Link)
-    (clock : Reading) (request : Request) (found : Value) : Type 0 where
+    (clock : Reading) (command : Command) (access : Access) (last : Value) : Type 0 where
   pub told : Told
-  pub works : Works rules (length links) at hold value clock (visit at links (command_of request found ∷ [])) told
-      (closed_value rules.scheme.digest false at value links (value_after request found)) clock
+  pub works : Works rules (length links) at hold value clock (visit at links (command ∷ [])) told
+      (closed_value rules.scheme.digest false at value links last) clock
   pub added : added_told told ≡ []
   pub evicted : evicted_told told ≡ []
-  pub accesses : accesses_told told ≡ access_by request found ∷ []
+  pub accesses : accesses_told told ≡ access ∷ []
   pub at_clock : AllByRecursion (λ (one : Stamp × Change). one.0 ≡ clock.at) told
   pub outside : (path : List Bool) → side at path ≡ None → carried path told ≡ []
   pub once : (path : List Bool) → IsCarried path (base path)
-      (closed_records rules.scheme.digest false base links (value_after request found) path) (carried path told)
+      (closed_records rules.scheme.digest false base links last path) (carried path told)
 
 -- ---- one link more
 
@@ -85,43 +87,25 @@ carried_link-own at hold node middle left on path taken last clock told none =
     evict : Change
     evict = did_evict_m (parent_of at middle hold on) (new_entry at (values.Node left) hold) (new_entry path last M)
 
-module _ (rules : Rules) (tree base : Tree) (clock : Reading) (request : Request)
-    (lead : LeadTo rules.scheme.format.longest rules.scheme.digest tree (key_path false request.key)) where
-  -- the longest value, and the path of the key
+module _ (rules : Rules) (tree base : Tree) (clock : Reading) (key : List Bool) (lead : LeadTo rules.scheme.format.longest rules.scheme.digest tree key) where
+  -- the longest value
   abbrev longest : ℕ
   longest = rules.scheme.format.longest
 
   abbrev digest : Digest
   digest = rules.scheme.digest
 
-  abbrev key : List Bool
-  key = key_path false request.key
-
   -- below this path the records are those of the tree
   abbrev pub IsBased : List Bool → Type 0
   IsBased at = (k : List Bool) (on : Bool) → side at k ≡ Some on → tree k ≡ base k
 
-  visited_end : (hold : Hold) (value : Value) → Visited rules base key hold value [] clock request value
-  visited_end hold value =
-      let at_end = works_request rules value clock request hold lead.whole in
-      record {
-        told = told_request request key hold value clock;
-        works = at_end.works;
-        added = at_end.added;
-        evicted = at_end.evicted;
-        accesses = at_end.accesses;
-        at_clock = (refl, tt);
-        outside = λ path apart. at_end.carried_none path;
-        once = λ path. inl (at_end.carried_none path, refl);
-      }
-
-  visited_link : (at : List Bool) (hold : Hold) (link : Link) (links : List Link) (value found : Value) → 0 < length at → IsBased at
-      → (next : IsNext longest digest tree key at value link)
-      → Visited rules base link.path M link.taken links clock request found
-      → Visited rules base at hold (values.Node next.node) (link ∷ links) clock request found
-  visited_link at hold link links value found some based next rest = record {
+  pub visited_link : (at : List Bool) (hold : Hold) (link : Link) (links : List Link) (command : Command) (access : Access) (value last : Value)
+      → 0 < length at → IsBased at → (next : IsNext longest digest tree key at value link)
+      → Visited rules base link.path M link.taken links clock command access last
+      → Visited rules base at hold (values.Node next.node) (link ∷ links) clock command access last
+  visited_link at hold link links command access value last some based next rest = record {
     told = told;
-    works = subst (λ (v : Value). Works rules (suc (length links)) at hold (values.Node next.node) clock (visit at (link ∷ links) (command_of request found ∷ [])) told v clock)
+    works = subst (λ (v : Value). Works rules (suc (length links)) at hold (values.Node next.node) clock (visit at (link ∷ links) (command ∷ [])) told v clock)
         (sym (ap (λ (s : Option Bool). aimed_on next.node (pointer_to digest link.path became) s) next.fits.below))
         (descend rules (length links) at link.path hold next.node next.on link.value link.taken became clock clock _ rest.told next.fits some rest.works);
     added = added_told-append rest.told _ ∙ ap (λ (xs : List _). xs ++ []) rest.added;
@@ -133,7 +117,7 @@ module _ (rules : Rules) (tree base : Tree) (clock : Reading) (request : Request
   }
     where
       became : Value
-      became = closed_value digest false link.path link.taken links (value_after request found)
+      became = closed_value digest false link.path link.taken links last
 
       left : Node
       left = pointing digest next.node next.on link.path became
@@ -156,7 +140,7 @@ module _ (rules : Rules) (tree base : Tree) (clock : Reading) (request : Request
           sym (based link.path next.on next.fits.below)
           ∙ next.brought (sym (ap (λ (s : Option Bool). is_known (above_on s (Some next.node)) link.path) next.fits.below) ∙ is)
 
-      own : IsVisited link.path (base link.path) (closed_records digest false base (link ∷ links) (value_after request found) link.path) (carried link.path told)
+      own : IsVisited link.path (base link.path) (closed_records digest false base (link ∷ links) last link.path) (carried link.path told)
       own = record {
         parent = new_entry at (values.Node next.node) hold;
         between = parent_of at next.fits.middle hold next.on;
@@ -168,36 +152,68 @@ module _ (rules : Rules) (tree base : Tree) (clock : Reading) (request : Request
         child_path = refl;
         gone_path = refl;
         brought = brought;
-        kept = ap (λ (b : Bool). if b then Some became else closed_records digest false base links (value_after request found) link.path) (same_path-self link.path);
+        kept = ap (λ (b : Bool). if b then Some became else closed_records digest false base links last link.path) (same_path-self link.path);
       }
 
-      once : (path : List Bool) → IsCarried path (base path) (closed_records digest false base (link ∷ links) (value_after request found) path) (carried path told)
+      once : (path : List Bool) → IsCarried path (base path) (closed_records digest false base (link ∷ links) last path) (carried path told)
       once path = go (same_path link.path path) refl
         where
           go : (b : Bool) → same_path link.path path ≡ b
-              → IsCarried path (base path) (closed_records digest false base (link ∷ links) (value_after request found) path) (carried path told)
+              → IsCarried path (base path) (closed_records digest false base (link ∷ links) last path) (carried path told)
           go true same =
-              subst (λ (k : List Bool). IsCarried k (base k) (closed_records digest false base (link ∷ links) (value_after request found) k) (carried k told))
+              subst (λ (k : List Bool). IsCarried k (base k) (closed_records digest false base (link ∷ links) last k) (carried k told))
               (same_path-true link.path path same) (inr own)
           go false apart =
-              subst (λ (changes : List Change). IsCarried path (base path) (closed_records digest false base (link ∷ links) (value_after request found) path) changes)
+              subst (λ (changes : List Change). IsCarried path (base path) (closed_records digest false base (link ∷ links) last path) changes)
               (sym (carried_link-other at hold next.node next.fits.middle left next.on link.path path link.taken became clock clock rest.told apart))
               (subst (λ (after : Option Value). IsCarried path (base path) after (carried path rest.told))
-              (sym (ap (λ (b : Bool). if b then Some became else closed_records digest false base links (value_after request found) path) other))
+              (sym (ap (λ (b : Bool). if b then Some became else closed_records digest false base links last path) other))
               (rest.once path))
             where
               other : same_path path link.path ≡ false
               other = same_path-apart path link.path (λ same. false≢true (sym apart ∙ (ap (same_path link.path) same ∙ same_path-self link.path)))
 
+  -- the entry of a path that lies below a touched one
+  pub at_next : (at : List Bool) (value : Value) (link : Link) (next : IsNext longest digest tree key at value link) → 0 < length at → IsBased at
+      → (0 < length link.path) × IsBased link.path
+  at_next at value link next some based = (
+    some_path link.path (deeper at link.path next.on some next.fits.below),
+    λ k on below. based k next.on (side-trans at link.path k next.on on next.fits.below below),
+  )
+
+module _ (rules : Rules) (tree base : Tree) (clock : Reading) (request : Request)
+    (lead : LeadTo rules.scheme.format.longest rules.scheme.digest tree (key_path false request.key)) where
+  -- the path of the key
+  abbrev asked : List Bool
+  asked = key_path false request.key
+
+  visited_end : (hold : Hold) (value : Value)
+      → Visited rules base asked hold value [] clock (command_of request value) (access_by request value) (value_after request value)
+  visited_end hold value =
+      let at_end = works_request rules value clock request hold lead.whole in
+      record {
+        told = told_request request asked hold value clock;
+        works = at_end.works;
+        added = at_end.added;
+        evicted = at_end.evicted;
+        accesses = at_end.accesses;
+        at_clock = (refl, tt);
+        outside = λ path apart. at_end.carried_none path;
+        once = λ path. inl (at_end.carried_none path, refl);
+      }
+
   -- A request works along its chain.
-  pub visited : (at : List Bool) (hold : Hold) (value : Value) (links : List Link) → 0 < length at → IsOf longest at value → AreOf tree value → IsBased at
-      → IsChain tree key at value links
-      → Visited rules base at hold value links clock request (last_value value links)
+  pub visited : (at : List Bool) (hold : Hold) (value : Value) (links : List Link) → 0 < length at → IsOf rules.scheme.format.longest at value → AreOf tree value
+      → IsBased rules tree base clock asked lead at → IsChain tree asked at value links
+      → let found = last_value value links in
+      Visited rules base at hold value links clock (command_of request found) (access_by request found) (value_after request found)
   visited at hold value [] some kind known based chain =
-      subst (λ (k : List Bool). Visited rules base k hold value [] clock request value) (sym chain) (visited_end hold value)
+      subst (λ (k : List Bool). Visited rules base k hold value [] clock (command_of request value) (access_by request value) (value_after request value)) (sym chain)
+      (visited_end hold value)
   visited at hold value (link ∷ links) some kind known based chain =
-      let next = next_fits longest digest tree key lead at value link kind known chain.0 in
-      let rest = visited link.path M link.taken links (some_path link.path (deeper at link.path next.on some next.fits.below)) next.kind next.known
-      (λ k on below. based k next.on (side-trans at link.path k next.on on next.fits.below below)) chain.1 in
-      subst (λ (v : Value). Visited rules base at hold v (link ∷ links) clock request (last_value link.taken links)) (sym next.is_node)
-      (visited_link at hold link links value (last_value link.taken links) some based next rest)
+      let found = last_value link.taken links in
+      let next = next_fits rules.scheme.format.longest rules.scheme.digest tree asked lead at value link kind known chain.0 in
+      let below = at_next rules tree base clock asked lead at value link next some based in
+      let rest = visited link.path M link.taken links below.0 next.kind next.known below.1 chain.1 in
+      subst (λ (v : Value). Visited rules base at hold v (link ∷ links) clock (command_of request found) (access_by request found) (value_after request found)) (sym next.is_node)
+      (visited_link rules tree base clock asked lead at hold link links (command_of request found) (access_by request found) value (value_after request found) some based next rest)

@@ -26,19 +26,19 @@ pub fn a_run_is_the_history()
 /// A verifier at rest accepts the plan of a request, whichever content owns the key: it takes in what waited, serves the
 /// request, hands out what then waits, and rests again. Nothing is asked of the digests.
 pub fn a_plan_runs()
-    ensures runs { (rules : Rules) (state : State) (content after : Content) (request : Request) (plan : Plan) (later : Reading)
+    ensures runs { (absent : Bool) (rules : Rules) (state : State) (content after : Content) (request : Request) (plan : Plan) (later : Reading)
         → CanTake rules state content → CanServe rules.scheme.format.longest rules.scheme.digest content request.key
-        → IsPlan rules.scheme.digest rules.number content request state.clock plan after later
+        → IsPlan absent rules.scheme.digest rules.number content request state.clock plan after later
         → PlanRuns rules state content after request plan later }
 {}
 
 /// Where the two counters that a request takes would pass the clock's end, its commands are refused for that, and for
 /// nothing else.
 pub fn a_request_past_the_end_is_refused()
-    ensures refused { (rules : Rules) (state : State) (content : Content) (request : Request) (links : List Link)
+    ensures refused { (absent : Bool) (rules : Rules) (state : State) (content : Content) (request : Request) (links : List Link)
         → IsResting rules state content → CanServe rules.scheme.format.longest rules.scheme.digest content request.key
         → AreLinks content request.key links → IsPastEnd content state.clock
-        → run rules state (commands_of content links request state.clock) ≡ Err ClockEnd }
+        → run rules state (commands_of absent content links request state.clock) ≡ Err ClockEnd }
 {}
 
 /// Verifier 0 accepts the commands of the setup from its opening state: it takes nothing in, and hands out what the new

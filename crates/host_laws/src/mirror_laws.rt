@@ -16,10 +16,10 @@ ghost use Rattle.host_laws.specs.Mirroring.{ContentMirrors, IsCold};
 
 /// A content mirrors again once it served a request, with the same keys hot. It is asked that digests have 32 bytes.
 pub fn a_plan_mirrors()
-    ensures mirrors { (longest : ℕ) (digest : Digest) (worker : ℕ) (hot_keys : List (List Bool)) (content after : Content) (request : Request)
+    ensures mirrors { (absent : Bool) (longest : ℕ) (digest : Digest) (worker : ℕ) (hot_keys : List (List Bool)) (content after : Content) (request : Request)
         (clock later : Reading) (plan : Plan)
         → GivesDigests digest → IsBlob longest request.value → ContentMirrors longest digest hot_keys content → Owns longest content request.key → IsCold hot_keys content request.key
-        → IsPlan digest worker content request clock plan after later → ContentMirrors longest digest hot_keys after }
+        → IsPlan absent digest worker content request clock plan after later → ContentMirrors longest digest hot_keys after }
     ensures serves { (longest : ℕ) (digest : Digest) (hot_keys : List (List Bool)) (content : Content) (key : ℕ)
         → ContentMirrors longest digest hot_keys content → Owns longest content key → IsCold hot_keys content key → CanServe longest digest content key }
 {}
@@ -27,10 +27,10 @@ pub fn a_plan_mirrors()
 /// The paths that a plan's commands name are of the tree whose keys have 64 bits, and the values that they bring in are of
 /// their paths' kinds.
 pub fn a_plan_is_typed()
-    ensures typed { (longest : ℕ) (digest : Digest) (worker : ℕ) (hot_keys : List (List Bool)) (content after : Content) (request : Request)
+    ensures typed { (absent : Bool) (longest : ℕ) (digest : Digest) (worker : ℕ) (hot_keys : List (List Bool)) (content after : Content) (request : Request)
         (clock later : Reading) (plan : Plan)
         → IsBlob longest request.value → ContentMirrors longest digest hot_keys content → Owns longest content request.key → IsCold hot_keys content request.key
-        → IsPlan digest worker content request clock plan after later → AllByRecursion (IsPathTypedIn false longest) plan.commands }
+        → IsPlan absent digest worker content request clock plan after later → AllByRecursion (IsPathTypedIn false longest) plan.commands }
 {}
 
 /// The shards of a setup mirror, with no hot keys.

@@ -1,5 +1,5 @@
 -- The commands of a plan are commands: each value is of its path's kind, and each path, stamp and number is in its range.
-use Rattle.std.proofs.Common.{ℕ, ◌≡◌, ◌<◌, ◌^◌, ◌≢◌, Bool, false, List, [], ◌∷◌, ◌++◌, Option, Some, None, IsSome, refl, sym, subst}
+use Rattle.std.proofs.Common.{ℕ, ◌≡◌, ◌<◌, ◌^◌, ◌≢◌, Bool, true, false, List, [], ◌∷◌, ◌++◌, Option, Some, None, IsSome, if◌then◌else◌, refl, sym, subst}
 use Rattle.std.proofs.lemmas.Bool.{false≢true}
 use Rattle.std.specs.List.{AllByRecursion}
 use Rattle.tree_keys.specs.Path.{side, IsBelow, IsData, IsPath}
@@ -10,15 +10,16 @@ use Rattle.record_text.specs.declared.value.Value.TheVariants as values
 use Rattle.record_text.specs.Value.{IsOf}
 use Rattle.record_text.specs.Element.{IsStamp}
 use Rattle.log_codec.specs.declared.command.Command.{Command}
+use Rattle.log_codec.specs.declared.command.Command.TheVariants.{Absent}
 use Rattle.log_codec.specs.Command.{IsPathCommand}
 use Rattle.tree_keys.proofs.SideLaws.{above_apart}
 use Rattle.tree_keys.proofs.TreeLaws.{data-path, node-path}
 use Rattle.host_shard.specs.declared.link.Link.{Link}
 use Rattle.host_shard.specs.Tree.{Tree}
-use Rattle.host_shard.specs.Chain.{IsChain}
+use Rattle.host_shard.specs.Chain.{IsChain, pointer_toward, known_links, end_path}
 use Rattle.host_shard.specs.Shard.{Shard, tree_of, rehashed}
-use Rattle.merkle_records.specs.Merkle.{Digest}
-use Rattle.host_shard.proofs.ChainLaws.{AreOf, next_of, closed_end}
+use Rattle.merkle_records.specs.Merkle.{Digest, leads_over}
+use Rattle.host_shard.proofs.ChainLaws.{AreOf, IsLinkOf, next_of, closed_end}
 use Rattle.host_plan.specs.Visit.{visit, between}
 
 -- the path of a value isn't longer than the keys of its tree
@@ -50,6 +51,40 @@ visit_typed longest tree key at value (link ∷ links) inner whole kinds kind ch
           ((path, above), tt),
     )
 
+-- the visit of the links that have records
+pub known_typed : (longest : ℕ) (tree : Tree) (key at : List Bool) (value : Value) (links : List Link) (inner : List Command)
+    → IsData key → AreOf longest tree → IsOf longest at value → IsChain tree key at value links
+    → AllByRecursion (IsPathCommand longest) inner → AllByRecursion (IsPathCommand longest) (visit at (known_links key at value links) inner)
+known_typed longest tree key at value [] inner whole kinds kind chain typed = typed
+known_typed longest tree key at value (link ∷ links) inner whole kinds kind chain typed =
+    let next = next_of longest tree key at value link whole kinds kind chain.0 in
+    go next (known_typed longest tree key link.path link.taken links inner whole kinds next.taken chain.1 typed)
+    (leads_over (pointer_toward value (side at key)) key)
+  where
+    go : IsLinkOf longest key at chain.0.on link → AllByRecursion (IsPathCommand longest) (visit link.path (known_links key link.path link.taken links) inner) → (b : Bool)
+        → AllByRecursion (IsPathCommand longest) (visit at (if b then link ∷ known_links key link.path link.taken links else []) inner)
+    go next more false = typed
+    go next more true =
+        let above = length-IsOf longest at value kind in
+        let path = length-IsOf longest link.path link.value next.value in (
+          (next.value, above),
+          AllByRecursion-append (IsPathCommand longest) (visit link.path (known_links key link.path link.taken links) inner) _ more ((path, above), tt),
+        )
+
+-- the path at their end isn't longer than a key
+known_end : (longest : ℕ) (tree : Tree) (key at : List Bool) (value : Value) (links : List Link)
+    → IsData key → AreOf longest tree → IsOf longest at value → IsChain tree key at value links
+    → IsPath (end_path at (known_links key at value links))
+known_end longest tree key at value [] whole kinds kind chain = length-IsOf longest at value kind
+known_end longest tree key at value (link ∷ links) whole kinds kind chain =
+    let next = next_of longest tree key at value link whole kinds kind chain.0 in
+    go (known_end longest tree key link.path link.taken links whole kinds next.taken chain.1) (leads_over (pointer_toward value (side at key)) key)
+  where
+    go : IsPath (end_path link.path (known_links key link.path link.taken links)) → (b : Bool)
+        → IsPath (end_path at (if b then link ∷ known_links key link.path link.taken links else []))
+    go more false = length-IsOf longest at value kind
+    go more true = more
+
 -- what stands between an add and an evict with a stamp
 pub between_typed : (longest : ℕ) (element : Element) (stamp : Stamp) (inner : List Command)
     → IsOf longest element.path element.value → IsStamp element.stamp → element.verifier < 2 ^ 16 → IsStamp stamp
@@ -77,6 +112,19 @@ pub chain_typed : (longest : ℕ) (tree : Tree) (key : List Bool) (element : Ele
 chain_typed longest tree key element links command stamp whole kinds kind chain added verifier evicted typed =
     between_typed longest element stamp (visit element.path links (command ∷ [])) kind added verifier evicted
     (visit_typed longest tree key element.path element.value links (command ∷ []) whole kinds kind chain (one_typed longest command typed))
+
+-- the whole of a plan's commands, where the inner one says that the key is absent under the last record on the way to it
+pub absent_typed : (longest : ℕ) (tree : Tree) (key : List Bool) (element : Element) (links : List Link) (stamp : Stamp)
+    → IsData key → AreOf longest tree → IsOf longest element.path element.value → IsChain tree key element.path element.value links
+    → IsStamp element.stamp → element.verifier < 2 ^ 16 → IsStamp stamp
+    → let known = known_links key element.path element.value links in
+    AllByRecursion (IsPathCommand longest) (between element stamp (visit element.path known (Absent key (end_path element.path known) ∷ [])))
+absent_typed longest tree key element links stamp whole kinds kind chain added verifier evicted =
+    let known = known_links key element.path element.value links in
+    let inner = Absent key (end_path element.path known) ∷ [] in
+    between_typed longest element stamp (visit element.path known inner) kind added verifier evicted
+    (known_typed longest tree key element.path element.value links inner whole kinds kind chain
+    (one_typed longest (Absent key (end_path element.path known)) (data-path key whole, known_end longest tree key element.path element.value links whole kinds kind chain)))
 
 -- a key of a shard has a record behind the chain to it
 pub rehashed_there : (digest : Digest) (shard now : Shard) (key : List Bool) (links : List Link) (last : Value)

@@ -10,13 +10,13 @@ use Rattle.record_text.specs.declared.value.Value.TheVariants as values
 use Rattle.log_codec.specs.declared.command.Command.{Command}
 use Rattle.merkle_records.specs.Merkle.{Digest}
 use Rattle.host_shard.specs.declared.link.Link.{Link}
-use Rattle.host_shard.specs.Chain.{IsChain, last_value}
+use Rattle.host_shard.specs.Chain.{IsChain}
 use Rattle.host_shard.specs.Shard.{Shard, tree_of}
 use Rattle.host_shard.specs.Content.{Content, cold, hot, vacant}
 use Rattle.host_shard.specs.Mirrors.{IsShard, IsKeyOf, Mirrors}
 use Rattle.host_plan.specs.declared.plans.Plan.{Plan}
 use Rattle.host_plan.specs.Moments.{renewing}
-use Rattle.host_plan.specs.Request.{cold_commands, hot_commands, served, served_hot, value_after}
+use Rattle.host_plan.specs.Request.{is_missed, value_before, cold_commands, hot_commands, served, served_hot, value_after}
 
 -- The content owns the key: it is a shard below whose frontier the key lies, or the key's hot record.
 abbrev pub Owns : ℕ → Content → ℕ → Type 0
@@ -61,30 +61,31 @@ AreLinks (hot record') key links = links ≡ []
 AreLinks vacant key links = ⊥
 
 -- the key's value before the request
-abbrev pub value_found : Content → List Link → Value
-value_found (cold shard) links = last_value shard.value links
-value_found (hot record') links = values.Blob record'.value
-value_found vacant links = values.Blob None
+abbrev pub value_found : Bool → Content → List Link → Request → Value
+value_found absent (cold shard) links request = value_before shard links (is_missed absent shard links request)
+value_found absent (hot record') links request = values.Blob record'.value
+value_found absent vacant links request = values.Blob None
 
 -- the commands of a request
-abbrev pub commands_of : Content → List Link → Request → Reading → List Command
-commands_of (cold shard) links request clock = cold_commands shard links request clock
-commands_of (hot record') links request clock = hot_commands record' request clock
-commands_of vacant links request clock = []
+abbrev pub commands_of : Bool → Content → List Link → Request → Reading → List Command
+commands_of absent (cold shard) links request clock = cold_commands shard links request clock (is_missed absent shard links request)
+commands_of absent (hot record') links request clock = hot_commands record' request clock
+commands_of absent vacant links request clock = []
 
 -- the content after it, where this worker serves it
-abbrev pub content_after : Digest → ℕ → Content → List Link → Request → Reading → Content
-content_after digest worker (cold shard) links request clock = cold (served digest worker shard links request clock)
-content_after digest worker (hot record') links request clock = hot (served_hot worker record' request clock)
-content_after digest worker vacant links request clock = vacant
+abbrev pub content_after : Bool → Digest → ℕ → Content → List Link → Request → Reading → Content
+content_after absent digest worker (cold shard) links request clock =
+    cold (served digest worker shard links request clock (is_missed absent shard links request))
+content_after absent digest worker (hot record') links request clock = hot (served_hot worker record' request clock)
+content_after absent digest worker vacant links request clock = vacant
 
 -- The plan of a request: its commands along the links to the key and its answer, which is the key's value after it, and
--- the content and the clock that it leaves.
-pub record IsPlan (digest : Digest) (worker : ℕ) (old : Content) (request : Request) (start : Reading)
+-- the content and the clock that it leaves. Where `absent`, a get of a key that has no record makes none.
+pub record IsPlan (absent : Bool) (digest : Digest) (worker : ℕ) (old : Content) (request : Request) (start : Reading)
     (plan : Plan) (new : Content) (end : Reading) : Type 0 where
   pub links : List Link
   pub way : AreLinks old request.key links
-  pub commands : plan.commands ≡ commands_of old links request start
-  pub answer : values.Blob plan.answer ≡ value_after request (value_found old links)
-  pub content : new ≡ content_after digest worker old links request start
+  pub commands : plan.commands ≡ commands_of absent old links request start
+  pub answer : values.Blob plan.answer ≡ value_after request (value_found absent old links request)
+  pub content : new ≡ content_after absent digest worker old links request start
   pub clock : end ≡ clock_after old start

@@ -1,16 +1,16 @@
 -- What one request does to a record, to a shard and to a hot record, and its commands.
-use Rattle.std.specs.Prelude.{ℕ, false, List, [], ◌∷◌, if◌then◌else◌}
+use Rattle.std.specs.Prelude.{ℕ, Bool, false, not, ◌&&◌, List, [], ◌∷◌, None, if◌then◌else◌}
 use Rattle.tree_keys.specs.Path.{key_path}
 use Rattle.lamport_clocks.specs.Reading.{Reading}
 use Rattle.record_text.specs.declared.request.Request.{Request}
 use Rattle.record_text.specs.declared.value.Value.{Value}
 use Rattle.record_text.specs.declared.value.Value.TheVariants as values
 use Rattle.log_codec.specs.declared.command.Command.{Command}
-use Rattle.log_codec.specs.declared.command.Command.TheVariants.{Get, Put}
+use Rattle.log_codec.specs.declared.command.Command.TheVariants.{Get, Put, Absent}
 use Rattle.merkle_records.specs.Merkle.{Digest}
 use Rattle.host_shard.specs.declared.link.Link.{Link}
 use Rattle.host_shard.specs.declared.content.HotRecord.{HotRecord}
-use Rattle.host_shard.specs.Chain.{last_value, closed_value, closed_records}
+use Rattle.host_shard.specs.Chain.{last_value, end_path, known_links, ends_new, closed_value, closed_records}
 use Rattle.host_shard.specs.Shard.{Shard, pending_shard, one_more, touched}
 use Rattle.host_shard.specs.Content.{pending_hot}
 use Rattle.host_plan.specs.Moments.{renewing}
@@ -26,25 +26,50 @@ command_of request found =
 abbrev pub value_after : Request → Value → Value
 value_after request found = if request.put then values.Blob request.value else found
 
--- The commands of a request for a key of a shard, along the chain to it.
-abbrev pub cold_commands : Shard → List Link → Request → Reading → List Command
-cold_commands shard links request clock =
-    between (pending_shard shard) (renewing clock shard.stamp).at
-    (visit shard.frontier links (command_of request (last_value shard.value links) ∷ []))
+-- Where `absent`, a get misses a key that has no record yet: none is made for it.
+abbrev pub is_missed : Bool → Shard → List Link → Request → Bool
+is_missed absent shard links request =
+    (absent && not request.put) && ends_new (key_path false request.key) shard.frontier shard.value links
 
--- The shard after it: the values that these commands leave, the stamp of the last evict, this worker as evictor, and one
--- touch more of the key.
-abbrev pub served : Digest → ℕ → Shard → List Link → Request → Reading → Shard
-served digest worker shard links request clock =
+-- the links that have records on the way to the key
+abbrev pub links_known : Shard → List Link → Request → List Link
+links_known shard links request = known_links (key_path false request.key) shard.frontier shard.value links
+
+-- the links that a request goes along: the whole chain, or of a key that it misses those that have records
+abbrev pub links_gone : Shard → List Link → Request → Bool → List Link
+links_gone shard links request missed = if missed then links_known shard links request else links
+
+-- the key's value before the request: none where it has no record
+abbrev pub value_before : Shard → List Link → Bool → Value
+value_before shard links missed = if missed then values.Blob None else last_value shard.value links
+
+-- the command at the end of the links: that of the request, or that the key is absent under the last of them
+abbrev pub end_command : Shard → List Link → Request → Bool → Command
+end_command shard links request missed =
+    if missed then Absent (key_path false request.key) (end_path shard.frontier (links_known shard links request))
+    else command_of request (last_value shard.value links)
+
+-- The commands of a request for a key of a shard, along the chain to it, whether it misses the key or not.
+abbrev pub cold_commands : Shard → List Link → Request → Reading → Bool → List Command
+cold_commands shard links request clock missed =
+    between (pending_shard shard) (renewing clock shard.stamp).at
+    (visit shard.frontier (links_gone shard links request missed) (end_command shard links request missed ∷ []))
+
+-- The shard behind these commands: the values that they leave, and one touch more of the key. Where that was missed, all
+-- stays as it was.
+abbrev pub gone_along : Digest → Shard → List Link → Request → Bool → Shard
+gone_along digest shard links request missed =
     let last = value_after request (last_value shard.value links) in
-    record {
-      frontier = shard.frontier;
-      value = closed_value digest false shard.frontier shard.value links last;
-      records = closed_records digest false shard.records links last;
-      stamp = (renewing clock shard.stamp).at;
-      evictor = worker;
-      touches = touched shard.touches (key_path false request.key);
+    record shard {
+      value = if missed then shard.value else closed_value digest false shard.frontier shard.value links last;
+      records = if missed then shard.records else closed_records digest false shard.records links last;
+      touches = if missed then shard.touches else touched shard.touches (key_path false request.key);
     }
+
+-- The shard after it: that with the stamp of the last evict, and this worker as evictor.
+abbrev pub served : Digest → ℕ → Shard → List Link → Request → Reading → Bool → Shard
+served digest worker shard links request clock missed =
+    record (gone_along digest shard links request missed) { stamp = (renewing clock shard.stamp).at; evictor = worker }
 
 -- The commands of a request for a hot key.
 abbrev pub hot_commands : HotRecord → Request → Reading → List Command

@@ -8,7 +8,7 @@ use Rattle.record_text.specs.declared.value.Value.{Value}
 use Rattle.record_text.specs.Value.{IsSide, IsOf}
 use Rattle.host_shard.specs.declared.link.Link.{Link}
 use Rattle.host_shard.specs.Tree.{Tree, pointer_of}
-use Rattle.host_shard.specs.Chain.{next_link, pointer_toward, last_value, IsChain}
+use Rattle.host_shard.specs.Chain.{next_link, pointer_toward, last_value, end_path, IsChain}
 use Rattle.std.specs.List.{slice_get}
 use Rattle.std.proofs.lemmas.Option.{none-some, same_Some}
 use Rattle.tree_keys.proofs.SideLaws.{prefix_of_side, prefix_cases}
@@ -134,3 +134,11 @@ last_of value (only ∷ []) link is = ap (λ (l : Link). l.taken) (sym (same_Som
 last_of value (first ∷ next ∷ links) link is =
     let further : suc (length (next ∷ links) - 1) ≡ length (first ∷ next ∷ links) - 1 = omega arith in
     last_of first.taken (next ∷ links) link (ap (λ (n : ℕ). slice_get (first ∷ next ∷ links) n) further ∙ is)
+
+-- the last link's path is the chain's end
+pub end_of : (at : List Bool) (links : List Link) (link : Link) → slice_get links (length links - 1) ≡ Some link → link.path ≡ end_path at links
+end_of at [] link is = absurd (none-some link is)
+end_of at (only ∷ []) link is = ap (λ (l : Link). l.path) (sym (same_Some only link is))
+end_of at (first ∷ next ∷ links) link is =
+    let further : suc (length (next ∷ links) - 1) ≡ length (first ∷ next ∷ links) - 1 = omega arith in
+    end_of first.path (next ∷ links) link (ap (λ (n : ℕ). slice_get (first ∷ next ∷ links) n) further ∙ is)

@@ -1,8 +1,8 @@
 //! The chain from a shard's frontier to a key.
-ghost use Rattle.std.specs.Prelude.{◌≡◌, ◌≤◌, false, vec_len, IfOk};
+ghost use Rattle.std.specs.Prelude.{◌≡◌, ◌↔◌, ◌≤◌, ◌<◌, true, false, length, take, vec_len, IfOk};
 ghost use Rattle.tree_keys.specs.Path.{key_path, side};
 ghost use Rattle.record_text.specs.Longest.{longest_blob};
-ghost use Rattle.host_shard.specs.Chain.{next_link, pointer_toward, last_value, IsChain};
+ghost use Rattle.host_shard.specs.Chain.{next_link, pointer_toward, last_value, end_path, known_links, ends_new, IsChain};
 ghost use Rattle.host_shard.specs.Mirrors.{IsShard, IsKeyOf};
 ghost use Rattle.host_shard.specs.Shard.{tree_of};
 ghost use Rattle.host_shard.specs.Shown.{shown};
@@ -10,6 +10,7 @@ ghost use Rattle.host_shard.specs.Shown.{shown};
 use crate::link::Link;
 use crate::shard::Shard;
 use base_words::Memory;
+use merkle_records::leads_over;
 use record_text::{Pointer, Value};
 use std::alloc::Global;
 use tree_keys::Path;
@@ -73,4 +74,46 @@ pub fn last_value<'a>(value: &'a Value, links: &'a [Link]) -> &'a Value
         Some(link) => &link.taken,
         None => value,
     }
+}
+
+/// The path at the chain's end, which is the path before it where there is no link.
+pub fn end_path<'a>(at: &'a Path, links: &'a [Link]) -> &'a Path
+    ensures path { result.now ≡ end_path at.now links.now }
+{
+    match links.last() {
+        Some(link) => &link.path,
+        None => at,
+    }
+}
+
+/// Whether a shard's chain to a key ends in a new record.
+pub fn ends_new(shard: &Shard, key: u64, links: &[Link]) -> bool
+    ensures new { result ≡ ends_new (key_path false key) shard.now.frontier shard.now.value links.now }
+{
+    count_known(&Path::of_key(key), &shard.frontier, &shard.value, links) < links.len()
+}
+
+/// The links of a shard's chain to a key that have records.
+pub fn known_links<'a>(shard: &Shard, key: u64, links: &'a [Link]) -> &'a [Link]
+    ensures known { result.now ≡ known_links (key_path false key)
+        shard.now.frontier shard.now.value links.now }
+    ensures within { length result.now ≤ length links.now }
+{
+    &links[..count_known(&Path::of_key(key), &shard.frontier, &shard.value, links)]
+}
+
+// How many of the links behind a path with its value have records. They are all of them, but where a chain ends in a new one.
+fn count_known(key: &Path, at: &Path, value: &Value, links: &[Link]) -> usize
+    ensures known { take result links.now ≡ known_links key.now at.now value.now links.now }
+    ensures within { result ≤ length links.now }
+    ensures new { (result < length links.now) ↔ (ends_new key.now at.now value.now links.now ≡ true) }
+{
+    let (link, rest) = match links.split_first() {
+        Some(parts) => parts,
+        None => return 0,
+    };
+    if !leads_over(&toward(value, at, key), key) {
+        return 0;
+    }
+    1 + count_known(key, &link.path, &link.taken, rest)
 }

@@ -14,7 +14,7 @@ mod rehashing;
 mod shard;
 mod waiting;
 
-pub use chains::{chain, last_value};
+pub use chains::{chain, end_path, ends_new, known_links, last_value};
 pub use content::{Content, HotRecord};
 pub use link::Link;
 pub use record::Record;

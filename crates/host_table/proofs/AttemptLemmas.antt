@@ -1,5 +1,5 @@
 -- What is noted of an attempt, and what one call and then another do to a hand.
-use Rattle.std.proofs.Common.{◌≡◌, ℕ, List, ◌++◌, append_assoc, sym, ap, ◌∙◌, subst, Option}
+use Rattle.std.proofs.Common.{◌≡◌, ℕ, Bool, List, ◌++◌, append_assoc, sym, ap, ◌∙◌, subst, Option}
 use Rattle.lamport_clocks.specs.declared.stamp.Stamp.{Stamp}
 use Rattle.lamport_clocks.specs.Reading.{Reading}
 use Rattle.record_text.specs.declared.request.Request.{Request}
@@ -29,10 +29,10 @@ pub clock_told : (terms : Terms) (clock : Reading) (stamp : Stamp) → IsClockOf
 clock_told terms clock stamp is at = λ i. record { first = sym is.first i; end = sym is.end i; at = at i }
 
 -- a service's plan, where the request has this one
-pub service_plan : (terms : Terms) (digest : Digest) (worker : ℕ) (x : Content) (request : Request) (clock : Reading) (plan : Plan) (after : Content) (later : Reading) (service : Service)
-    → digest ≡ terms.digest → shown_content service.before ≡ x → service.request ≡ request → service.clock ≡ clock
-    → IsPlan terms.digest service.worker (shown_content service.before) service.request service.clock service.plan (shown_content service.after) service.later
-    → IsPlan digest worker x request clock plan after later → (service.plan ≡ plan) × (service.later ≡ later)
-service_plan terms digest worker x request clock plan after later service same before asked at mine its =
-    plan_one terms.digest service.worker worker (shown_content service.before) service.request service.clock service.plan plan (shown_content service.after) after service.later later mine
-    (subst (λ (t : Digest × Content × Request × Reading). IsPlan t.0 worker t.1 t.2 t.3 plan after later) (λ i. (same i, sym before i, sym asked i, sym at i)) its)
+pub service_plan : (terms : Terms) (absent : Bool) (digest : Digest) (worker : ℕ) (x : Content) (request : Request) (clock : Reading) (plan : Plan) (after : Content) (later : Reading) (service : Service)
+    → absent ≡ terms.absent → digest ≡ terms.digest → shown_content service.before ≡ x → service.request ≡ request → service.clock ≡ clock
+    → IsPlan terms.absent terms.digest service.worker (shown_content service.before) service.request service.clock service.plan (shown_content service.after) service.later
+    → IsPlan absent digest worker x request clock plan after later → (service.plan ≡ plan) × (service.later ≡ later)
+service_plan terms absent digest worker x request clock plan after later service told same before asked at mine its =
+    plan_one terms.absent terms.digest service.worker worker (shown_content service.before) service.request service.clock service.plan plan (shown_content service.after) after service.later later mine
+    (subst (λ (t : Bool × Digest × Content × Request × Reading). IsPlan t.0 t.1 worker t.2 t.3 t.4 plan after later) (λ i. (told i, same i, sym before i, sym asked i, sym at i)) its)

@@ -25,7 +25,7 @@ use Rattle.host_shard.specs.Shown.{shown_content}
 use Rattle.host_shard.proofs.ChainLaws.{frontier_kind, last_kind}
 use Rattle.host_shard.proofs.ShardLaws.{rehashed_is}
 use Rattle.host_plan.specs.declared.plans.Plan.{Plan}
-use Rattle.host_plan.specs.Request.{value_after, served}
+use Rattle.host_plan.specs.Request.{is_missed, value_after, served}
 use Rattle.host_plan.specs.Plan.{Owns, IsOpenAt, IsPastEnd, AreLinks, IsPlan, clock_after, commands_of, value_found}
 use Rattle.host_table.specs.declared.told.Service.{Service}
 use Rattle.host_table.specs.Terms.{Terms, IsStampOf, IsStamped, first_at, phase_epoch}
@@ -42,10 +42,11 @@ after_kind longest request found fits whole kind = go request.put
     go true = (whole, fits)
     go false = kind
 
-shard_owns : (longest : ℕ) (digest : Digest) (worker : ℕ) (shard : Shard) (request : Request) (clock : Reading) (links : List Link)
+shard_owns : (longest : ℕ) (digest : Digest) (worker : ℕ) (shard : Shard) (request : Request) (clock : Reading) (links : List Link) (missed : Bool)
     → GivesDigests digest → IsBlob longest request.value → IsShard longest shard → IsKeyOf shard (key_path false request.key)
-    → IsChain (tree_of shard) (key_path false request.key) shard.frontier shard.value links → IsShard longest (served digest worker shard links request clock)
-shard_owns longest digest worker shard request clock links digests fits is own chain =
+    → IsChain (tree_of shard) (key_path false request.key) shard.frontier shard.value links → IsShard longest (served digest worker shard links request clock missed)
+shard_owns longest digest worker shard request clock links true digests fits is own chain = record { below_root = is.below_root; no_data = is.no_data; kinds = is.kinds }
+shard_owns longest digest worker shard request clock links false digests fits is own chain =
     let last = value_after request (last_value shard.value links) in
     let rehashed = rehashed_is longest digest shard (key_path false request.key) links last digests is own
     (after_kind longest request (last_value shard.value links) fits own.whole
@@ -53,14 +54,14 @@ shard_owns longest digest worker shard request clock links digests fits is own c
     record { below_root = rehashed.below_root; no_data = rehashed.no_data; kinds = rehashed.kinds }
 
 -- what a content owned before a request it owns after it
-pub plan_owns : (longest : ℕ) (digest : Digest) (worker : ℕ) (content after : Content) (request : Request) (clock later : Reading) (plan : Plan)
-    → GivesDigests digest → IsBlob longest request.value → Owns longest content request.key → IsPlan digest worker content request clock plan after later
+pub plan_owns : (absent : Bool) (longest : ℕ) (digest : Digest) (worker : ℕ) (content after : Content) (request : Request) (clock later : Reading) (plan : Plan)
+    → GivesDigests digest → IsBlob longest request.value → Owns longest content request.key → IsPlan absent digest worker content request clock plan after later
     → (key : ℕ) → Owns longest content key → Owns longest after key
-plan_owns longest digest worker (cold shard) after request clock later plan digests fits own is key owns =
+plan_owns absent longest digest worker (cold shard) after request clock later plan digests fits own is key owns =
     subst (λ (c : Content). Owns longest c key) (sym is.content)
-    (shard_owns longest digest worker shard request clock is.links digests fits own.0 own.1 is.way, record { whole = owns.1.whole; below = owns.1.below })
-plan_owns longest digest worker (hot kept) after request clock later plan digests fits own is key owns = subst (λ (c : Content). Owns longest c key) (sym is.content) owns
-plan_owns longest digest worker vacant after request clock later plan digests fits own is key owns = absurd owns
+    (shard_owns longest digest worker shard request clock is.links (is_missed absent shard is.links request) digests fits own.0 own.1 is.way, record { whole = owns.1.whole; below = owns.1.below })
+plan_owns absent longest digest worker (hot kept) after request clock later plan digests fits own is key owns = subst (λ (c : Content). Owns longest c key) (sym is.content) owns
+plan_owns absent longest digest worker vacant after request clock later plan digests fits own is key owns = absurd owns
 
 module _ (terms : Terms) (digests : GivesDigests terms.digest) where
   -- a content that a place has had owns the keys that the place owned at the making
@@ -75,7 +76,7 @@ module _ (terms : Terms) (digests : GivesDigests terms.digest) where
       let own : Owns longest_blob (shown_content (first_at terms place)) service.request.key =
       subst (λ (p : ℕ). Owns longest_blob (shown_content (first_at terms p)) service.request.key) leads.0 served.at.owns in
       owns_from place service.after past y
-      (λ k o. plan_owns longest_blob terms.digest service.worker (shown_content service.before) (shown_content service.after) service.request service.clock service.later service.plan
+      (λ k o. plan_owns terms.absent longest_blob terms.digest service.worker (shown_content service.before) (shown_content service.after) service.request service.clock service.later service.plan
       digests served.value (before service.request.key own) served.plan k (before k o))
       leads.3 key owns
 
@@ -89,18 +90,18 @@ at_most : (n limit limit' : ℕ) → limit ≡ limit' → (limit < n → ⊥) �
 at_most n limit limit' same within = ⊎_elim (λ past. absurd (within past)) (λ le. omega (arith, le, same)) (cases_lt limit n)
 
 -- the element that a served request leaves is of the clock after it
-plan_stamped : (header : Header) (epoch worker : ℕ) (digest : Digest) (content after : Content) (request : Request) (clock later : Reading) (plan : Plan)
+plan_stamped : (absent : Bool) (header : Header) (epoch worker : ℕ) (digest : Digest) (content after : Content) (request : Request) (clock later : Reading) (plan : Plan)
     → worker < header.verifiers → clock.at.epoch ≡ epoch → clock.end ≡ header.end → (IsPastEnd content clock → ⊥)
-    → IsPlan digest worker content request clock plan after later → IsStamped header epoch after
-plan_stamped header epoch worker digest (cold shard) after request clock later plan known in_epoch end within is =
+    → IsPlan absent digest worker content request clock plan after later → IsStamped header epoch after
+plan_stamped absent header epoch worker digest (cold shard) after request clock later plan known in_epoch end within is =
     subst (IsStamped header epoch) (sym is.content)
     (λ element found. subst (λ (e : Element). IsStampOf header epoch e.stamp e.verifier) (same_Some _ element found)
     record { verifier = known; epoch_is = in_epoch; counter = at_most (clock_after (cold shard) clock).at.counter clock.end header.end end within })
-plan_stamped header epoch worker digest (hot kept) after request clock later plan known in_epoch end within is =
+plan_stamped absent header epoch worker digest (hot kept) after request clock later plan known in_epoch end within is =
     subst (IsStamped header epoch) (sym is.content)
     (λ element found. subst (λ (e : Element). IsStampOf header epoch e.stamp e.verifier) (same_Some _ element found)
     record { verifier = known; epoch_is = in_epoch; counter = at_most (clock_after (hot kept) clock).at.counter clock.end header.end end within })
-plan_stamped header epoch worker digest vacant after request clock later plan known in_epoch end within is =
+plan_stamped absent header epoch worker digest vacant after request clock later plan known in_epoch end within is =
     subst (IsStamped header epoch) (sym is.content) (λ element found. absurd (none-some element found))
 
 module _ (terms : Terms) (few : terms.workers ≤ terms.header.verifiers) where
@@ -113,7 +114,7 @@ module _ (terms : Terms) (few : terms.workers ≤ terms.header.verifiers) where
   stamped_from place x (service ∷ past) y from leads =
       let served = leads.2 in
       stamped_from place service.after past y
-      (plan_stamped terms.header (phase_epoch terms) service.worker terms.digest (shown_content service.before) (shown_content service.after) service.request service.clock service.later service.plan
+      (plan_stamped terms.absent terms.header (phase_epoch terms) service.worker terms.digest (shown_content service.before) (shown_content service.after) service.request service.clock service.later service.plan
       (omega (arith, served.by, few)) served.clock.epoch served.clock.end served.within served.plan)
       leads.3
 
@@ -159,10 +160,10 @@ blob_in (values.Blob blob) = blob
 blob_in (values.Node node) = None
 
 -- a request has one plan
-pub plan_one : (digest : Digest) (worker other_worker : ℕ) (content : Content) (request : Request) (clock : Reading) (plan other : Plan) (after other_after : Content) (later other_later : Reading)
-    → IsPlan digest worker content request clock plan after later → IsPlan digest other_worker content request clock other other_after other_later → (plan ≡ other) × (later ≡ other_later)
-plan_one digest worker other_worker content request clock plan other after other_after later other_later one two =
+pub plan_one : (absent : Bool) (digest : Digest) (worker other_worker : ℕ) (content : Content) (request : Request) (clock : Reading) (plan other : Plan) (after other_after : Content) (later other_later : Reading)
+    → IsPlan absent digest worker content request clock plan after later → IsPlan absent digest other_worker content request clock other other_after other_later → (plan ≡ other) × (later ≡ other_later)
+plan_one absent digest worker other_worker content request clock plan other after other_after later other_later one two =
     let links = links_one content request.key one.links two.links one.way two.way in
-    let commands : plan.commands ≡ other.commands = one.commands ∙ (ap (λ ls. commands_of content ls request clock) links ∙ sym two.commands) in
-    let answer : plan.answer ≡ other.answer = ap blob_in (one.answer ∙ (ap (λ ls. value_after request (value_found content ls)) links ∙ sym two.answer)) in
+    let commands : plan.commands ≡ other.commands = one.commands ∙ (ap (λ ls. commands_of absent content ls request clock) links ∙ sym two.commands) in
+    let answer : plan.answer ≡ other.answer = ap blob_in (one.answer ∙ (ap (λ ls. value_after request (value_found absent content ls request)) links ∙ sym two.answer)) in
     ((λ i. record { commands = commands i; answer = answer i }), one.clock ∙ sym two.clock)

@@ -10,6 +10,7 @@ terms_of functions making = record {
   digest = (functions making.digests.value).digest;
   header = making.header;
   workers = making.workers;
+  absent = making.absent;
   contents = making.contents.value.items;
 }
 

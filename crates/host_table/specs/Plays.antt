@@ -153,7 +153,7 @@ gathered v w = v
 -- ---- what stands where nothing is picked
 
 abbrev pub no_terms : Terms
-no_terms = record { digest = λ text. []; header = header_by_path 0 0 0 0; workers = 0; contents = [] }
+no_terms = record { digest = λ text. []; header = header_by_path 0 0 0 0; workers = 0; absent = false; contents = [] }
 
 abbrev pub no_draft : Draft
 no_draft = record {

@@ -1,5 +1,5 @@
 -- What a table of records is made with: the contents of its places, and who works on them.
-use Rattle.std.specs.Prelude.{◌≡◌, ℕ, ◌/◌, ◌<◌, ◌≤◌, List, [], ◌∷◌, length, get_or}
+use Rattle.std.specs.Prelude.{◌≡◌, ℕ, Bool, ◌/◌, ◌<◌, ◌≤◌, List, [], ◌∷◌, length, get_or}
 use Rattle.std.specs.Option.{ForSome}
 use Rattle.lamport_clocks.specs.declared.header.Header.{Header}
 use Rattle.lamport_clocks.specs.declared.stamp.Stamp.{Stamp}
@@ -13,12 +13,13 @@ use Rattle.host_shard.specs.Content.{Content, pending}
 use Rattle.host_shard.specs.Shown.{shown_content}
 use Rattle.host_plan.specs.Plan.{Owns}
 
--- the digest of a value's text, the numbers of the bundle, how many workers there are, and the contents at the making, in
--- the order of the places
+-- the digest of a value's text, the numbers of the bundle, how many workers there are, whether a get of a key that has no
+-- record makes none, and the contents at the making, in the order of the places
 pub record Terms : Type 0 where
   pub digest : Digest
   pub header : Header
   pub workers : ℕ
+  pub absent : Bool
   pub contents : List code.Content
 
 abbrev pub place_count : Terms → ℕ

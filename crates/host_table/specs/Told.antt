@@ -21,7 +21,7 @@ pub record IsServed (terms : Terms) (service : Service) : Type 0 where
   pub at : IsPlaceOf terms service.place service.request.key
   pub value : IsBlob longest_blob service.request.value
   pub clock : IsClockOf terms service.clock
-  pub plan : IsPlan terms.digest service.worker (shown_content service.before) service.request service.clock
+  pub plan : IsPlan terms.absent terms.digest service.worker (shown_content service.before) service.request service.clock
       service.plan (shown_content service.after) service.later
   pub within : IsPastEnd (shown_content service.before) service.clock → ⊥
 

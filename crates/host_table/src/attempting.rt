@@ -60,7 +60,15 @@ impl<D: Digests> Records<D> {
         };
         let before = clock.at();
         a_blob_has_at_most_64_bytes(&request.value);
-        match plan(alloc, d, &mut content, request, hand.number, clock) {
+        match plan(
+            alloc,
+            d,
+            &mut content,
+            request,
+            hand.number,
+            clock,
+            self.absent,
+        ) {
             Ok(plan) => {
                 note::<D, Brand>(&self.board, hand, place, before, request, &content);
                 put_back(&self.board, hand, place, content);

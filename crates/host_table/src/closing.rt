@@ -24,7 +24,7 @@ impl<D: Digests> Records<D> {
         requires all { AreAll (table self) (terms D.functions self).workers hands.items }
         ensures phase { IsPhase (terms D.functions self) result.items (map told_by hands.items) }
     {
-        let Records { board, room } = self;
+        let Records { board, room, .. } = self;
         let seat = enter::<D, Brand>(&board);
         let seat = gather(&board, seat, hands);
         hand_out(board.close_with(seat), room)

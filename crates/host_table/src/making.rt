@@ -7,13 +7,15 @@ use record_hash::Digests;
 use std::alloc::Global;
 use std::snapshot::Snapshot;
 
-/// What the rule is told once: the digests, the bundle's numbers, the contents at the making, and how many workers there are.
+/// What the rule is told once: the digests, the bundle's numbers, the contents at the making, how many workers there are, and
+/// whether a get of a key that has no record makes none.
 #[derive(Drop)]
 pub struct Making<D> {
     pub digests: Snapshot<D>,
     pub header: Header,
     pub contents: Snapshot<Vec<Content>>,
     pub workers: u16,
+    pub absent: bool,
 }
 
 /// The rule that holds between any two steps: `specs/Rule.antt` says it.

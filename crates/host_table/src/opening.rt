@@ -21,20 +21,22 @@ use std::alloc::Global;
 use std::snapshot::Snapshot;
 
 impl<D: Digests> Records<D> {
-    /// A table of these contents, and a hand for each of so many workers, in the order of their numbers. For want of memory
-    /// the contents come back.
+    /// A table of these contents, and a hand for each of so many workers, in the order of their numbers. Where `absent`, a get
+    /// of a key that has no record makes none. For want of memory the contents come back.
     pub fn make(
         alloc: Global,
         d: &D,
         header: &Header,
         contents: Vec<Content>,
         workers: u16,
+        absent: bool,
     ) -> Result<(Records<D>, Vec<Hand>), Refused>
         requires making { IsMaking header.now workers contents.items }
         ensures terms { IfOk result (λ made. terms D.functions made.0 ≡ record {
           digest = (D.functions d.now).digest;
           header = header.now;
           workers = workers;
+          absent = absent;
           contents = contents.items;
         }) }
         ensures hands { IfOk result (λ made. AreAll (table made.0) workers made.1.items) }
@@ -46,6 +48,7 @@ impl<D: Digests> Records<D> {
             header: *header,
             contents: Snapshot::of(&contents),
             workers,
+            absent,
         };
         let Ok(words) = Vec::from_elem(alloc, 0u64, contents.len()) else {
             return Err(Refused { contents });
@@ -59,7 +62,14 @@ impl<D: Digests> Records<D> {
         match Table::new(alloc, words.as_slice(), contents, &making) {
             Ok((board, seat)) => {
                 let hands = deal(&board, seat, hands, workers);
-                Ok((Records { board, room }, hands))
+                Ok((
+                    Records {
+                        board,
+                        room,
+                        absent,
+                    },
+                    hands,
+                ))
             }
             Err(refused) => {
                 let atomic_table::Refused { slots } = refused;

@@ -12,9 +12,12 @@ pub struct Records<D: Digests> {
     pub(crate) board: Board<D>,
     /// Where the contents are gathered at the end.
     pub(crate) room: Vec<Content>,
+    // As it was made: what the rule was told stands in proofs alone.
+    pub(crate) absent: bool,
     ghost words: { board.shared.table_id.words ≡ length board.shared.key.contents.value.items },
     ghost slots: { board.shared.table_id.slots ≡ length board.shared.key.contents.value.items },
     ghost making: { IsMaking board.shared.key.header board.shared.key.workers board.shared.key.contents.value.items },
+    ghost told: { absent ≡ board.shared.key.absent },
     ghost empty: { vec_len room ≡ 0 },
     ghost roomy: { length board.shared.key.contents.value.items ≤ vec_capacity room },
 }

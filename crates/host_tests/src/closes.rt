@@ -195,14 +195,24 @@ impl Seats {
     {
         for index in 0..4 {
             if is_hot_at(&self.hot[index], request.key) {
-                serve(rt, alloc, d, &mut self.hot[index], request, 0, clock, log);
+                serve(
+                    rt,
+                    alloc,
+                    d,
+                    &mut self.hot[index],
+                    request,
+                    0,
+                    false,
+                    clock,
+                    log,
+                );
                 return;
             }
         }
         if !owns(&self.cold, request.key) {
             panic!(rt; "no place of this key");
         }
-        serve(rt, alloc, d, &mut self.cold, request, 0, clock, log);
+        serve(rt, alloc, d, &mut self.cold, request, 0, false, clock, log);
     }
 
     // Serves the request of a row under toy digests.

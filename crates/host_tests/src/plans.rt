@@ -207,9 +207,101 @@ evictB /1 0.21
     ),
 ];
 
+// The same where a get of a key that has no record makes none: of worker 0 and counter 2.
+const ABSENT: [(&str, &str, &str); 2] = [
+    (
+        "a key that was never put, and one that was put and deleted",
+        "
+get 7
+get 7
+put 5 61
+del 5
+get 5
+get 7
+",
+        "
+addB /0 -,- 0.1 v0
+absent 7 /0
+evictB /0 0.4
+addB /0 -,- 0.4 v0
+absent 7 /0
+evictB /0 0.6
+addB /0 -,- 0.6 v0
+addM 5 none /0
+put 5 61
+evictM 5 /0
+evictB /0 0.8
+addB /0 5:63,- 0.8 v0
+addM 5 61 /0
+put 5 none
+evictM 5 /0
+evictB /0 0.10
+addB /0 5:00,- 0.10 v0
+addM 5 none /0
+get 5 none
+evictM 5 /0
+evictB /0 0.12
+addB /0 5:00,- 0.12 v0
+absent 7 /0
+evictB /0 0.14
+",
+    ),
+    (
+        "a key below a fork, one that a fork is due for, and one of a shard without records",
+        "
+put 6 01
+put 4 02
+get 5
+get 9
+get 4
+get 9223372036854775809
+",
+        "
+addB /0 -,- 0.1 v0
+addM 6 none /0
+put 6 01
+evictM 6 /0
+evictB /0 0.4
+addB /0 6:03,- 0.4 v0
+addM 4/62 -,- /0
+addM 4 none 4/62
+put 4 02
+evictM 4 4/62
+evictM 4/62 /0
+evictB /0 0.6
+addB /0 4/62:93,- 0.6 v0
+addM 4/62 4:04,6:03 /0
+absent 5 4/62
+evictM 4/62 /0
+evictB /0 0.8
+addB /0 4/62:93,- 0.8 v0
+absent 9 /0
+evictB /0 0.10
+addB /0 4/62:93,- 0.10 v0
+addM 4/62 4:04,6:03 /0
+addM 4 02 4/62
+get 4 02
+evictM 4 4/62
+evictM 4/62 /0
+evictB /0 0.12
+addB /1 -,- 0.2 v0
+absent 9223372036854775809 /1
+evictB /1 0.14
+",
+    ),
+];
+
 // The bytes that a worker logs for these requests on two new shards.
-fn logged(rt: &impl Abort, alloc: Global, worker: u16, counter: u32, requests: &str) -> Vec<u8> {
+fn logged(
+    rt: &impl Abort,
+    alloc: Global,
+    worker: u16,
+    counter: u32,
+    absent: bool,
+    requests: &str,
+) -> Vec<u8> {
     let mut host = Host::new(alloc, worker, counter);
+    host.absent = absent;
     for row in requests.trim().lines() {
         let request = request_of(rt, alloc, row);
         host.serve(rt, alloc, &ToyDigests, &request);
@@ -220,7 +312,16 @@ fn logged(rt: &impl Abort, alloc: Global, worker: u16, counter: u32, requests: &
 #[test]
 fn plans_are_those_of_the_slow_program(rt: HostRuntime) {
     for (label, worker, counter, requests, rows) in CASES {
-        let log = logged(&rt, rt.alloc(), worker, counter, requests);
+        let log = logged(&rt, rt.alloc(), worker, counter, false, requests);
+        let wanted = bytes_of_rows(&rt, rt.alloc(), rows);
+        same_bytes(&rt, label, &log, &wanted);
+    }
+}
+
+#[test]
+fn plans_without_new_records_are_those_of_the_slow_program(rt: HostRuntime) {
+    for (label, requests, rows) in ABSENT {
+        let log = logged(&rt, rt.alloc(), 0, 2, true, requests);
         let wanted = bytes_of_rows(&rt, rt.alloc(), rows);
         same_bytes(&rt, label, &log, &wanted);
     }
@@ -358,6 +459,7 @@ fn a_hot_key_is_taken_alone(rt: HostRuntime) {
         &mut content,
         &get_at_5(),
         1,
+        false,
         &mut clock,
         &mut log,
     );

@@ -24,6 +24,8 @@ pub struct Host {
     pub high: Content,
     pub worker: u16,
     pub clock: Clock,
+    /// Whether a get of a key that has no record makes none.
+    pub absent: bool,
     pub log: Vec<u8>,
 }
 
@@ -39,6 +41,7 @@ impl Host {
             high: fresh(alloc, &root.child(true), 2),
             worker,
             clock: clock_at(counter),
+            absent: false,
             log: Vec::new(alloc),
         }
     }
@@ -58,6 +61,7 @@ impl Host {
     {
         let path = Path::of_key(request.key);
         let worker = self.worker;
+        let absent = self.absent;
         if path.is_below(&Path::root().child(false)) {
             return serve(
                 rt,
@@ -66,6 +70,7 @@ impl Host {
                 &mut self.low,
                 request,
                 worker,
+                absent,
                 &mut self.clock,
                 &mut self.log,
             );
@@ -78,6 +83,7 @@ impl Host {
                 &mut self.high,
                 request,
                 worker,
+                absent,
                 &mut self.clock,
                 &mut self.log,
             );
@@ -127,6 +133,7 @@ pub fn serve<D: Digests>(
     content: &mut Content,
     request: &Request,
     worker: u16,
+    absent: bool,
     clock: &mut Clock,
     log: &mut Vec<u8>,
 ) -> Blob
@@ -141,7 +148,7 @@ pub fn serve<D: Digests>(
     if epoch != clock.at().epoch {
         panic!(rt; "another epoch");
     }
-    match plan(alloc, d, content, request, worker, clock) {
+    match plan(alloc, d, content, request, worker, clock, absent) {
         Ok(plan) => {
             push_all(rt, log, plan.commands.as_slice());
             plan.answer

@@ -27,6 +27,7 @@ fn settings() -> Settings
         header: header(),
         shards: 2,
         hot: None,
+        absent: false,
     }
 }
 

@@ -61,14 +61,14 @@ frontier-set digest seats mirrors seat new same =
     go (suc k) content is = refl
 
 -- a request leaves it
-serve_frontier : (digest : Digest) (i epoch : ℕ) (clock : Reading) (seats : List Content) (seat : ℕ) (request : Request) (done : Done Content)
-    → IsOrderlyShard digest epoch seats → serve_at digest i clock (get_or seats seat vacant) request ≡ Some done
+serve_frontier : (absent : Bool) (digest : Digest) (i epoch : ℕ) (clock : Reading) (seats : List Content) (seat : ℕ) (request : Request) (done : Done Content)
+    → IsOrderlyShard digest epoch seats → serve_at absent digest i clock (get_or seats seat vacant) request ≡ Some done
     → frontier_in (set seats seat done.after) ≡ frontier_in seats
-serve_frontier digest i epoch clock seats seat request done orderly served =
+serve_frontier absent digest i epoch clock seats seat request done orderly served =
     frontier-set digest seats orderly.mirrors seat done.after
     (subst (λ (d : Done Content). IsSame longest_blob digest seats orderly.mirrors (get_or seats seat vacant) d.after)
-    (sym (done_is digest i clock (get_or seats seat vacant) request done served))
-    (content-same longest_blob digest seats orderly.mirrors i (get_or seats seat vacant) _ request clock))
+    (sym (done_is absent digest i clock (get_or seats seat vacant) request done served))
+    (content-same longest_blob digest seats orderly.mirrors absent i (get_or seats seat vacant) _ request clock))
 
 -- a move leaves it
 move_frontier : (digest : Digest) (i epoch : ℕ) (threshold : Option ℕ) (clock : Reading) (seats : List Content) (done : Done (List Content))
@@ -108,12 +108,12 @@ module _ (functions : DigestFunctions) (settings : Settings) (script : List (Lis
     (least : IfSome settings.hot (λ touches. 0 < touches)) (keys : AreInRange script) where
   serve_step : (world : World Content) (i : ℕ) (place : Place) (request : Request) → IsOrderly functions settings script world
       → MayServe (host functions settings script) world i place request → (done : Option (Done Content))
-      → serve_at functions.digest i (worker_at (host functions settings script) world i).clock (get_or (shard_at world place.shard).contents place.seat vacant) request ≡ done
+      → serve_at settings.absent functions.digest i (worker_at (host functions settings script) world i).clock (get_or (shard_at world place.shard).contents place.seat vacant) request ≡ done
       → frontiers (after_serve world i (worker_at (host functions settings script) world i) place (shard_at world place.shard) done) ≡ frontiers world
   serve_step world i place request orderly may None is = refl
   serve_step world i place request orderly may (Some done) is =
       shard_frontiers world place.shard (record (shard_at world place.shard) { contents = set (shard_at world place.shard).contents place.seat done.after })
-      (serve_frontier functions.digest i _ (worker_at (host functions settings script) world i).clock (shard_at world place.shard).contents place.seat request done
+      (serve_frontier settings.absent functions.digest i _ (worker_at (host functions settings script) world i).clock (shard_at world place.shard).contents place.seat request done
       (orderly.shards place.shard may.there.0) is)
 
   move_step : (world : World Content) (i s : ℕ) → IsOrderly functions settings script world

@@ -124,7 +124,7 @@ module _ (functions : DigestFunctions) (settings : Settings) (script : List (Lis
     -- a request
     serve_orderly : (world : World Content) (i : ℕ) (place : Place) (request : Request) → IsOrderly functions settings script world → MayServe host world i place request
         → (done : Option (Done Content))
-        → serve_at functions.digest i (worker_at host world i).clock (get_or (shard_at world place.shard).contents place.seat vacant) request ≡ done
+        → serve_at settings.absent functions.digest i (worker_at host world i).clock (get_or (shard_at world place.shard).contents place.seat vacant) request ≡ done
         → IsOrderly functions settings script (after_serve world i (worker_at host world i) place (shard_at world place.shard) done)
     serve_orderly world i place request orderly may None is =
         same_clock_keeps world i (record (worker_at host world i) { stopped = true }) orderly refl
@@ -136,7 +136,7 @@ module _ (functions : DigestFunctions) (settings : Settings) (script : List (Lis
         let whole : IsOrderlyShard functions.digest clock.at.epoch seats.contents =
         subst (λ (e : ℕ). IsOrderlyShard functions.digest e seats.contents) (omega (arith, epoch, ap moved_by still)) (orderly.shards place.shard may.there.0) in
         let small = next_in_range functions settings script keys world i request may.next in
-        let kept = serve_keeps longest_blob functions.digest i clock seats.contents place.seat request done digests whole.mirrors small may.owns is in
+        let kept = serve_keeps settings.absent longest_blob functions.digest i clock seats.contents place.seat request done digests whole.mirrors small may.owns is in
         let after : IsOrderlyShard functions.digest clock.at.epoch (set seats.contents place.seat done.after) = record {
           mirrors = kept.mirrors;
           stamped = waits-set (λ element. element.stamp.epoch ≡ clock.at.epoch) seats.contents place.seat done.after

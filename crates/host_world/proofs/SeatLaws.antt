@@ -187,19 +187,19 @@ module _ (longest : ℕ) (digest : Digest) (seats : List Content) (mirrors : Sea
       hot_after k (get_or mirrors.places k vacant) new refl (subst (λ (xs : List Content). IsSame (get_or xs (suc k) vacant) new) mirrors.is same) mirrored
 
   -- what a request makes of a content is the same shard or hot record
-  pub content-same : (worker : ℕ) (content : Content) (links : List Link) (request : Request) (clock : Reading)
-      → IsSame content (content_after digest worker content links request clock)
-  content-same worker (cold shard) links request clock = refl
-  content-same worker (hot found) links request clock = refl
-  content-same worker vacant links request clock = tt
+  pub content-same : (absent : Bool) (worker : ℕ) (content : Content) (links : List Link) (request : Request) (clock : Reading)
+      → IsSame content (content_after absent digest worker content links request clock)
+  content-same absent worker (cold shard) links request clock = refl
+  content-same absent worker (hot found) links request clock = refl
+  content-same absent worker vacant links request clock = tt
 
 -- and waits with the stamp of the clock behind it
-pub content-waits : (digest : Digest) (worker : ℕ) (content : Content) (links : List Link) (request : Request) (clock : Reading)
+pub content-waits : (absent : Bool) (digest : Digest) (worker : ℕ) (content : Content) (links : List Link) (request : Request) (clock : Reading)
     → AllByRecursion (λ element. (element.verifier ≡ worker) × (element.stamp.epoch ≡ clock.at.epoch))
-    (waiting (pending (content_after digest worker content links request clock)))
-content-waits digest worker (cold shard) links request clock = ((refl, refl), tt)
-content-waits digest worker (hot found) links request clock = ((refl, refl), tt)
-content-waits digest worker vacant links request clock = tt
+    (waiting (pending (content_after absent digest worker content links request clock)))
+content-waits absent digest worker (cold shard) links request clock = ((refl, refl), tt)
+content-waits absent digest worker (hot found) links request clock = ((refl, refl), tt)
+content-waits absent digest worker vacant links request clock = tt
 
 -- the same clock but for its counter
 pub record SameEpoch (old new : Reading) : Type 0 where
@@ -217,25 +217,25 @@ pub record ServeKeeps (longest : ℕ) (digest : Digest) (worker : ℕ) (clock : 
   pub waits : AllByRecursion (λ element. (element.verifier ≡ worker) × (element.stamp.epoch ≡ clock.at.epoch)) (waiting (pending done.after))
   pub same_epoch : SameEpoch clock done.clock
 
-pub serve_keeps : (longest : ℕ) (digest : Digest) (worker : ℕ) (clock : Reading) (seats : List Content) (seat : ℕ) (request : Request) (done : Done Content)
+pub serve_keeps : (absent : Bool) (longest : ℕ) (digest : Digest) (worker : ℕ) (clock : Reading) (seats : List Content) (seat : ℕ) (request : Request) (done : Done Content)
     → GivesDigests digest → SeatsMirror longest digest seats → request.key < 2 ^ key_bits false → is_place_of longest seats seat request ≡ true
-    → serve_at digest worker clock (get_or seats seat vacant) request ≡ Some done
+    → serve_at absent digest worker clock (get_or seats seat vacant) request ≡ Some done
     → ServeKeeps longest digest worker clock seats seat done
-serve_keeps longest digest worker clock seats seat request done digests mirrors small owns served =
-    go (served_is_planned longest digest worker clock (get_or seats seat vacant) request done serves.own served)
+serve_keeps absent longest digest worker clock seats seat request done digests mirrors small owns served =
+    go (served_is_planned absent longest digest worker clock (get_or seats seat vacant) request done serves.own served)
   where
     serves : SeatServes longest digest (hot_paths mirrors.places) (get_or seats seat vacant) request
     serves = seat_serves longest digest seats mirrors seat request small owns
 
-    go : IsPlanned digest worker clock (get_or seats seat vacant) request done → ServeKeeps longest digest worker clock seats seat done
+    go : IsPlanned absent digest worker clock (get_or seats seat vacant) request done → ServeKeeps longest digest worker clock seats seat done
     go planned = record {
       mirrors = seats_after longest digest seats mirrors seat done.after
           (subst (λ (c : Content). IsSame longest digest seats mirrors (get_or seats seat vacant) c) (sym planned.is.content)
-          (content-same longest digest seats mirrors worker (get_or seats seat vacant) planned.is.links request clock))
-          (plan_mirrors longest digest worker (hot_paths mirrors.places) (get_or seats seat vacant) done.after request clock done.clock planned.plan
+          (content-same longest digest seats mirrors absent worker (get_or seats seat vacant) planned.is.links request clock))
+          (plan_mirrors absent longest digest worker (hot_paths mirrors.places) (get_or seats seat vacant) done.after request clock done.clock planned.plan
           digests serves.fits serves.mirrors serves.own serves.cold_there planned.is);
       waits = subst (λ (c : Content). AllByRecursion (λ element. (element.verifier ≡ worker) × (element.stamp.epoch ≡ clock.at.epoch)) (waiting (pending c))) (sym planned.is.content)
-          (content-waits digest worker (get_or seats seat vacant) planned.is.links request clock);
+          (content-waits absent digest worker (get_or seats seat vacant) planned.is.links request clock);
       same_epoch = subst (SameEpoch clock) (sym planned.is.clock) (clock-same (get_or seats seat vacant) clock);
     }
 

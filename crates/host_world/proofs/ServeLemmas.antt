@@ -30,49 +30,49 @@ links_are_of longest (hot record') key links own way = way
 links_are_of longest vacant key links own way = absurd own
 
 -- what is done to serve a request, along these links
-abbrev pub done_along : ℕ → Digest → ℕ → Reading → Content → Request → List Link → Done Content
-done_along longest digest worker clock content request links = record {
-  commands = commands_of content links request clock;
-  after = content_after digest worker content links request clock;
+abbrev pub done_along : Bool → ℕ → Digest → ℕ → Reading → Content → Request → List Link → Done Content
+done_along absent longest digest worker clock content request links = record {
+  commands = commands_of absent content links request clock;
+  after = content_after absent digest worker content links request clock;
   clock = clock_after content clock;
 }
 
-module _ (longest : ℕ) (digest : Digest) (worker : ℕ) (clock : Reading) (content : Content) (request : Request) where
+module _ (absent : Bool) (longest : ℕ) (digest : Digest) (worker : ℕ) (clock : Reading) (content : Content) (request : Request) where
   -- where the counters pass their end
-  pub serve_past : IsPastEnd content clock → serve_at digest worker clock content request ≡ None
+  pub serve_past : IsPastEnd content clock → serve_at absent digest worker clock content request ≡ None
   serve_past past =
-      ap (λ (b : Bool). if b then None else Some (done_along longest digest worker clock content request (links_of content request.key)))
+      ap (λ (b : Bool). if b then None else Some (done_along absent longest digest worker clock content request (links_of content request.key)))
       (lt-ltb clock.end (clock_after content clock).at.counter past)
 
   -- where they don't
-  pub serve_within : (IsPastEnd content clock → ⊥) → serve_at digest worker clock content request ≡ Some (done_along longest digest worker clock content request (links_of content request.key))
+  pub serve_within : (IsPastEnd content clock → ⊥) → serve_at absent digest worker clock content request ≡ Some (done_along absent longest digest worker clock content request (links_of content request.key))
   serve_within within = go (nat_lt clock.end (clock_after content clock).at.counter) refl
     where
       go : (b : Bool) → nat_lt clock.end (clock_after content clock).at.counter ≡ b
-          → (if b then None else Some (done_along longest digest worker clock content request (links_of content request.key)))
-          ≡ Some (done_along longest digest worker clock content request (links_of content request.key))
+          → (if b then None else Some (done_along absent longest digest worker clock content request (links_of content request.key)))
+          ≡ Some (done_along absent longest digest worker clock content request (links_of content request.key))
       go true past = absurd (within (ltb-true clock.end (clock_after content clock).at.counter past))
       go false is = refl
 
   -- A plan is what is done.
   pub plan_is_served : (plan : Plan) (after : Content) (later : Reading) → Owns longest content request.key → (IsPastEnd content clock → ⊥)
-      → IsPlan digest worker content request clock plan after later
-      → serve_at digest worker clock content request ≡ Some (record { commands = plan.commands; after = after; clock = later })
+      → IsPlan absent digest worker content request clock plan after later
+      → serve_at absent digest worker clock content request ≡ Some (record { commands = plan.commands; after = after; clock = later })
   plan_is_served plan after later own within is =
       serve_within within
-      ∙ ap (λ (links : List Link). Some (done_along longest digest worker clock content request links)) (sym (links_are_of longest content request.key is.links own is.way))
-      ∙ ap (λ (commands : List Command). Some (record { commands = commands; after = content_after digest worker content is.links request clock; clock = clock_after content clock })) (sym is.commands)
+      ∙ ap (λ (links : List Link). Some (done_along absent longest digest worker clock content request links)) (sym (links_are_of longest content request.key is.links own is.way))
+      ∙ ap (λ (commands : List Command). Some (record { commands = commands; after = content_after absent digest worker content is.links request clock; clock = clock_after content clock })) (sym is.commands)
       ∙ ap (λ (c : Content). Some (record { commands = plan.commands; after = c; clock = clock_after content clock })) (sym is.content)
       ∙ ap (λ (r : Reading). Some (record { commands = plan.commands; after = after; clock = r })) (sym is.clock)
 
 -- what was done to serve a request, where it was
-pub done_is : (digest : Digest) (i : ℕ) (clock : Reading) (content : Content) (request : Request) (done : Done Content)
-    → serve_at digest i clock content request ≡ Some done
-    → done ≡ done_along longest_blob digest i clock content request (links_of content request.key)
-done_is digest i clock content request done is = go (nat_lt clock.end (clock_after content clock).at.counter) is
+pub done_is : (absent : Bool) (digest : Digest) (i : ℕ) (clock : Reading) (content : Content) (request : Request) (done : Done Content)
+    → serve_at absent digest i clock content request ≡ Some done
+    → done ≡ done_along absent longest_blob digest i clock content request (links_of content request.key)
+done_is absent digest i clock content request done is = go (nat_lt clock.end (clock_after content clock).at.counter) is
   where
-    go : (b : Bool) → (if b then None else Some (done_along longest_blob digest i clock content request (links_of content request.key))) ≡ Some done
-        → done ≡ done_along longest_blob digest i clock content request (links_of content request.key)
+    go : (b : Bool) → (if b then None else Some (done_along absent longest_blob digest i clock content request (links_of content request.key))) ≡ Some done
+        → done ≡ done_along absent longest_blob digest i clock content request (links_of content request.key)
     go true is = absurd (false≢true (ap is_some is))
     go false is = sym (same_Some _ _ is)
 

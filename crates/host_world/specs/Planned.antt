@@ -1,5 +1,5 @@
 -- What the shipped host does, as plans and moves.
-use Rattle.std.specs.Prelude.{◌≡◌, ℕ, List, Option}
+use Rattle.std.specs.Prelude.{◌≡◌, ℕ, Bool, List, Option}
 use Rattle.lamport_clocks.specs.Reading.{Reading}
 use Rattle.record_text.specs.declared.request.Request.{Request}
 use Rattle.merkle_records.specs.Merkle.{Digest}
@@ -12,9 +12,9 @@ use Rattle.protection_moves.specs.Move as moves
 use Rattle.host_world.specs.Moving.{seats_of}
 
 -- What was done to serve a request is its plan, whose counters don't pass their end.
-pub record IsPlanned (digest : Digest) (worker : ℕ) (clock : Reading) (content : Content) (request : Request) (done : Done Content) : Type 0 where
+pub record IsPlanned (absent : Bool) (digest : Digest) (worker : ℕ) (clock : Reading) (content : Content) (request : Request) (done : Done Content) : Type 0 where
   pub plan : Plan
-  pub is : plans.IsPlan digest worker content request clock plan done.after done.clock
+  pub is : plans.IsPlan absent digest worker content request clock plan done.after done.clock
   pub logged : done.commands ≡ plan.commands
   pub within : plans.IsPastEnd content clock → ⊥
 

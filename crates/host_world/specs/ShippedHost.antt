@@ -57,12 +57,12 @@ abbrev pub told : Request → Request
 told request = record { put = request.put; key = request.key; value = if request.put then request.value else None }
 
 -- Serving a request: none where its two counters would pass their end.
-abbrev pub serve_at : Digest → ℕ → Reading → Content → Request → Option (Done Content)
-serve_at digest worker clock content request =
+abbrev pub serve_at : Bool → Digest → ℕ → Reading → Content → Request → Option (Done Content)
+serve_at absent digest worker clock content request =
     if nat_lt clock.end (clock_after content clock).at.counter then None
     else Some (record {
-      commands = commands_of content (links_of content request.key) request clock;
-      after = content_after digest worker content (links_of content request.key) request clock;
+      commands = commands_of absent content (links_of content request.key) request clock;
+      after = content_after absent digest worker content (links_of content request.key) request clock;
       clock = clock_after content clock;
     })
 
@@ -101,6 +101,6 @@ shipped_host functions settings script =
       telling = told;
       script = map (map turn_of) script;
       setup = set_up_by header bits;
-      serve = λ i clock content request. serve_at functions.digest i clock content request;
+      serve = λ i clock content request. serve_at settings.absent functions.digest i clock content request;
       move = λ i clock s seats. move_seats functions.digest i settings.hot (stage_of clock seats);
     }

@@ -148,7 +148,7 @@ parted_log functions =
 
 -- one worker, whose counters end at most, and four shards
 abbrev pub four_shards : Settings
-four_shards = record { header = header_by_path 1 128 0 most; shards = 4; hot = None }
+four_shards = record { header = header_by_path 1 128 0 most; shards = 4; hot = None; absent = false }
 
 -- a frontier two bits below the root
 abbrev pub at : Bool → Bool → List Bool

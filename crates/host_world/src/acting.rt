@@ -62,7 +62,16 @@ impl<'a, D: Digests> World<'a, D> {
         let number = worker as usize;
         let seats = &mut self.shards[shard];
         let server = &mut self.workers[number];
-        if seats.serve(self.alloc, self.d, server, worker, place, seat, request)? {
+        if seats.serve(
+            self.alloc,
+            self.d,
+            server,
+            worker,
+            place,
+            seat,
+            request,
+            self.settings.absent,
+        )? {
             return Ok(None);
         }
         let at = self.workers[number].clock().at();

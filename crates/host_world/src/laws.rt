@@ -38,9 +38,9 @@ pub fn a_chain_is_its_links()
 
 /// What the shipped host serves is the plan of the request.
 pub fn what_is_served_is_planned()
-    ensures planned { (longest : ℕ) (digest : Digest) (worker : ℕ) (clock : Reading) (content : Content) (request : Request) (done : Done Content)
-        → Owns longest content request.key → serve_at digest worker clock content request ≡ Some done
-        → IsPlanned digest worker clock content request done }
+    ensures planned { (absent : Bool) (longest : ℕ) (digest : Digest) (worker : ℕ) (clock : Reading) (content : Content) (request : Request) (done : Done Content)
+        → Owns longest content request.key → serve_at absent digest worker clock content request ≡ Some done
+        → IsPlanned absent digest worker clock content request done }
 {}
 
 /// The keys that are promotable to become hot are one list: there is one, and no other.

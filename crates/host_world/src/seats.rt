@@ -58,14 +58,15 @@ impl Seats {
         place: u32,
         seat: usize,
         request: &Request,
+        absent: bool,
     ) -> Result<bool, Memory>
         requires there { seat < length (contents_of self.old) }
         requires own { Owns longest_blob (get_or (contents_of self.old) seat vacant) request.now.key }
         requires open { IsOpenAt worker.old.clock (get_or (contents_of self.old) seat vacant) }
-        ensures within { IfOk result (λ served. served ≡ is_some (serve_at (D.functions d.now).digest
+        ensures within { IfOk result (λ served. served ≡ is_some (serve_at absent (D.functions d.now).digest
             number worker.old.clock (get_or (contents_of self.old) seat vacant) request.now)) }
         ensures served { result ≡ Ok true
-            → HasServed (place_of place) (serve_at (D.functions d.now).digest
+            → HasServed (place_of place) (serve_at absent (D.functions d.now).digest
             number worker.old.clock (get_or (contents_of self.old) seat vacant) request.now)
             worker.old (get_or (contents_of self.new) seat vacant) worker.new }
         ensures seat_alone { contents_of self.new
@@ -75,9 +76,17 @@ impl Seats {
         ensures as_before { result ≢ Ok true → contents_of self.new ≡ contents_of self.old }
     {
         if seat == 0 {
-            return worker.serve(alloc, d, number, place, &mut self.first, request);
+            return worker.serve(alloc, d, number, place, &mut self.first, request, absent);
         }
-        worker.serve(alloc, d, number, place, &mut self.hot[seat - 1], request)
+        worker.serve(
+            alloc,
+            d,
+            number,
+            place,
+            &mut self.hot[seat - 1],
+            request,
+            absent,
+        )
     }
 
     // A worker moves the shard for this threshold, where its clock does not pass its end: it answers that. Else, and for

@@ -11,4 +11,6 @@ pub struct Settings {
     /// How often a key is touched in an epoch, at least, so that it becomes hot at its close: once or more. Without it no key
     /// does.
     pub hot: Option<u32>,
+    /// Whether a get of a key that was never put makes no record of it.
+    pub absent: bool,
 }

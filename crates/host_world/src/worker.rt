@@ -255,13 +255,14 @@ impl Worker {
         place: u32,
         content: &mut Content,
         request: &Request,
+        absent: bool,
     ) -> Result<bool, Memory>
         requires own { Owns longest_blob (shown_content content.old) request.now.key }
         requires open { IsOpenAt self.old.clock (shown_content content.old) }
-        ensures within { IfOk result (λ served. served ≡ is_some (serve_at (D.functions d.now).digest
+        ensures within { IfOk result (λ served. served ≡ is_some (serve_at absent (D.functions d.now).digest
             number self.old.clock (shown_content content.old) request.now)) }
         ensures served { result ≡ Ok true
-            → HasServed (place_of place) (serve_at (D.functions d.now).digest
+            → HasServed (place_of place) (serve_at absent (D.functions d.now).digest
             number self.old.clock (shown_content content.old) request.now)
             self.old (shown_content content.new) self.new }
         ensures worker_as_before { result ≢ Ok true → self.new ≡ self.old }
@@ -272,7 +273,7 @@ impl Worker {
             None => return Err(Memory),
         };
         self.log.reserve(1)?;
-        match plan(alloc, d, content, request, number, &mut self.clock) {
+        match plan(alloc, d, content, request, number, &mut self.clock, absent) {
             Ok(plan) => {
                 self.log.push_reserved(plan.commands);
                 self.served = served;

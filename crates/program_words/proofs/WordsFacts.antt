@@ -68,7 +68,7 @@ accepting = refl
 -- ---- run
 
 abbrev numbers : HostNumbers
-numbers = record { verifiers = 1; shards = 2; hot = None; first = 0; counter = 16777215; version = 1 }
+numbers = record { verifiers = 1; shards = 2; hot = None; first = 0; counter = 16777215; version = 1; absent = false }
 
 abbrev host_words : List (List ℕ)
 host_words = codes "fastver" ∷ codes "run" ∷ codes "--key=00112233445566778899aabbccddeeff" ∷ codes "--verifiers" ∷ codes "1" ∷ codes "--shards" ∷ codes "2" ∷ []
@@ -101,6 +101,11 @@ no_version = refl
 run_with_receipts : asked_of (host_words ++ codes "--receipts" ∷ []) ≡ Some (Run (record { key = key; numbers = numbers; logs = None; receipts = true }))
 unfolding clap_on_literals hex_on_literals number_between
 run_with_receipts = refl
+
+-- with no records of keys that were never put
+absent_run : asked_of (host_words ++ codes "--absent" ∷ []) ≡ Some (Run (record { key = key; numbers = record numbers { absent = true }; logs = None; receipts = false }))
+unfolding clap_on_literals hex_on_literals number_between
+absent_run = refl
 
 -- a number past its range, and one that begins with a zero
 no_counter : asked_of (host_words ++ codes "--counter=16777216" ∷ []) ≡ None
@@ -139,3 +144,8 @@ no_format = refl
 no_receipts : asked_of (load_words ++ codes "--seed=0" ∷ codes "--receipts" ∷ []) ≡ None
 unfolding clap_on_literals hex_on_literals number_between
 no_receipts = refl
+
+-- and makes records of all keys that it asks for
+no_absent : asked_of (load_words ++ codes "--seed=0" ∷ codes "--absent" ∷ []) ≡ None
+unfolding clap_on_literals hex_on_literals number_between
+no_absent = refl

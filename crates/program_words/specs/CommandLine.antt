@@ -37,9 +37,11 @@ with_host_options app =
     let logged = with_option (with_option needed (codes "hot") false) (codes "logs") false in
     with_option (with_option logged (codes "first") false) (codes "counter") false
 
--- the command `run`, with the options of a host, one for the version of its bundle, and its flag for receipts
+-- the command `run`, with the options of a host, one for the version of its bundle, and its flags for absence and for receipts
 abbrev pub run_app : App
-run_app = with_flag (with_option (with_host_options (command_with_key (codes "run"))) (codes "format") false) (codes "receipts")
+run_app =
+    let formatted = with_option (with_host_options (command_with_key (codes "run"))) (codes "format") false in
+    with_flag (with_flag formatted (codes "absent")) (codes "receipts")
 
 -- the command `gen`, with the options of a load and of a host
 abbrev pub gen_app : App

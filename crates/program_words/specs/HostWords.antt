@@ -2,6 +2,7 @@
 use Rattle.std.specs.Prelude.{◌≡◌, ℕ, ◌-◌, ◌^◌, ◌<◌, ◌≤◌, ◌==◌, IfSome, Bool, List, [], ◌∷◌, Option, Some, None, codes, option_and_then, unwrap_or, if◌then◌else◌}
 use Rattle.std.specs.List.{list_any}
 use Rattle.clap.specs.Walk.{Row, Text, first_of}
+use Rattle.program_words.specs.Found.{flag_in}
 use Rattle.program_words.specs.Numbers.{given, needed_in, optional_in}
 use Rattle.program_words.specs.declared.host_words.HostNumbers.{HostNumbers}
 
@@ -48,6 +49,7 @@ numbers_in rows =
       first = unwrap_or first 0;
       counter = unwrap_or counter greatest_end;
       version = unwrap_or version first_version;
+      absent = flag_in (codes "absent") rows;
     })))))))
 
 -- a power of two from 2 to 1,024

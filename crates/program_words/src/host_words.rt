@@ -3,7 +3,7 @@ ghost use Rattle.std.specs.Prelude.{◌≡◌, ◌==◌, Some, None, IfOk, codes
 ghost use Rattle.clap.specs.Words.{first_of, found_of, rows_of};
 ghost use Rattle.program_words.specs.HostWords.{is_shard_count, shards_in, numbers_in};
 
-use crate::found::word_of;
+use crate::found::{flag_of, word_of};
 use crate::key::Key;
 use crate::numbers::{needed, optional};
 use clap::ArgMatches;
@@ -39,6 +39,8 @@ pub struct HostNumbers {
     pub counter: u32,
     /// Which version of the format its bundle has.
     pub version: u8,
+    /// Whether a get of a key that was never put makes no record of it.
+    pub absent: bool,
 }
 
 /// A path, as a word gives it. Contracts see its bytes.
@@ -102,6 +104,7 @@ pub(crate) fn numbers_of(found: &ArgMatches<'_>) -> Option<HostNumbers>
         first: first.unwrap_or(0),
         counter: counter.unwrap_or(GREATEST_END),
         version: version.unwrap_or(FIRST_VERSION) as u8,
+        absent: flag_of(found, "absent"),
     })
 }
 

@@ -6,7 +6,7 @@ use Rattle.std.proofs.lemmas.Bool.Decides.{nat_tests}
 use Rattle.std.proofs.lemmas.Option.{none-some, same_Some}
 use Rattle.std.proofs.lemmas.Result.{IfOk-at_ok}
 use Rattle.tree_keys.specs.Path.{side, same_path, IsPath, is_data}
-use Rattle.tree_keys.proofs.TreeLaws.{data-path, node-path}
+use Rattle.tree_keys.proofs.TreeLaws.{data-path, node-path, is-data}
 use Rattle.lamport_clocks.specs.declared.stamp.Stamp.{Stamp}
 use Rattle.lamport_clocks.specs.Clock.{received, sent, advanced}
 use Rattle.base_words.proofs.StepLaws.{test-ok}
@@ -17,7 +17,7 @@ use Rattle.record_text.specs.Texts.{value_text}
 use Rattle.record_text.specs.Value.{IsOf, node_side, initial_value}
 use Rattle.record_text.proofs.SameTestLaws.{same_value-true}
 use Rattle.log_codec.specs.declared.command.Command.{Command}
-use Rattle.log_codec.specs.declared.command.Command.TheVariants.{AddM, EvictM, AddB, EvictB, EvictBM, Get, Put, NextEpoch}
+use Rattle.log_codec.specs.declared.command.Command.TheVariants.{AddM, EvictM, AddB, EvictB, EvictBM, Get, Put, NextEpoch, Absent}
 use Rattle.log_codec.specs.Command.{IsPathCommand}
 use Rattle.merkle_records.specs.declared.cases.AddCase.{AddCase}
 use Rattle.merkle_records.specs.declared.cases.AddCase.TheVariants as cases
@@ -31,8 +31,8 @@ use Rattle.verifier_cache.specs.Cache.{entry_of, without, changed, replaced}
 use Rattle.verifier_cache.proofs.EntriesLaws.{entry_of-path}
 use Rattle.verifier_commands.specs.declared.state.State.{State}
 use Rattle.verifier_commands.specs.Change.{Change}
-use Rattle.verifier_commands.specs.Changes.{Parent, Family, node_of, above_on, above, leads_to, is_deferred, has_digest, leads_below, holds_wrong, is_by_digest, is_by_stamp, set_kid_on, family_of, add_by, add_under, evict_under, defer_under}
-use Rattle.verifier_commands.specs.Transition.{Rules, Step, is_root, is_full, transition, add_m, evict_m, add_b, evict_b, evict_bm, get, put}
+use Rattle.verifier_commands.specs.Changes.{Parent, Family, node_of, above_on, above, leads_to, is_deferred, has_digest, leads_below, holds_wrong, is_by_digest, is_by_stamp, set_kid_on, family_of, add_by, add_under, evict_under, defer_under, absent_under}
+use Rattle.verifier_commands.specs.Transition.{Rules, Step, is_root, is_full, transition, add_m, evict_m, add_b, evict_b, evict_bm, get, put, absent}
 use Rattle.verifier_commands.proofs.InvertLaws.{need-ok, and_then-ok, timed-ok}
 use Rattle.verifier_commands.proofs.TickLaws.{ticks_step}
 use Rattle.soundness.specs.Certified.{added_by}
@@ -285,6 +285,16 @@ module _ (rules : Rules) (digests : GivesDigests rules.scheme.digest) (few : rul
               (subst (λ (p : List Bool). IsOf longest p value) (sym (entry_of-path path xs entry.0 entry.1)) kind) good.kinds;
         })
 
+    fits_absent : (path parent : List Bool) → absent state path parent ≡ Ok done → Fits longest (Absent path parent) done
+    fits_absent path parent is =
+        let at_data = test-ok (not (is_data path)) _ _ done is in
+        let holder = need-ok (entry_of parent xs) _ _ done at_data.1 in
+        let entry = and_then-ok (absent_under holder.0 path) _ done holder.2 in
+        IfOk-at_ok (Fits longest (Absent path parent)) entry.2 (record {
+          spelled = λ stamps. (data-path path (is-data path (not-false (is_data path) at_data.0)), short parent holder.0 holder.1);
+          kinds = good.kinds;
+        })
+
     fits : (command : Command) → IsPathTyped longest command → transition rules state command ≡ Ok done → Fits longest command done
     fits (AddM path value parent) typed is = fits_add_m path value parent typed is
     fits (EvictM path parent) typed is = fits_evict_m path parent is
@@ -296,6 +306,7 @@ module _ (rules : Rules) (digests : GivesDigests rules.scheme.digest) (few : rul
     fits NextEpoch typed is =
         let turn = timed-ok (advanced state.clock) _ done is in
         IfOk-at_ok (Fits longest NextEpoch) turn.2 (record { spelled = λ stamps. tt; kinds = good.kinds })
+    fits (Absent path parent) typed is = fits_absent path parent is
 
     good_after : (command : Command) → IsPathTyped longest command → transition rules state command ≡ Ok done → IsGood longest done.1
     good_after command typed is = record {

@@ -12,7 +12,7 @@ use Rattle.record_hash.specs.Functions.{DigestFunctions}
 use Rattle.record_text.specs.declared.refusal.Refusal.{Refusal}
 use Rattle.record_text.specs.Tree.{wide_of}
 use Rattle.log_codec.specs.declared.command.Command.{Command}
-use Rattle.log_codec.specs.declared.command.Command.TheVariants.{AddM, EvictM, AddB, EvictB, EvictBM, Get, Put, NextEpoch}
+use Rattle.log_codec.specs.declared.command.Command.TheVariants.{AddM, EvictM, AddB, EvictB, EvictBM, Get, Put, NextEpoch, Absent}
 use Rattle.log_codec.specs.declared.log_command.LogCommand.{LogCommand}
 use Rattle.log_codec.specs.declared.log_command.LogCommand.TheVariants.{ByPath, BySlot}
 use Rattle.log_codec.specs.Command.{IsPathCommand, IsCommandIn}
@@ -54,6 +54,7 @@ of_kind longest (EvictBM path parent stamp) is = tt
 of_kind longest (Get path value) is = is
 of_kind longest (Put path value) is = is
 of_kind longest NextEpoch is = tt
+of_kind longest (Absent path parent) is = tt
 
 are_of_kind : (longest : ℕ) (commands : List Command) → AllByRecursion (IsPathCommand longest) commands → AllByRecursion (IsOfKind longest) commands
 are_of_kind longest [] is = tt

@@ -82,6 +82,7 @@ impl Seat {
             &request,
             0,
             &mut self.clock,
+            false,
         ) {
             Ok(plan) => Ok(plan),
             Err(PlanFault::Memory) => Err(Fault::Memory),

@@ -65,7 +65,7 @@ fn is_stamped(content: &Content) -> bool
 fn make_once<D: Digests>(alloc: Global, d: &D) -> Result<Outcome, Fault> {
     let twin = one_put(alloc)?;
     let contents = one_put(alloc)?;
-    match Records::make(alloc, d, &header(), contents, 1) {
+    match Records::make(alloc, d, &header(), contents, 1, false) {
         Ok((records, hands)) => look_at(&records.close(hands), &twin, Outcome::Made),
         Err(Refused { contents }) => make_again(alloc, d, contents, &twin),
     }
@@ -81,7 +81,7 @@ fn make_again<D: Digests>(
     requires start { IsStart contents.items }
 {
     look_at(&contents, twin, Outcome::MadeAgain)?;
-    match Records::make(alloc, d, &header(), contents, 1) {
+    match Records::make(alloc, d, &header(), contents, 1, false) {
         Ok((records, hands)) => look_at(&records.close(hands), twin, Outcome::MadeAgain),
         Err(_) => Err(Fault::Amiss("no table when asked again")),
     }
@@ -99,7 +99,7 @@ fn look_at(contents: &[Content], twin: &[Content], outcome: Outcome) -> Result<O
 fn attempt_once<D: Digests>(alloc: Global, d: &D, wanted: &[u8]) -> Result<Outcome, Fault> {
     let request = put_of(1, b'b')?;
     let contents = one_put(alloc)?;
-    let Ok((records, hands)) = Records::make(alloc, d, &header(), contents, 1) else {
+    let Ok((records, hands)) = Records::make(alloc, d, &header(), contents, 1, false) else {
         return Err(Fault::Memory);
     };
     let mut hands = hands;

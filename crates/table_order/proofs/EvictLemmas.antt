@@ -1,5 +1,5 @@
 -- What a worker's services evict has rising stamps.
-use Rattle.std.proofs.Common.{◌≡◌, ℕ, suc, ◌<◌, ◌≤◌, List, [], ◌∷◌, ◌++◌, length, Option, Some, inr, refl, sym, ◌∙◌, ap, subst, arith}
+use Rattle.std.proofs.Common.{◌≡◌, ℕ, suc, ◌<◌, ◌≤◌, Bool, List, [], ◌∷◌, ◌++◌, length, Option, Some, inr, refl, sym, ◌∙◌, ap, subst, arith}
 use Rattle.std.specs.List.{AllByRecursion}
 use Rattle.std.specs.Ordering.{is_lt}
 use Rattle.lamport_clocks.specs.declared.stamp.Stamp.{Stamp}
@@ -14,7 +14,7 @@ use Rattle.host_shard.specs.Content.{Content, cold, hot, vacant, pending, pendin
 use Rattle.host_shard.specs.Shard.{pending_shard}
 use Rattle.host_shard.specs.Shown.{shown_content}
 use Rattle.host_plan.specs.Plan.{AreLinks, clock_after, content_after}
-use Rattle.host_plan.specs.Request.{served, served_hot}
+use Rattle.host_plan.specs.Request.{is_missed, served, served_hot}
 use Rattle.host_laws.specs.Served.{waiting}
 use Rattle.host_table.specs.declared.told.Service.{Service}
 use Rattle.host_table.specs.Terms.{Terms, phase_epoch, IsStampOf}
@@ -32,18 +32,18 @@ record IsEvictOf (worker : ℕ) (before later : Stamp) (content : Content) : Typ
   pub in_epoch : later.epoch ≡ before.epoch
   pub risen : before.counter < later.counter
 
-evict_after : (digest : Digest) (worker : ℕ) (content : Content) (links : List Link) (request : Request) (clock : Reading)
+evict_after : (absent : Bool) (digest : Digest) (worker : ℕ) (content : Content) (links : List Link) (request : Request) (clock : Reading)
     → AreLinks content request.key links
-    → IsEvictOf worker clock.at (clock_after content clock).at (content_after digest worker content links request clock)
-evict_after digest worker (cold shard) links request clock way = record {
-  element = pending_shard (served digest worker shard links request clock);
+    → IsEvictOf worker clock.at (clock_after content clock).at (content_after absent digest worker content links request clock)
+evict_after absent digest worker (cold shard) links request clock way = record {
+  element = pending_shard (served digest worker shard links request clock (is_missed absent shard links request));
   waits = refl;
   own = refl;
   at = refl;
   in_epoch = refl;
   risen = omega arith;
 }
-evict_after digest worker (hot found) links request clock way = record {
+evict_after absent digest worker (hot found) links request clock way = record {
   element = pending_hot (served_hot worker found request clock);
   waits = refl;
   own = refl;
@@ -51,7 +51,7 @@ evict_after digest worker (hot found) links request clock way = record {
   in_epoch = refl;
   risen = omega arith;
 }
-evict_after digest worker vacant links request clock way = absurd way
+evict_after absent digest worker vacant links request clock way = absurd way
 
 -- of a service
 evict_of : (terms : Terms) (service : Service) → told.IsServed terms service
@@ -59,8 +59,8 @@ evict_of : (terms : Terms) (service : Service) → told.IsServed terms service
 evict_of terms service served =
     subst (λ (c : Content). IsEvictOf service.worker service.clock.at service.later.at c) (sym served.plan.content)
     (subst (λ (r : Reading). IsEvictOf service.worker service.clock.at r.at
-    (content_after terms.digest service.worker (shown_content service.before) served.plan.links service.request service.clock)) (sym served.plan.clock)
-    (evict_after terms.digest service.worker (shown_content service.before) served.plan.links service.request service.clock served.plan.way))
+    (content_after terms.absent terms.digest service.worker (shown_content service.before) served.plan.links service.request service.clock)) (sym served.plan.clock)
+    (evict_after terms.absent terms.digest service.worker (shown_content service.before) served.plan.links service.request service.clock served.plan.way))
 
 -- ---- a list of them
 

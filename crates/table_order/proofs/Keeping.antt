@@ -15,7 +15,7 @@ use Rattle.host_world.specs.ShippedHost.{shipped_host}
 abbrev pub DoesPlans : DigestFunctions → Settings → List (List Task) → Type 0
 DoesPlans functions settings script = (worker : ℕ) (content after : Content) (request : Request) (clock later : Reading) (plan : Plan)
     → CanServe longest_blob functions.digest content request.key
-    → IsPlan functions.digest worker content request clock plan after later
+    → IsPlan settings.absent functions.digest worker content request clock plan after later
     → (clock_after content clock).at.counter ≤ clock.end
     → (shipped_host functions settings script).serve worker clock content request
     ≡ Some (record { commands = plan.commands; after = after; clock = later })

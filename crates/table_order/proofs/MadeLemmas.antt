@@ -59,7 +59,7 @@ module _ (digest : Digest) (seats : List Content) (mirrors : SeatsMirror longest
 -- ---- the table
 
 module _ (functions : DigestFunctions) (settings : Settings) (script : List (List Task)) (world : World Content)
-    (orderly : IsOrderly functions settings script world) (terms : Terms) (made : AreTermsOf (shipped_host functions settings script) world terms) where
+    (orderly : IsOrderly functions settings script world) (terms : Terms) (made : AreTermsOf (shipped_host functions settings script) settings.absent world terms) where
   module _ (place : ℕ) (there : place < place_count terms) where
     abbrev seats : List Content
     seats = (shard_at world (place / 5)).contents

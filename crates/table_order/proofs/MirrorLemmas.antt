@@ -1,5 +1,5 @@
 -- What a history makes of a content that mirrors, mirrors and is stamped in the phase.
-use Rattle.std.proofs.Common.{◌≡◌, ◌⊎◌, ℕ, zero, suc, ◌+◌, ◌*◌, ◌/◌, ◌^◌, ◌<◌, ◌≤◌, false, List, [], ◌∷◌, length, map, take, drop, get_or, inl, inr, refl, sym, ◌∙◌, ap, subst, arith}
+use Rattle.std.proofs.Common.{◌≡◌, ◌⊎◌, ℕ, zero, suc, ◌+◌, ◌*◌, ◌/◌, ◌^◌, ◌<◌, ◌≤◌, Bool, false, List, [], ◌∷◌, length, map, take, drop, get_or, inl, inr, refl, sym, ◌∙◌, ap, subst, arith}
 use Rattle.std.proofs.lemmas.Bool.{cases_lt}
 use Rattle.std.proofs.lemmas.List.{get_or-drop, get_or-take, length-take}
 use Rattle.std.proofs.lemmas.Option.{none-some, same_Some}
@@ -83,23 +83,23 @@ cold_at terms place key made small at = go (first_at terms place) refl
 -- ---- stamps
 
 -- what comes of a request is stamped by its worker, in the clock's epoch, with the clock's last counter
-after_stamped : (header : Header) (epoch : ℕ) (digest : Digest) (worker : ℕ) (content : Content) (links : List Link) (request : Request) (clock : Reading)
+after_stamped : (absent : Bool) (header : Header) (epoch : ℕ) (digest : Digest) (worker : ℕ) (content : Content) (links : List Link) (request : Request) (clock : Reading)
     → worker < header.verifiers → clock.at.epoch ≡ epoch → (clock_after content clock).at.counter ≤ header.end
-    → IsStamped header epoch (content_after digest worker content links request clock)
-after_stamped header epoch digest worker (cold shard) links request clock known in_epoch within element is =
+    → IsStamped header epoch (content_after absent digest worker content links request clock)
+after_stamped absent header epoch digest worker (cold shard) links request clock known in_epoch within element is =
     subst (λ (e : Element). IsStampOf header epoch e.stamp e.verifier) (same_Some _ element is)
     (record { verifier = known; epoch_is = in_epoch; counter = within })
-after_stamped header epoch digest worker (hot found) links request clock known in_epoch within element is =
+after_stamped absent header epoch digest worker (hot found) links request clock known in_epoch within element is =
     subst (λ (e : Element). IsStampOf header epoch e.stamp e.verifier) (same_Some _ element is)
     (record { verifier = known; epoch_is = in_epoch; counter = within })
-after_stamped header epoch digest worker vacant links request clock known in_epoch within element is = absurd (none-some element is)
+after_stamped absent header epoch digest worker vacant links request clock known in_epoch within element is = absurd (none-some element is)
 
 -- so is what a service leaves
 pub service_stamped : (terms : Terms) (service : Service) → terms.workers ≤ terms.header.verifiers → told.IsServed terms service
     → IsStamped terms.header (phase_epoch terms) (shown_content service.after)
 service_stamped terms service few served =
     subst (IsStamped terms.header (phase_epoch terms)) (sym served.plan.content)
-    (after_stamped terms.header (phase_epoch terms) terms.digest service.worker (shown_content service.before) served.plan.links service.request service.clock
+    (after_stamped terms.absent terms.header (phase_epoch terms) terms.digest service.worker (shown_content service.before) served.plan.links service.request service.clock
     (omega (arith, served.by, few)) served.clock.epoch (go (cases_lt service.clock.end (clock_after (shown_content service.before) service.clock).at.counter)))
   where
     go : (service.clock.end < (clock_after (shown_content service.before) service.clock).at.counter)
@@ -140,10 +140,10 @@ module _ (terms : Terms) (made : MirrorsAtMaking terms) (place : ℕ) (there : p
 
       still_behind : IsStill first (shown_content service.after)
       still_behind = subst (IsStill first) (sym leads.2.plan.content)
-          (still_after terms.digest service.worker first before leads.2.plan.links service.request service.clock still_before)
+          (still_after terms.absent terms.digest service.worker first before leads.2.plan.links service.request service.clock still_before)
 
       mirrors_behind : ContentMirrors longest_blob terms.digest (hot_keys_at terms place) (shown_content service.after)
-      mirrors_behind = plan_mirrors longest_blob terms.digest service.worker (hot_keys_at terms place) before (shown_content service.after) service.request
+      mirrors_behind = plan_mirrors terms.absent longest_blob terms.digest service.worker (hot_keys_at terms place) before (shown_content service.after) service.request
           service.clock service.later service.plan made.digests leads.2.value mirrors_before
           (owns_still terms.digest (hot_keys_at terms place) first before service.request.key still_before mirrors_before at.owns)
           (cold_still (hot_keys_at terms place) first before service.request.key still_before (cold_at terms place service.request.key made small.0 at))

@@ -103,17 +103,17 @@ cold_still hot_keys vacant (hot new) key same apart = tt
 cold_still hot_keys vacant vacant key same apart = tt
 
 -- so does what comes of a request
-pub still_after : (digest : Digest) (worker : ℕ) (old content : Content) (links : List Link) (request : Request) (clock : Reading)
-    → IsStill old content → IsStill old (content_after digest worker content links request clock)
-still_after digest worker (cold old) (cold shard) links request clock same = same
-still_after digest worker (cold old) (hot found) links request clock same = same
-still_after digest worker (cold old) vacant links request clock same = same
-still_after digest worker (hot old) (cold shard) links request clock same = same
-still_after digest worker (hot old) (hot found) links request clock same = same
-still_after digest worker (hot old) vacant links request clock same = same
-still_after digest worker vacant (cold shard) links request clock same = same
-still_after digest worker vacant (hot found) links request clock same = same
-still_after digest worker vacant vacant links request clock same = same
+pub still_after : (absent : Bool) (digest : Digest) (worker : ℕ) (old content : Content) (links : List Link) (request : Request) (clock : Reading)
+    → IsStill old content → IsStill old (content_after absent digest worker content links request clock)
+still_after absent digest worker (cold old) (cold shard) links request clock same = same
+still_after absent digest worker (cold old) (hot found) links request clock same = same
+still_after absent digest worker (cold old) vacant links request clock same = same
+still_after absent digest worker (hot old) (cold shard) links request clock same = same
+still_after absent digest worker (hot old) (hot found) links request clock same = same
+still_after absent digest worker (hot old) vacant links request clock same = same
+still_after absent digest worker vacant (cold shard) links request clock same = same
+still_after absent digest worker vacant (hot found) links request clock same = same
+still_after absent digest worker vacant vacant links request clock same = same
 
 -- ---- the services of a place
 
@@ -122,7 +122,7 @@ abbrev pub IsSmall : Service → Type 0
 IsSmall service = service.request.key < 2 ^ 64
 
 module _ (functions : DigestFunctions) (settings : Settings) (script : List (List Task)) (world : World Content)
-    (orderly : IsOrderly functions settings script world) (terms : Terms) (made : AreTermsOf (shipped_host functions settings script) world terms)
+    (orderly : IsOrderly functions settings script world) (terms : Terms) (made : AreTermsOf (shipped_host functions settings script) settings.absent world terms)
     (digests : GivesDigests functions.digest) (does : DoesPlans functions settings script)
     (running : (worker : ℕ) → worker < length world.workers → (worker_at (shipped_host functions settings script) world worker).stopped ≡ false) where
   -- A service is what the host does, where it can be served at the content that it finds.
@@ -130,7 +130,7 @@ module _ (functions : DigestFunctions) (settings : Settings) (script : List (Lis
       → IsServed (shipped_host functions settings script) world (serving_of service)
   service_served service served can =
       let by : service.worker < length world.workers = subst (λ (n : ℕ). service.worker < n) made.workers served.by in
-      let plan = subst (λ (digest : _). IsPlan digest service.worker (shown_content service.before) service.request service.clock service.plan (shown_content service.after) service.later) made.digest served.plan in
+      let plan = subst (λ (t : Bool × Digest). IsPlan t.0 t.1 service.worker (shown_content service.before) service.request service.clock service.plan (shown_content service.after) service.later) (λ i. (made.absent_is i, made.digest i)) served.plan in
       record {
         may = record {
           there = by;
@@ -178,8 +178,8 @@ module _ (functions : DigestFunctions) (settings : Settings) (script : List (Lis
         serves : SeatServes longest_blob functions.digest hot_keys first service.request
         serves = first_serves service leads.0 leads.2 small.0
 
-        plan : IsPlan functions.digest service.worker before service.request service.clock service.plan (shown_content service.after) service.later
-        plan = subst (λ (digest : _). IsPlan digest service.worker before service.request service.clock service.plan (shown_content service.after) service.later) made.digest leads.2.plan
+        plan : IsPlan settings.absent functions.digest service.worker before service.request service.clock service.plan (shown_content service.after) service.later
+        plan = subst (λ (t : Bool × Digest). IsPlan t.0 t.1 service.worker before service.request service.clock service.plan (shown_content service.after) service.later) (λ i. (made.absent_is i, made.digest i)) leads.2.plan
 
         same_before : IsStill first before
         same_before = subst (IsStill first) (sym leads.1) same
@@ -197,10 +197,10 @@ module _ (functions : DigestFunctions) (settings : Settings) (script : List (Lis
         can = mirrors_serve longest_blob functions.digest hot_keys before service.request.key mirrors_before own apart
 
         same_after : IsStill first (shown_content service.after)
-        same_after = subst (IsStill first) (sym plan.content) (still_after functions.digest service.worker first before plan.links service.request service.clock same_before)
+        same_after = subst (IsStill first) (sym plan.content) (still_after settings.absent functions.digest service.worker first before plan.links service.request service.clock same_before)
 
         mirrors_after : ContentMirrors longest_blob functions.digest hot_keys (shown_content service.after)
-        mirrors_after = plan_mirrors longest_blob functions.digest service.worker hot_keys before (shown_content service.after) service.request service.clock service.later service.plan
+        mirrors_after = plan_mirrors settings.absent longest_blob functions.digest service.worker hot_keys before (shown_content service.after) service.request service.clock service.later service.plan
             digests leads.2.value mirrors_before own apart plan
 
     -- Each service of the place's past is what the host does.

@@ -55,7 +55,7 @@ blob_test None fits = refl
 blob_test (Some bytes) fits = le-leb (length bytes) 64 fits
 
 module _ (functions : DigestFunctions) (settings : Settings) (script : List (List Task)) (world : World Content)
-    (orderly : IsOrderly functions settings script world) (terms : Terms) (made : AreTermsOf (shipped_host functions settings script) world terms) where
+    (orderly : IsOrderly functions settings script world) (terms : Terms) (made : AreTermsOf (shipped_host functions settings script) settings.absent world terms) where
   abbrev host : Host Content Request
   host = shipped_host functions settings script
 

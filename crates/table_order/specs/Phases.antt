@@ -1,5 +1,5 @@
 -- When a table is that of a phase of the shipped host.
-use Rattle.std.specs.Prelude.{◌≡◌, ℕ, suc, ◌+◌, ◌*◌, ◌<◌, false, List, [], ◌∷◌, length, slice_get, Option, Some, None}
+use Rattle.std.specs.Prelude.{◌≡◌, ℕ, suc, ◌+◌, ◌*◌, ◌<◌, Bool, false, List, [], ◌∷◌, length, slice_get, Option, Some, None}
 use Rattle.std.specs.Option.{ForSome}
 use Rattle.lamport_clocks.specs.Reading.{Reading}
 use Rattle.record_hash.specs.Functions.{DigestFunctions}
@@ -23,9 +23,10 @@ use Rattle.host_world.specs.Places.{places_each, place_of}
 use Rattle.host_world.specs.ShippedHost.{shipped_host}
 
 -- The table was made of the world: of its places in the order of their numbers, and for its workers, with the host's
--- digests.
-pub record AreTermsOf (host : Host Content Request) (world : World Content) (terms : Terms) : Type 0 where
+-- digests, and is told as the host is whether a get of a key that has no record makes none.
+pub record AreTermsOf (host : Host Content Request) (absent : Bool) (world : World Content) (terms : Terms) : Type 0 where
   pub digest : terms.digest ≡ host.functions.digest
+  pub absent_is : terms.absent ≡ absent
   pub workers : terms.workers ≡ length world.workers
   pub places : place_count terms ≡ length world.shards * places_each
   pub contents : (place : ℕ) → place < place_count terms → content_at host world (place_of place) ≡ shown_content (first_at terms place)
@@ -58,5 +59,5 @@ pub record IsTableOf (functions : DigestFunctions) (settings : Settings) (script
   pub digests : GivesDigests functions.digest
   pub behind : IsBehindSetup functions settings script world
   pub rest : IsAtRest (shipped_host functions settings script) world
-  pub made : AreTermsOf (shipped_host functions settings script) world terms
+  pub made : AreTermsOf (shipped_host functions settings script) settings.absent world terms
   pub turns : (worker : ℕ) → worker < length world.workers → AreTurnsOf (shipped_host functions settings script) world worker (row_at rows worker)

@@ -115,7 +115,7 @@ pub fn a_making_of_a_world_mirrors()
         (terms : Terms)
         → GivesDigests functions.digest
         → IsBehindSetup functions settings script world
-        → AreTermsOf (shipped_host functions settings script) world terms
+        → AreTermsOf (shipped_host functions settings script) settings.absent world terms
         → IsMaking terms.header terms.workers terms.contents
         → MirrorsAtMaking terms }
 {

@@ -90,6 +90,7 @@ fn serve_again<D: Digests>(
         &served.request,
         served.worker,
         &mut clock,
+        false,
     ) {
         Ok(plan) => assert_again(rt, &plan, &clock, served),
         Err(_) => panic!(rt; "no plan"),

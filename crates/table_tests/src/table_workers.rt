@@ -39,7 +39,8 @@ pub fn set_up<D: Digests>(
     let Ok((frontiers, contents)) = shards(alloc, places, bits) else {
         return Err("no shards");
     };
-    let Ok((records, hands)) = Records::make(alloc, d, &header(end), contents, workers) else {
+    let Ok((records, hands)) = Records::make(alloc, d, &header(end), contents, workers, false)
+    else {
         return Err("no table");
     };
     let Ok(turns) = turns_of(alloc, &records, hands, end) else {

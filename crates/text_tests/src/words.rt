@@ -146,6 +146,9 @@ fastver check --key 00112233445566778899aabbccddeeff --format 2 | a version for 
 fastver run --key 00112233445566778899aabbccddeeff --verifiers 1 --shards 2 --receipts --receipts | receipts of a run twice
 fastver run --key 00112233445566778899aabbccddeeff --verifiers 1 --shards 2 --receipts=1 | receipts of a run with a value
 fastver run --key 00112233445566778899aabbccddeeff --verifiers 1 --shards 2 --logs --receipts | receipts in the place of a path
+fastver run --key 00112233445566778899aabbccddeeff --verifiers 1 --shards 2 --absent --absent | absence twice
+fastver run --key 00112233445566778899aabbccddeeff --verifiers 1 --shards 2 --absent=1 | absence with a value
+fastver check --key 00112233445566778899aabbccddeeff --absent | absence for a check
 fastver run --key 00112233445566778899aabbccddeeff --verifiers 1 --shards 2 --logs | no path
 fastver run --key 00112233445566778899aabbccddeeff --verifiers 1 --shards 2 more | a word more for a run
 fastver run --key 00112233445566778899aabbccddeeff --verifiers 1 --shards 2 --seed 0 | a seed for a run
@@ -168,8 +171,8 @@ fn words_that_are_refused(rt: HostRuntime) {
     }
 }
 
-// What stands behind `fastver run` and its key, the verifiers, shards, first epoch, last counter, version and threshold that it
-// asks for, and the path of its logs.
+// What stands behind `fastver run` and its key, the verifiers, shards, first epoch, last counter and version that it asks for, and
+// whether it says absent, its threshold, and the path of its logs.
 const RUNNING: &str = "
 --verifiers 1 --shards 2 | 1 2 0 16777215 1 | none | none
 --verifiers 1 --shards 1024 --first 4294967295 --counter 1 | 1 1024 4294967295 1 1 | none | none
@@ -180,6 +183,7 @@ const RUNNING: &str = "
 --verifiers 1 --shards 2 --format 1 | 1 2 0 16777215 1 | none | none
 --format=2 --verifiers 2 --logs a/b --shards 2 | 2 2 0 16777215 2 | none | a/b
 --hot 1 --verifiers 64 --shards 1024 --first 7 --counter 4 --format 2 --receipts | 64 1024 7 4 2 | 1 | none
+--absent --verifiers 1 --shards 2 | 1 2 0 16777215 1 absent | none | none
 ";
 
 // The number at this place of a text, counted from 0.
@@ -209,6 +213,7 @@ fn numbers_in(rt: &impl Abort, row: &str) -> HostNumbers {
         first: number_in(rt, text, 2),
         counter: number_in(rt, text, 3),
         version: number_in(rt, text, 4),
+        absent: text.ends_with("absent"),
         hot: hot_in(rt, row),
     }
 }

@@ -56,9 +56,9 @@ inside true done found is = absurd (none-some found is)
 inside false done found is = same_Some done found is
 
 -- a request leaves the clock's end
-serve_end : (digest : Digest) (worker : ℕ) (clock : Reading) (content : Content) (request : Request) (done : Done Content)
-    → serve_at digest worker clock content request ≡ Some done → done.clock.end ≡ clock.end
-serve_end digest worker clock content request done is =
+serve_end : (absent : Bool) (digest : Digest) (worker : ℕ) (clock : Reading) (content : Content) (request : Request) (done : Done Content)
+    → serve_at absent digest worker clock content request ≡ Some done → done.clock.end ≡ clock.end
+serve_end absent digest worker clock content request done is =
     sym (ap (λ (d : Done Content). d.clock.end) (inside (nat_lt clock.end (clock_after content clock).at.counter) _ done is)) ∙ end_after content clock
 
 -- a move leaves it
@@ -94,7 +94,7 @@ module _ (functions : DigestFunctions) (settings : Settings) (script : List (Lis
   module _ (world : World Content) (behind : IsBehindSetup functions settings script world) (orderly : IsOrderly functions settings script world)
       (bounded : IsBounded settings world) where
     serve_bounded : (i : ℕ) (place : Place) (request : Request) (what : Option (Done Content))
-        → serve_at functions.digest i (worker_at host world i).clock (get_or (shard_at world place.shard).contents place.seat vacant) request ≡ what
+        → serve_at settings.absent functions.digest i (worker_at host world i).clock (get_or (shard_at world place.shard).contents place.seat vacant) request ≡ what
         → IsBounded settings (after_serve world i (worker_at host world i) place (shard_at world place.shard) what)
     serve_bounded i place request None is = worker_bounded settings world i (record (worker_at host world i) { stopped = true }) bounded (bounded.ends i)
     serve_bounded i place request (Some done) is =
@@ -102,7 +102,7 @@ module _ (functions : DigestFunctions) (settings : Settings) (script : List (Lis
         let worker = having_served (logging (worker_at host world i) done.commands done.clock) place in
         others_bounded settings (with_worker world i worker) _ refl
         (worker_bounded settings world i worker bounded
-        (serve_end functions.digest i clock (get_or (shard_at world place.shard).contents place.seat vacant) request done is ∙ bounded.ends i))
+        (serve_end settings.absent functions.digest i clock (get_or (shard_at world place.shard).contents place.seat vacant) request done is ∙ bounded.ends i))
 
     move_bounded : (i s : ℕ) → s < length world.shards → (what : Option (Done (List Content)))
         → move_seats functions.digest i settings.hot (stage_of (worker_at host world i).clock (shard_at world s).contents) ≡ what

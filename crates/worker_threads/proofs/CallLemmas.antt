@@ -150,10 +150,10 @@ to_serve host world terms table workers hands number same told count all new run
 pub served_at_once : (functions : DigestFunctions) (settings : Settings) (script : List (List Task)) (world later : World Content) (terms : Terms) (table : TableId)
     (after : List code.Content) (workers new : List Worker) (hands : List Hand) (tasks : List Task)
     → IsServedUpTo (shipped_host functions settings script) world 0 → NoneStopped (shipped_host functions settings script) world
-    → AreTermsOf (shipped_host functions settings script) world terms → IsPhase terms after (map told_by hands)
+    → AreTermsOf (shipped_host functions settings script) settings.absent world terms → IsPhase terms after (map told_by hands)
     → workers ≡ world.workers → tasks ≡ get_or script world.phase [] → HaveServed terms table tasks workers new hands
     → later ≡ record world { shards = filled world.shards (map shown_content after); workers = new }
-    → IsServedAtOnce (shipped_host functions settings script) (get_or script world.phase []) world later terms after (map told_by hands)
+    → IsServedAtOnce (shipped_host functions settings script) settings.absent (get_or script world.phase []) world later terms after (map told_by hands)
 served_at_once functions settings script world later terms table after workers new hands tasks begins running made closed same asked served is =
     let host = shipped_host functions settings script in
     let new_are : later.workers ≡ new = ap (λ (w : World Content). w.workers) is in

@@ -52,7 +52,7 @@ enabled-without host logs world (event ∷ events) enabled = (
 
 module _ (functions : DigestFunctions) (settings : Settings) (script : List (List Task)) (logs : List (List Command)) (world later : World Content)
     (each : length logs ≡ length world.workers) (tasks : List Task) (terms : Terms) (after : List code.Content) (rows : List Row)
-    (is : IsServedAtOnce (shipped_host functions settings script) tasks world later terms after rows) (five : HaveFive world.shards)
+    (is : IsServedAtOnce (shipped_host functions settings script) settings.absent tasks world later terms after rows) (five : HaveFive world.shards)
     (pasts : List (List (List (Serving Content Request))))
     (steady : IsSteady (shipped_host functions settings script)) (rest : IsAtRest (shipped_host functions settings script) (with_logs logs world))
     (told : AreTold (shipped_host functions settings script) (with_logs logs world) (lists_of rows) pasts)

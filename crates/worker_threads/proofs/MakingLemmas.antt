@@ -108,9 +108,10 @@ module _ (functions : DigestFunctions) (settings : Settings) (script : List (Lis
     }
 
     -- It is a table of the world.
-    pub terms_of_world : terms.digest ≡ functions.digest → terms.workers ≡ length world.workers → AreTermsOf host world terms
-    terms_of_world digest workers = record {
+    pub terms_of_world : terms.digest ≡ functions.digest → terms.absent ≡ settings.absent → terms.workers ≡ length world.workers → AreTermsOf host settings.absent world terms
+    terms_of_world digest told workers = record {
       digest = digest;
+      absent_is = told;
       workers = workers;
       places = as_many terms.contents lent;
       contents = lent_at terms.contents lent;

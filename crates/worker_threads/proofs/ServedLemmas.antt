@@ -24,7 +24,7 @@ use Rattle.worker_threads.proofs.AskedLemmas.{all_done, asked_count}
 
 module _ (functions : DigestFunctions) (settings : Settings) (script : List (List Task)) (world later : World Content)
     (terms : Terms) (after : List code.Content) (rows : List Row)
-    (is : IsServedAtOnce (shipped_host functions settings script) (get_or script world.phase []) world later terms after rows) where
+    (is : IsServedAtOnce (shipped_host functions settings script) settings.absent (get_or script world.phase []) world later terms after rows) where
   abbrev host : Host Content Request
   host = shipped_host functions settings script
 

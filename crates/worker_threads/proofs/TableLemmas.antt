@@ -42,7 +42,7 @@ at_rest functions settings script logs world begins epochs = record {
 
 module _ (functions : DigestFunctions) (settings : Settings) (script : List (List Task)) (logs : List (List Command)) (world later : World Content)
     (each : length logs ≡ length world.workers) (terms : Terms) (after : List code.Content) (rows : List Row)
-    (is : IsServedAtOnce (shipped_host functions settings script) (get_or script world.phase []) world later terms after rows)
+    (is : IsServedAtOnce (shipped_host functions settings script) settings.absent (get_or script world.phase []) world later terms after rows)
     (digests : GivesDigests functions.digest) (behind : IsBehindSetup functions settings script (with_logs logs world))
     (epochs : IsInPhase (shipped_host functions settings script) (with_logs logs world)) where
   abbrev host : Host Content Request
@@ -85,6 +85,7 @@ module _ (functions : DigestFunctions) (settings : Settings) (script : List (Lis
     rest = at_rest functions settings script logs world is.begins epochs;
     made = record {
       digest = is.made.digest;
+      absent_is = is.made.absent_is;
       workers = is.made.workers ∙ sym (length-before_each logs world.workers);
       places = is.made.places;
       contents = is.made.contents;

@@ -46,7 +46,7 @@ same_world a b shards workers phase closing over =
 
 module _ (functions : DigestFunctions) (settings : Settings) (script : List (List Task)) (logs : List (List Command)) (world later : World Content)
     (each : length logs ≡ length world.workers) (tasks : List Task) (terms : Terms) (after : List code.Content) (rows : List Row)
-    (is : IsServedAtOnce (shipped_host functions settings script) tasks world later terms after rows) (five : HaveFive world.shards)
+    (is : IsServedAtOnce (shipped_host functions settings script) settings.absent tasks world later terms after rows) (five : HaveFive world.shards)
     (pasts : List (List (List (Serving Content Request)))) where
   abbrev host : Host Content Request
   host = shipped_host functions settings script

@@ -1,5 +1,5 @@
 -- A phase that all workers served at once: where its requests were served, what the table tells of it, and where clocks ended.
-use Rattle.std.specs.Prelude.{◌≡◌, ℕ, suc, ◌<◌, true, List, [], ◌∷◌, length, map, get_or, slice_get, Option, Some, None, if◌then◌else◌}
+use Rattle.std.specs.Prelude.{◌≡◌, ℕ, suc, ◌<◌, Bool, true, List, [], ◌∷◌, length, map, get_or, slice_get, Option, Some, None, if◌then◌else◌}
 use Rattle.record_text.specs.declared.request.Request.{Request}
 use Rattle.script_text.specs.declared.task.Task.{Task}
 use Rattle.host_core.specs.Host.{Host}
@@ -42,11 +42,11 @@ first_stopped i (worker ∷ workers) =
 
 -- The phase begins, a table was made of the world and told this of it, each worker has done its part of the tasks, and the
 -- later world has the contents that the table gave.
-pub record IsServedAtOnce (host : Host Content Request) (tasks : List Task) (world later : World Content) (terms : Terms)
+pub record IsServedAtOnce (host : Host Content Request) (absent : Bool) (tasks : List Task) (world later : World Content) (terms : Terms)
     (after : List code.Content) (rows : List Row) : Type 0 where
   pub begins : IsServedUpTo host world 0
   pub running : NoneStopped host world
-  pub made : AreTermsOf host world terms
+  pub made : AreTermsOf host absent world terms
   pub closed : IsPhase terms after rows
   pub count : length later.workers ≡ length world.workers
   pub parts : (i : ℕ) → i < length world.workers

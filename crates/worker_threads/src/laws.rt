@@ -55,8 +55,8 @@ pub(crate) fn tables_are_of_their_worlds()
         (world : World Content) (terms : Terms) → GivesDigests functions.digest
         → IsBehindSetup functions settings script (with_logs logs world) → world.closing ≡ false
         → map shown_content terms.contents ≡ all_contents world.shards
-        → terms.digest ≡ functions.digest → terms.workers ≡ length world.workers
-        → AreTermsOf (shipped_host functions settings script) world terms }
+        → terms.digest ≡ functions.digest → terms.absent ≡ settings.absent → terms.workers ≡ length world.workers
+        → AreTermsOf (shipped_host functions settings script) settings.absent world terms }
     ensures places { (functions : DigestFunctions) (settings : Settings) (script : List (List Task)) (logs : List (List Command))
         (world : World Content) (terms : Terms) → GivesDigests functions.digest
         → IsBehindSetup functions settings script (with_logs logs world) → world.closing ≡ false
@@ -75,11 +75,11 @@ pub(crate) fn phases_at_once_are_lists_of_events()
         (world later : World Content) (terms : Terms) (after : List code.Content) (rows : List Row)
         → GivesDigests functions.digest → length logs ≡ length world.workers
         → IsBehindSetup functions settings script (with_logs logs world) → settings.shards ≤ settings.header.end
-        → IsServedAtOnce (shipped_host functions settings script) (get_or script world.phase []) world later terms after rows
+        → IsServedAtOnce (shipped_host functions settings script) settings.absent (get_or script world.phase []) world later terms after rows
         → LeadsAs AreOfPhase (shipped_host functions settings script) world later (first_stopped 0 later.workers) }
     ensures served { (functions : DigestFunctions) (settings : Settings) (script : List (List Task))
         (world later : World Content) (terms : Terms) (after : List code.Content) (rows : List Row)
-        → IsServedAtOnce (shipped_host functions settings script) (get_or script world.phase []) world later terms after rows
+        → IsServedAtOnce (shipped_host functions settings script) settings.absent (get_or script world.phase []) world later terms after rows
         → IsServedOut (shipped_host functions settings script) later }
 {
     worlds_are_orderly();

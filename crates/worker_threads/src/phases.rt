@@ -116,12 +116,20 @@ pub fn serve_phase_at_once<R: Threads + Wait + Sync, D: Digests + Sync, G: Gate 
     phases_at_once_are_lists_of_events();
     let d = world.digests();
     digests_have_32_bytes(d);
-    let header = world.settings().header;
+    let settings = world.settings();
+    let header = settings.header;
     let tasks = world.requests().phase(world.phase());
     let places = places_for(alloc, world, tasks)?;
     let contents = world.lend()?;
     let workers = world.lend_workers();
-    let Ok((records, hands)) = Records::make(alloc, d, &header, contents, header.verifiers) else {
+    let Ok((records, hands)) = Records::make(
+        alloc,
+        d,
+        &header,
+        contents,
+        header.verifiers,
+        settings.absent,
+    ) else {
         return Err(Memory);
     };
     let shared = SharedPhase {

@@ -1,4 +1,4 @@
-use Rattle.std.proofs.Common.{◌≡◌, List, [], ◌∷◌, refl, sym, ap, ◌∙◌, subst, Some, None, rules}
+use Rattle.std.proofs.Common.{◌≡◌, Bool, List, [], ◌∷◌, refl, sym, ap, ◌∙◌, subst, Some, None, rules}
 use Rattle.lamport_clocks.specs.Reading.{Reading}
 use Rattle.merkle_records.specs.Merkle.{Digest}
 use Rattle.host_shard.specs.declared.content.Content as code
@@ -64,8 +64,8 @@ note-requires-clause-service g c =
           at = c.requires.place;
           value = c.a_blob_has_at_most_64_bytes.ensures.fits;
           clock = subst (IsClockOf t) (sym same) c.requires.clock;
-          plan = subst (λ (p : Digest × Content × Reading). IsPlan p.0 hand.number p.1 c.args.request.now p.2 c.in-Ok.plan (shown_content c.plan.new.content) c.plan.new.clock)
-              (λ i. (c.requires.digests i, sym found i, sym same i)) c.in-Ok.ensures.planned;
+          plan = subst (λ (p : Bool × Digest × Content × Reading). IsPlan p.0 p.1 hand.number p.2 c.args.request.now p.3 c.in-Ok.plan (shown_content c.plan.new.content) c.plan.new.clock)
+              (λ i. (c.args.self.now.told i, c.requires.digests i, sym found i, sym same i)) c.in-Ok.ensures.planned;
           within = λ past. within (subst (λ (p : Content × Reading). IsPastEnd p.0 p.1) (λ i. (found i, same i)) past);
         };
       },
@@ -83,8 +83,8 @@ returns-in-Ok-clause-attempts g c =
     (after_then c.args.hand.now c.try_take.new.hand c.note.new.hand [] (service ∷ []) [] [] (stop c.args.hand.now) None got.0 c.note.ensures.service.2)
     c.put_back.ensures.after in
     let going : stop c.note.new.hand ≡ stop c.args.hand.now = c.note.ensures.service.2.stop ∙ sym c.requires.going in
-    let planned = service_plan t (g.D.Digests.functions c.args.d.now).digest c.try_take.new.hand.number (shown_content c.in-Taken.content) c.args.request.now c.args.clock.now c.in-Ok.plan
-    (shown_content c.plan.new.content) c.plan.new.clock service c.requires.digests (ap (λ (x : code.Content). shown_content x) (is.before_is ∙ got.2)) is.request_is (is.clock_is ∙ same)
+    let planned = service_plan t c.args.self.now.absent (g.D.Digests.functions c.args.d.now).digest c.try_take.new.hand.number (shown_content c.in-Taken.content) c.args.request.now c.args.clock.now c.in-Ok.plan
+    (shown_content c.plan.new.content) c.plan.new.clock service c.args.self.now.told c.requires.digests (ap (λ (x : code.Content). shown_content x) (is.before_is ∙ got.2)) is.request_is (is.clock_is ∙ same)
     is.served.plan c.in-Ok.ensures.planned in
     record {
       service = service;
@@ -109,8 +109,8 @@ returns-in-Ok-clause-chained g c =
     after_then c.args.hand.now c.note.new.hand c.put_back.new.hand (service ∷ []) [] [] [] None (stop c.note.new.hand)
     (after_then c.args.hand.now c.try_take.new.hand c.note.new.hand [] (service ∷ []) [] [] (stop c.args.hand.now) None got.0 c.note.ensures.service.2)
     c.put_back.ensures.after in
-    let planned = service_plan t (g.D.Digests.functions c.args.d.now).digest c.try_take.new.hand.number (shown_content c.in-Taken.content) c.args.request.now c.args.clock.now c.in-Ok.plan
-    (shown_content c.plan.new.content) c.plan.new.clock service c.requires.digests (ap (λ (x : code.Content). shown_content x) (is.before_is ∙ got.2)) is.request_is (is.clock_is ∙ same)
+    let planned = service_plan t c.args.self.now.absent (g.D.Digests.functions c.args.d.now).digest c.try_take.new.hand.number (shown_content c.in-Taken.content) c.args.request.now c.args.clock.now c.in-Ok.plan
+    (shown_content c.plan.new.content) c.plan.new.clock service c.args.self.now.told c.requires.digests (ap (λ (x : code.Content). shown_content x) (is.before_is ∙ got.2)) is.request_is (is.clock_is ∙ same)
     is.served.plan c.in-Ok.ensures.planned in
     subst (λ (p : List Service × Reading). TakesUp p.0 p.1) (λ i. (sym after.services i, planned.1 i))
     (takes_more (services c.args.hand.now) service (subst (TakesUp (services c.args.hand.now)) (sym (is.clock_is ∙ same)) c.requires.chained))

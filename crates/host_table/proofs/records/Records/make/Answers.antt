@@ -9,7 +9,7 @@ use Rattle.host_table.proofs.records.Records.make.Goals as goal
 
 pub new-requires : goal.new-requires
 new-requires g c =
-    let terms = terms_of g.D.Digests.functions (record { digests = c.of.result; header = c.args.header.now; contents = c.of-2.result; workers = c.args.workers }) in
+    let terms = terms_of g.D.Digests.functions (record { digests = c.of.result; header = c.args.header.now; contents = c.of-2.result; workers = c.args.workers; absent = c.args.absent }) in
     let same : c.of-2.result.value.items ≡ c.args.contents.items = ap (λ v. v.items) c.of-2.ensures in
     let count : c.len.result ≡ length c.of-2.result.value.items = search rules in
     let zeros : c.in-Ok.words.items ≡ replicate c.len.result 0 = c.in-Ok.ensures.items_if_clones_equal (λ y h. search rules) in

@@ -16,10 +16,10 @@ returns-clause-served g c is =
     let xs = c.args.self.now.hot.items in
     let there : k < length xs = omega (arith, c.requires.there, length-map xs shown_content) in
     let first = shown_content c.args.self.now.first in
-    subst (λ (after : Content). HasServed (place_of c.args.place) (serve_at (g.D.Digests.functions c.args.d.now).digest c.args.number c.args.worker.now.clock
+    subst (λ (after : Content). HasServed (place_of c.args.place) (serve_at c.args.absent (g.D.Digests.functions c.args.d.now).digest c.args.number c.args.worker.now.clock
     (get_or (contents_of c.args.self.now) c.args.seat vacant) c.args.request.now) c.args.worker.now after c.serve-2.new.self)
     (sym (hot_there shown_content first xs k c.args.seat c.serve-2.new.content vacant next there))
-    (subst (λ (before : Content). HasServed (place_of c.args.place) (serve_at (g.D.Digests.functions c.args.d.now).digest c.args.number c.args.worker.now.clock
+    (subst (λ (before : Content). HasServed (place_of c.args.place) (serve_at c.args.absent (g.D.Digests.functions c.args.d.now).digest c.args.number c.args.worker.now.clock
     before c.args.request.now) c.args.worker.now (shown_content c.serve-2.new.content) c.serve-2.new.self)
     (sym (hot_read shown_content first xs k c.args.seat c.index_mut.result.now vacant next there c.index_mut.ensures.value))
     (c.serve-2.ensures.served is))

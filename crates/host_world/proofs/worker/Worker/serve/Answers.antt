@@ -14,10 +14,10 @@ use Rattle.host_world.proofs.worker.Worker.serve.Goals as goal
 pub returns-in-Ok-clause-served : goal.returns-in-Ok-clause-served
 returns-in-Ok-clause-served g c is = record {
   done = record { commands = c.in-Ok.plan.commands; after = shown_content c.plan.new.content; clock = c.plan.new.clock };
-  is = subst (λ (w : Worker). serve_at (g.D.Digests.functions c.args.d.now).digest c.args.number w.clock (shown_content c.args.content.now) c.args.request.now
+  is = subst (λ (w : Worker). serve_at c.args.absent (g.D.Digests.functions c.args.d.now).digest c.args.number w.clock (shown_content c.args.content.now) c.args.request.now
       ≡ Some (record { commands = c.in-Ok.plan.commands; after = shown_content c.plan.new.content; clock = c.plan.new.clock }))
       c.self.view_is
-      (plan_is_served longest_blob (g.D.Digests.functions c.args.d.now).digest c.args.number c.self.inside.clock (shown_content c.args.content.now) c.args.request.now
+      (plan_is_served c.args.absent longest_blob (g.D.Digests.functions c.args.d.now).digest c.args.number c.self.inside.clock (shown_content c.args.content.now) c.args.request.now
       c.in-Ok.plan (shown_content c.plan.new.content) c.plan.new.clock c.requires.own (λ past. false≢true (ap is_ok (sym (c.plan.ensures.clock_end.1 past) ∙ c.in-Ok.is))) c.in-Ok.ensures.planned);
   after_it = refl;
   logged = subst (λ (w : Worker). the_view (record {

@@ -53,7 +53,7 @@ returns-then-branch-clause-stepped g c =
     let there : c.args.place / 5 < length old.shards.items = omega (arith, c.requires.may.there.0, length-map old.shards.items shown_seats) in
     let seats = read_shown shown_seats old.shards.items (c.args.place / 5) c.index_mut-seats.result.now (unmoved []) there c.index_mut-seats.ensures.value in
     let worker = get_or_read old.workers.items i c.index_mut-server.result.now c.requires.may.serving.there c.index_mut-server.ensures.value (fresh old.settings.header) in
-    let serving = serve_at (g.D.Digests.functions old.d.now).digest i in
+    let serving = serve_at old.settings.absent (g.D.Digests.functions old.d.now).digest i in
     ap (λ (shards : List (Seats Content)). record world { shards = shards; workers = set old.workers.items i c.serve.new.worker })
     (map-set shown_seats old.shards.items (c.args.place / 5) c.serve.new.self)
     ∙ after_served world i place c.index_mut-server.result.now c.serve.new.worker (shown_seats c.index_mut-seats.result.now) (shown_seats c.serve.new.self) _
@@ -72,7 +72,7 @@ returns-clause-stepped g c =
     let there : c.args.place / 5 < length old.shards.items = omega (arith, c.requires.may.there.0, length-map old.shards.items shown_seats) in
     let seats = read_shown shown_seats old.shards.items (c.args.place / 5) c.index_mut-seats.result.now (unmoved []) there c.index_mut-seats.ensures.value in
     let worker = get_or_read old.workers.items i c.index_mut-server.result.now c.requires.may.serving.there c.index_mut-server.ensures.value (fresh old.settings.header) in
-    let serving = serve_at (g.D.Digests.functions old.d.now).digest i in
+    let serving = serve_at old.settings.absent (g.D.Digests.functions old.d.now).digest i in
     let not = λ (ok : c.serve.result ≡ Ok true). false≢true (sym c.if-branch.false ∙ one_answer c.serve.result c.in_ok-serve.field-0 true c.in_ok-serve.was ok) in
     let stopped = c.stop.ensures.stopped
     ∙ ap (λ (w : Worker). record w { stopped = true })
