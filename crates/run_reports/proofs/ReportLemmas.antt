@@ -17,7 +17,7 @@ use Rattle.slot_rewriting.specs.Writing.{written_logs, ComeToRestFrom}
 use Rattle.merkle_records.specs.Merkle.{GivesDigests}
 use Rattle.report_text.specs.declared.ending.BundleEnd.TheVariants.{Done}
 use Rattle.script_text.specs.declared.task.Task.{Task}
-use Rattle.stamp_order.specs.Serial.{IsSerial}
+use Rattle.stamp_order.specs.Serial.{IsSerial, none_everywhere}
 use Rattle.verifier_commands.specs.State.{opening, root_entry}
 use Rattle.soundness.specs.History.{Event}
 use Rattle.soundness.specs.PathHistory.{path_log_events, path_histories_from}
@@ -25,6 +25,7 @@ use Rattle.soundness.specs.StateHistory.{rules_under}
 use Rattle.soundness.specs.Certified.{all_events, added_by, certified_count, certified_operations}
 use Rattle.soundness.specs.Typed.{ArePathsTyped, IsPathTypedIn, ArePathsTypedIn}
 use Rattle.soundness.specs.Timed.{added_among}
+use Rattle.soundness.specs.World.{stored_behind}
 use Rattle.soundness.proofs.TypedLaws.{paths_typed}
 use Rattle.rewriting_laws.specs.RewrittenLog as rewritten
 use Rattle.bundle_report.specs.BundleReport.{histories_at, refused_among, end_of}
@@ -40,8 +41,9 @@ use Rattle.host_core.specs.Core.{histories, pending_in}
 use Rattle.host_world.specs.declared.settings.Settings.{Settings}
 use Rattle.host_world.specs.ShippedHost.{shipped_host}
 use Rattle.host_fits.specs.Promise.{CanRun, IsPromised}
+use Rattle.host_fits.specs.Holds.{ContentsHold}
 use Rattle.host_fits.proofs.TypedLaws.{logs_typed}
-use Rattle.run_reports.specs.Runs.{HoldsOfRuns}
+use Rattle.run_reports.specs.Runs.{HoldsOfRuns, map_certified}
 use Rattle.run_reports.proofs.StampLemmas.{IsStamped, opening_narrow, logs_evict, logs_add, every-first, every-second}
 use Rattle.run_reports.proofs.CommandLemmas.{IsKind, IsGood, accepted_spelled}
 use Rattle.run_reports.proofs.TextLemmas.{all_of_kind, AreReadBack, all_read_back, histories_read_back, none_among, end_done}
@@ -236,3 +238,29 @@ module _ (keeps : KeepsPromise) where
   finds_all_answers functions settings script events can first enabled last over going i within =
       ap answers_in (history_read keeps functions settings script events can first enabled i within)
       ∙ (promise keeps functions settings script events can first enabled).done last over going i within
+
+-- ---- what the contents hold
+
+-- they hold the plain map, as `host_fits` says
+abbrev pub HoldPlainMap : Type 0
+HoldPlainMap =
+    (functions : DigestFunctions) (settings : Settings) (script : List (List Task)) (events : List (WorldEvent Request))
+    → CanRun functions settings script
+    → let host = shipped_host functions settings script in
+    AreEnabled host (set_up host) events
+    → ((i : ℕ) → i < length (run_events host (set_up host) events).workers → HasAdvanced host (run_events host (set_up host) events) i 2)
+    → ContentsHold settings (run_events host (set_up host) events)
+    (stored_behind none_everywhere (certified_operations (scheme host) settings.header.first (histories host (run_events host (set_up host) events))))
+
+-- it is that behind what a check certifies
+pub holds_certified : KeepsPromise → HoldPlainMap → (functions : DigestFunctions) (settings : Settings) (script : List (List Task)) (events : List (WorldEvent Request))
+    → CanRun functions settings script → settings.header.first < 2 ^ 32
+    → let host = shipped_host functions settings script in
+    AreEnabled host (set_up host) events
+    → ((i : ℕ) → i < length (run_events host (set_up host) events).workers → HasAdvanced host (run_events host (set_up host) events) i 2)
+    → ContentsHold settings (run_events host (set_up host) events)
+    (map_certified functions settings.header (logs_of (run_events host (set_up host) events)))
+holds_certified keeps hold functions settings script events can first enabled advanced key in_range =
+    hold functions settings script events can enabled advanced key in_range
+    ∙ ap (λ (hs : List (List Event)). stored_behind none_everywhere (certified_operations (scheme (shipped_host functions settings script)) settings.header.first hs) key)
+    (sym (read keeps functions settings script events can first enabled))

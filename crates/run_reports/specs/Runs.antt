@@ -1,7 +1,15 @@
--- The worlds of runs.
+-- The worlds of runs, and the plain map that their logs certify.
 use Rattle.std.specs.Prelude.{◌^◌, ◌<◌, List}
+use Rattle.lamport_clocks.specs.declared.header.Header.{Header}
 use Rattle.record_hash.specs.Functions.{DigestFunctions}
 use Rattle.record_text.specs.declared.request.Request.{Request}
+use Rattle.log_codec.specs.declared.command.Command.{Command}
+use Rattle.slot_rewriting.specs.Writing.{written_logs}
+use Rattle.merkle_records.specs.Scheme.{scheme_of}
+use Rattle.stamp_order.specs.Serial.{none_everywhere}
+use Rattle.soundness.specs.Certified.{certified_operations}
+use Rattle.soundness.specs.World.{Stored, stored_behind}
+use Rattle.bundle_report.specs.BundleReport.{histories_at}
 use Rattle.script_text.specs.declared.task.Task.{Task}
 use Rattle.host_shard.specs.Content.{Content}
 use Rattle.host_core.specs.Host.{Host}
@@ -19,3 +27,9 @@ HoldsOfRuns P =
     → CanRun functions settings script → settings.header.first < 2 ^ 32
     → let host = shipped_host functions settings script in
     AreEnabled host (set_up host) events → P host (run_events host (set_up host) events)
+
+-- the plain map behind the operations that a check certifies of logs
+abbrev pub map_certified : DigestFunctions → Header → List (List Command) → Stored
+map_certified functions header logs =
+    stored_behind none_everywhere
+    (certified_operations (scheme_of functions header) header.first (histories_at (scheme_of functions header) header (written_logs header logs)))

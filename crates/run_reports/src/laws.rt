@@ -1,6 +1,6 @@
 //! What a check makes of the bytes of the shipped host's logs, in either version and behind whatever events. The functions
 //! do nothing: their contracts are the laws.
-ghost use Rattle.std.specs.Prelude.{◌≡◌, ℕ, suc, ◌<◌, ◌≤◌, false, List, [], length, map, take, replicate, get_or, Some, None};
+ghost use Rattle.std.specs.Prelude.{◌≡◌, ℕ, suc, ◌<◌, ◌≤◌, false, List, [], length, map, take, replicate, get_or, Some, None, ◌^◌};
 ghost use Rattle.record_hash.specs.Functions.{DigestFunctions};
 ghost use Rattle.lamport_clocks.specs.declared.header.Header.{Header};
 ghost use Rattle.record_text.specs.declared.exhibit.Exhibit.TheVariants.{Clean};
@@ -14,15 +14,21 @@ ghost use Rattle.soundness.specs.Certified.{certified_count, certified_operation
 ghost use Rattle.bundle_report.specs.BundleReport.{histories_at, refused_among};
 ghost use Rattle.bundle_report.specs.Headline.{exhibit_at};
 ghost use Rattle.host_core.specs.Host.{scheme, script_of};
-ghost use Rattle.host_core.specs.World.{logs_of, worker_at};
-ghost use Rattle.host_core.specs.WorldEvent.{HasAdvanced, IsPhaseOver};
+ghost use Rattle.host_core.specs.World.{logs_of, worker_at, set_up};
+ghost use Rattle.host_core.specs.WorldEvent.{WorldEvent, HasAdvanced, IsPhaseOver, AreEnabled, run_events};
 ghost use Rattle.host_core.specs.Deeds.{answers_in};
 ghost use Rattle.host_core.specs.Core.{histories};
 ghost use Rattle.bundle_report.specs.Report.{EpochText};
 ghost use Rattle.host_rounds.specs.SoFar.{lines_due, operations_due, epochs_due, end_due};
-ghost use Rattle.run_reports.specs.Runs.{HoldsOfRuns};
+ghost use Rattle.record_text.specs.declared.request.Request.{Request};
+ghost use Rattle.script_text.specs.declared.task.Task.{Task};
+ghost use Rattle.host_world.specs.declared.settings.Settings.{Settings};
+ghost use Rattle.host_world.specs.ShippedHost.{shipped_host};
+ghost use Rattle.host_fits.specs.Promise.{CanRun};
+ghost use Rattle.host_fits.specs.Holds.{ContentsHold};
+ghost use Rattle.run_reports.specs.Runs.{HoldsOfRuns, map_certified};
 
-use host_fits::the_shipped_host_keeps_its_promise;
+use host_fits::{the_contents_hold_the_plain_map, the_shipped_host_keeps_its_promise};
 
 /// The histories that a check reads of the bytes of the logs are those of the host's world, and it refuses no log.
 pub fn a_check_reads_what_the_host_logged()
@@ -85,4 +91,19 @@ pub fn a_check_finds_what_the_script_asks()
         → answers_in (get_or (histories_at (scheme host) host.header (written_logs host.header (logs_of world))) i []) ≡ script_of host i) }
 {
     the_shipped_host_keeps_its_promise();
+}
+
+/// Where each worker has advanced twice, behind a whole last close, the host's contents hold the plain map behind the operations
+/// that a check certifies of the logs.
+pub fn the_contents_hold_what_a_check_certifies()
+    ensures holds { (functions : DigestFunctions) (settings : Settings) (script : List (List Task)) (events : List (WorldEvent Request))
+        → CanRun functions settings script → settings.header.first < 2 ^ 32
+        → let host = shipped_host functions settings script in
+        AreEnabled host (set_up host) events
+        → ((i : ℕ) → i < length (run_events host (set_up host) events).workers → HasAdvanced host (run_events host (set_up host) events) i 2)
+        → ContentsHold settings (run_events host (set_up host) events)
+        (map_certified functions settings.header (logs_of (run_events host (set_up host) events))) }
+{
+    the_shipped_host_keeps_its_promise();
+    the_contents_hold_the_plain_map();
 }

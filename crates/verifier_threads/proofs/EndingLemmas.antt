@@ -33,6 +33,8 @@ use Rattle.host_world.specs.Settings.{IsSettings}
 use Rattle.host_world.specs.Behind.{AreInRange, AreOfOneHost, host_of, with_logs}
 use Rattle.host_world.proofs.FrontLaws.{before_each-none}
 use Rattle.host_fits.specs.Promise.{CanRun}
+use Rattle.host_fits.specs.Holds.{ContentsHold}
+use Rattle.run_reports.specs.Runs.{map_certified}
 use Rattle.host_serving.specs.Leading.{Leads, LeadsAs}
 use Rattle.host_serving.specs.Form.{AreInRounds}
 use Rattle.host_serving.specs.Standing.{HasServedUpTo}
@@ -152,6 +154,15 @@ ChecksAsDone = (functions : DigestFunctions) (settings : Settings) (script : Lis
     → end_due host.functions host.header (written_logs host.header (logs_of (run_events host (set_up host) events)))
     ≡ Done (suc (run_events host (set_up host) events).phase)
 
+-- what the contents hold behind a whole run
+abbrev pub HoldAsCertified : Type 0
+HoldAsCertified = (functions : DigestFunctions) (settings : Settings) (script : List (List Task)) (events : List (WorldEvent Request))
+    → CanRun functions settings script → settings.header.first < 4294967296
+    → let host = shipped_host functions settings script in
+    AreEnabled host (set_up host) events
+    → ((i : ℕ) → i < length (run_events host (set_up host) events).workers → HasAdvanced host (run_events host (set_up host) events) i 2)
+    → ContentsHold settings (run_events host (set_up host) events) (map_certified functions settings.header (logs_of (run_events host (set_up host) events)))
+
 module _ (receipts : Bool) (functions : DigestFunctions) (settings : Settings) (script : List (List Task)) (world : World Content) (rounds : RunsSoFar)
     (end : Option ClockEnd) (past : List Logs) (outputs : Outputs) (running : IsRunning receipts functions settings script world rounds end past outputs)
     (at : IsAtEnd (shipped_host functions settings script) world end) where
@@ -164,14 +175,31 @@ module _ (receipts : Bool) (functions : DigestFunctions) (settings : Settings) (
   logs-are : running.logs ≡ logs_of all_logged
   logs-are = front-logs running.logs world.workers running.each at.handed
 
-  pub ended-run : (end ≡ None → length past ≡ 2 * length script) → AreOfRun functions settings script past running.logs end
-  ended-run count = record {
+  can-run : GivesDigests functions.digest → CanRun functions settings script
+  can-run digests = record { in_range = running.settings_fit; counters = running.counters; keys = running.keys; digests = digests }
+
+  all-advanced : end ≡ None → (i : ℕ) → i < length (run_events own_host (set_up own_host) running.way.events).workers
+      → HasAdvanced own_host (run_events own_host (set_up own_host) running.way.events) i 2
+  all-advanced none' =
+      subst (λ (w : World Content). (i : ℕ) → i < length w.workers → HasAdvanced own_host w i 2) running.way.is
+      (all_with own_host running.logs world (at.whole none')).closed.advanced
+
+  -- the contents hold what the logs certify where no clock ended
+  pub ended-holds : HoldAsCertified → GivesDigests functions.digest → end ≡ None → ContentsHold settings all_logged (map_certified functions settings.header running.logs)
+  ended-holds holding digests none' =
+      subst (λ (logs : List (List Command)). ContentsHold settings all_logged (map_certified functions settings.header logs)) (sym logs-are)
+      (subst (λ (w : World Content). ContentsHold settings w (map_certified functions settings.header (logs_of w))) (sym running.way.is)
+      (holding functions settings script running.way.events (can-run digests) running.keeps.vault.is_bundle.first running.way.enabled (all-advanced none')))
+
+  ended-run : HoldAsCertified → GivesDigests functions.digest → (end ≡ None → length past ≡ 2 * length script) → AreOfRun functions settings script past running.logs end
+  ended-run holding digests count = record {
     served = λ enough. record {
       world = all_logged;
       way = running.way;
       rests = rests_with own_host running.logs world at.rests;
       logs_are = logs-are;
       whole = λ none'. all_with own_host running.logs world (at.whole none');
+      holds = ended-holds holding digests;
       lowest = lowest_with own_host running.logs world end at.lowest;
       passed = running.passed;
       count = count;
@@ -184,11 +212,8 @@ module _ (receipts : Bool) (functions : DigestFunctions) (settings : Settings) (
       → end_due functions settings.header (written_logs settings.header running.logs) ≡ Done (length script)
   ended-due checks digests none' =
       let way = running.way in
-      let can : CanRun functions settings script = record { in_range = running.settings_fit; counters = running.counters; keys = running.keys; digests = digests } in
-      let whole = all_with own_host running.logs world (at.whole none') in
       ap (λ (logs : List (List Command)). end_due functions settings.header (written_logs settings.header logs)) (logs-are ∙ ap logs_of way.is)
-      ∙ checks functions settings script way.events can running.keeps.vault.is_bundle.first way.enabled
-      (subst (λ (w : World Content). (i : ℕ) → i < length w.workers → HasAdvanced own_host w i 2) way.is whole.closed.advanced)
+      ∙ checks functions settings script way.events (can-run digests) running.keeps.vault.is_bundle.first way.enabled (all-advanced none')
       ∙ ap (λ (n : ℕ). Done n) (ap (λ (w : World Content). suc w.phase) (sym way.is) ∙ at.last none' ∙ length-map script (map turn_of))
 
   -- so the last line says
@@ -198,7 +223,8 @@ module _ (receipts : Bool) (functions : DigestFunctions) (settings : Settings) (
       ap (λ (e : BundleEnd). last_line (status_of e)) (ended-due checks digests none')
       ∙ ap (λ (e : Option ClockEnd). last_line (status_at (end_by (length script) e))) (sym none')
 
-  module _ (all : AllCounted functions settings.header (written_logs settings.header running.logs) rounds) (count : end ≡ None → length past ≡ 2 * length script) where
+  module _ (holding : HoldAsCertified) (digests : GivesDigests functions.digest)
+      (all : AllCounted functions settings.header (written_logs settings.header running.logs) rounds) (count : end ≡ None → length past ≡ 2 * length script) where
     -- all that is due is written
     due-written : Grows outputs.out outputs.out_after (lines_due (told_by receipts functions settings.header) functions settings.header (written_logs settings.header running.logs))
     due-written =
@@ -214,7 +240,7 @@ module _ (receipts : Bool) (functions : DigestFunctions) (settings : Settings) (
       logs = running.logs;
       end = end;
       rounds = past;
-      run = ended-run count;
+      run = ended-run holding digests count;
       is = is;
       vault = running.keeps.vault;
       out = Grows-then outputs.out outputs.out_after out' (lines_due (told_by receipts functions settings.header) functions settings.header (written_logs settings.header running.logs)) (last_line (status_at result)) due-written written;
@@ -227,7 +253,7 @@ module _ (receipts : Bool) (functions : DigestFunctions) (settings : Settings) (
       logs = running.logs;
       end = end;
       rounds = past;
-      run = ended-run count;
+      run = ended-run holding digests count;
       vault = running.keeps.vault;
       out = GrowsByFront-then outputs.out outputs.out_after out' (lines_due (told_by receipts functions settings.header) functions settings.header (written_logs settings.header running.logs)) (last_line (status_at (end_by (length script) end))) due-written written;
     }
@@ -240,7 +266,7 @@ module _ (receipts : Bool) (functions : DigestFunctions) (settings : Settings) (
       logs = running.logs;
       end = end;
       rounds = past;
-      run = ended-run count;
+      run = ended-run holding digests count;
       is = is;
       vault = running.keeps.vault;
       out = subst (Grows out out')
@@ -255,7 +281,7 @@ module _ (receipts : Bool) (functions : DigestFunctions) (settings : Settings) (
       logs = running.logs;
       end = end;
       rounds = past;
-      run = ended-run count;
+      run = ended-run holding digests count;
       vault = running.keeps.vault;
       out = subst (GrowsByFront out out')
           (summary-is functions settings.header (written_logs settings.header running.logs) rounds load.seed load.ops (status_at result) running.keeps.runs all

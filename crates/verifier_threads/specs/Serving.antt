@@ -16,6 +16,8 @@ use Rattle.script_text.specs.declared.task.Task.{Task}
 use Rattle.host_world.specs.declared.fault.ClockEnd.{ClockEnd}
 use Rattle.host_world.specs.declared.settings.Settings.{Settings}
 use Rattle.host_world.specs.ShippedHost.{shipped_host}
+use Rattle.host_fits.specs.Holds.{ContentsHold}
+use Rattle.run_reports.specs.Runs.{map_certified}
 use Rattle.host_serving.specs.Leading.{LeadsAs, CanDoNoMore}
 use Rattle.host_serving.specs.Form.{AreInRounds}
 use Rattle.host_serving.specs.Standing.{IsLowest, IsAllServed}
@@ -52,14 +54,15 @@ setup_end settings = record { worker = 0; at = record { epoch = settings.header.
 
 module _ (functions : DigestFunctions) (settings : Settings) (script : List (List Task)) (rounds : List Logs) (logs : Logs) (end : Option ClockEnd) where
   -- The logs of a world to which enabled events in rounds lead from the setup, and in which no more can be done. Where no clock
-  -- ended on the way the whole script is served; else it is the first end that they come to, and that of the lowest worker whose clock
-  -- ended in its round. They were logged in these rounds: where no clock ended, those are two of each phase.
+  -- ended on the way the whole script is served, and the contents hold the plain map that the logs certify; else it is the first end
+  -- that they come to, and that of the lowest worker whose clock ended in its round. They were logged in these rounds: where no clock ended, those are two of each phase.
   pub record AreServed : Type 0 where
     pub world : World Content
     pub way : LeadsAs AreInRounds (shipped_host functions settings script) (set_up (shipped_host functions settings script)) world end
     pub rests : CanDoNoMore (shipped_host functions settings script) world
     pub logs_are : logs ≡ logs_of world
     pub whole : end ≡ None → IsAllServed (shipped_host functions settings script) world
+    pub holds : end ≡ None → ContentsHold settings world (map_certified functions settings.header logs)
     pub lowest : IsLowest (shipped_host functions settings script) world end
     pub passed : ArePassed (shipped_host functions settings script) rounds world
     pub count : end ≡ None → length rounds ≡ 2 * length script

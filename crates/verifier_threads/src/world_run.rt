@@ -38,8 +38,7 @@ use merkle_records::digests_have_32_bytes;
 use record_hash::Digests;
 use report_text::BundleEnd;
 use run_reports::{
-    a_check_of_the_logs_ends_as_the_host_promises, logs_come_to_rest,
-    logs_of_no_bytes_certify_nothing,
+    a_check_of_the_logs_ends_as_the_host_promises, logs_come_to_rest, logs_of_no_bytes_certify_nothing, the_contents_hold_what_a_check_certifies,
 };
 use std::alloc::Global;
 use std::sync::Wait;
@@ -117,6 +116,7 @@ impl<'a, D: Digests> WorldRun<'a, D> {
         ensures write_fault { OnErr result (Rose (O.faults out.old) (O.faults out.new)) }
         ensures never_falls { O.faults out.old ≤ O.faults out.new }
     {
+        the_contents_hold_what_a_check_certifies();
         let end = self.conclude();
         write_end(&end.status(), out)?;
         Ok(end)
@@ -136,6 +136,7 @@ impl<'a, D: Digests> WorldRun<'a, D> {
         ensures write_fault { OnErr result (Rose (O.faults out.old) (O.faults out.new)) }
         ensures never_falls { O.faults out.old ≤ O.faults out.new }
     {
+        the_contents_hold_what_a_check_certifies();
         let end = self.conclude();
         self.rounds
             .write_summary(load.seed, load.ops, &end.status(), out)?;

@@ -15,7 +15,8 @@ returns-in_err-write_end-clause-cut g c = λ receipts outputs whole written.
     let out' = g.O.Sink.held c.write_end.new.out in
     let line = ap last_line (c.status.ensures.value ∙ ap status_at c.conclude-end.ensures.end) in
     err_any c.from_residual.result
-    (ended-cut receipts f old.world.settings (requests_of old.world) (shown_world old.world) old.rounds old.end whole.past outputs whole.runs.running c.requires.ended whole.all whole.count out'
+    (ended-cut receipts f old.world.settings (requests_of old.world) (shown_world old.world) old.rounds old.end whole.past outputs whole.runs.running c.requires.ended
+    c.the_contents_hold_what_a_check_certifies.ensures.holds (λ text. (g.met.D.Digests.text_digest_shape old.world.d.now text).size) whole.all whole.count out'
     (subst (λ (o : Option (List ℕ)). GrowsByFront o out' (last_line (status_at (end_by (length (requests_of old.world)) old.end)))) (sym written)
     (subst (GrowsByFront (g.O.Sink.held c.args.out.now) out') line c.in_err-write_end.ensures.front)))
 
@@ -25,7 +26,8 @@ returns-clause-served g c = λ receipts outputs whole written.
     let f = g.D.Digests.functions (digests_of old.world) in
     let out' = g.O.Sink.held c.write_end.new.out in
     let result = c.conclude-end.result in
-    ended-served receipts f old.world.settings (requests_of old.world) (shown_world old.world) old.rounds old.end whole.past outputs whole.runs.running c.requires.ended whole.all whole.count out' result
+    ended-served receipts f old.world.settings (requests_of old.world) (shown_world old.world) old.rounds old.end whole.past outputs whole.runs.running c.requires.ended
+    c.the_contents_hold_what_a_check_certifies.ensures.holds (λ text. (g.met.D.Digests.text_digest_shape old.world.d.now text).size) whole.all whole.count out' result
     c.conclude-end.ensures.end
     (subst (λ (o : Option (List ℕ)). Grows o out' (last_line (status_at result))) (sym written)
     (subst (λ (s : Status). Grows (g.O.Sink.held c.args.out.now) out' (last_line s)) c.status.ensures.value c.in_ok-write_end.ensures.line))

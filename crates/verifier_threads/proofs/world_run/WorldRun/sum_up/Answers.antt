@@ -28,7 +28,8 @@ returns-in_err-write_summary-clause-cut g c = λ receipts outputs whole.
     let out' = g.O.Sink.held c.write_summary.new.out in
     let says = c.conclude-end.ensures in
     err_any c.from_residual.result
-    (ended-cut_summary receipts f old.world.settings (requests_of old.world) (shown_world old.world) old.rounds old.end whole.past outputs whole.runs.running c.requires.ended whole.all whole.count
+    (ended-cut_summary receipts f old.world.settings (requests_of old.world) (shown_world old.world) old.rounds old.end whole.past outputs whole.runs.running c.requires.ended
+    c.the_contents_hold_what_a_check_certifies.ensures.holds (λ text. (g.met.D.Digests.text_digest_shape old.world.d.now text).size) whole.all whole.count
     load out out' c.conclude-end.result says.end
     (subst (GrowsByFront out out')
     (same_summary load.seed load.ops old.rounds c.conclude-end.new.self.rounds c.status.result (status_at c.conclude-end.result) says.judged says.summary c.status.ensures.value)
@@ -42,7 +43,8 @@ returns-clause-summed g c = λ receipts outputs whole.
     let out = g.O.Sink.held c.args.out.now in
     let out' = g.O.Sink.held c.write_summary.new.out in
     let says = c.conclude-end.ensures in
-    ended-summed receipts f old.world.settings (requests_of old.world) (shown_world old.world) old.rounds old.end whole.past outputs whole.runs.running c.requires.ended whole.all whole.count
+    ended-summed receipts f old.world.settings (requests_of old.world) (shown_world old.world) old.rounds old.end whole.past outputs whole.runs.running c.requires.ended
+    c.the_contents_hold_what_a_check_certifies.ensures.holds (λ text. (g.met.D.Digests.text_digest_shape old.world.d.now text).size) whole.all whole.count
     load out out' c.conclude-end.result says.end
     (subst (Grows out out')
     (same_summary load.seed load.ops old.rounds c.conclude-end.new.self.rounds c.status.result (status_at c.conclude-end.result) says.judged says.summary c.status.ensures.value)
