@@ -19,7 +19,7 @@ use Rattle.verifier_threads.specs.declared.runner.Runner.{Runner}
 use Rattle.verifier_threads.specs.declared.runner.State.{State}
 use Rattle.verifier_threads.specs.declared.world_run.WorldRun.{WorldRun}
 use Rattle.verifier_threads.specs.Serving.{Outputs, IsCutOff, IsCutInRound}
-use Rattle.verifier_threads.specs.Running.{IsUnderWayBehind, IsUnderWayWhole, IsAtPhase, IsAtClose, IsAtEnd}
+use Rattle.verifier_threads.specs.Running.{RunsToEnd, IsUnderWayBehind, IsUnderWayWhole, IsAtPhase, IsAtClose, IsAtEnd}
 use Rattle.verifier_threads.specs.Runners.{StandsBefore, StandsUnwritten, StandsFor, StateStands, Stands, IsRunOf}
 use Rattle.verifier_threads.proofs.EndingLemmas.{turns-now, runs-workers}
 use Rattle.verifier_threads.proofs.CutLemmas.{cut-as, cut_round-as}
@@ -78,6 +78,12 @@ module _ {D : Type 0} (functions : D → DigestFunctions) (own : DigestFunctions
 module _ {D : Type 0} (functions : D → DigestFunctions) (run : WorldRun D) (held dropped : Option (List ℕ)) where
   abbrev phase_of : ℕ
   phase_of = (shown_world run.world).phase
+
+  -- at the end the run is whole, whatever is to be written of it
+  pub finish-runs : (account : Account) (outputs : Outputs) → StandsFor account calls.Finish dropped functions run outputs
+      → (receipts : Bool) × (lines : Outputs) × RunsToEnd receipts functions run lines × (lines.vault ≡ outputs.vault) × (lines.vault_after ≡ outputs.vault_after)
+  finish-runs (accounts.Report receipts) outputs stands = (receipts, outputs, stands.0, refl, refl)
+  finish-runs (accounts.Summary load) outputs stands = (false, record outputs { out = stands.before; out_after = dropped }, stands.stands.0, refl, refl)
 
   pub phase-needs : (account : Account) (outputs : Outputs) → StandsFor account calls.Phase dropped functions run outputs → outputs.vault_after ≡ held
       → IsUnderWayBehind functions run phase_of phase_of held × IsAtPhase (host_of (functions (digests_of run.world)) run.world) (shown_world run.world) run.end

@@ -1,5 +1,5 @@
 -- Where a run ends: what is served, and what its report says.
-use Rattle.std.proofs.Common.{◌≡◌, Bool, ◌*◌, ◌-◌, ℕ, zero, suc, ◌<◌, ◌≤◌, false, List, [], ◌∷◌, length, map, get_or, replicate, Option, None, inr, refl, sym, ◌∙◌, ap, subst, arith}
+use Rattle.std.proofs.Common.{◌≡◌, Bool, ◌*◌, ◌-◌, ℕ, zero, suc, ◌<◌, ◌≤◌, false, List, [], ◌∷◌, length, map, get_or, replicate, Option, Some, None, inr, refl, sym, ◌∙◌, ap, subst, arith}
 use Rattle.std.specs.List.{AllByRecursion}
 use Rattle.std.proofs.lemmas.List.{length-map, length-replicate}
 use Rattle.fv_outside.specs.Written.{Grows, GrowsByFront}
@@ -47,7 +47,7 @@ use Rattle.verifier_threads.specs.declared.accounts.Account.TheVariants as accou
 use Rattle.verifier_threads.specs.declared.ending.RunEnd.{RunEnd}
 use Rattle.verifier_threads.specs.declared.world_run.WorldRun.{WorldRun}
 use Rattle.verifier_threads.specs.InRounds.{Logs}
-use Rattle.verifier_threads.specs.Serving.{Outputs, AreOfRun, IsServed, IsCutAtEnd, end_by, status_at}
+use Rattle.verifier_threads.specs.Serving.{Outputs, IfDone, HoldsWhatIsCertified, AreOfRun, IsServed, IsCutAtEnd, end_by, status_at}
 use Rattle.verifier_threads.specs.declared.loads.Load.{Load}
 use Rattle.verifier_threads.specs.Running.{IsRunning, Runs, RunsWhole, RunsToEnd, IsAtPhase, IsAtEnd}
 use Rattle.verifier_threads.proofs.RunningLemmas.{running-workers}
@@ -206,6 +206,16 @@ module _ (receipts : Bool) (functions : DigestFunctions) (settings : Settings) (
     };
     unserved = λ short. absurd (omega (arith, short, running.counters));
   }
+
+  -- so the bundle says, where all phases are done
+  pub ended-map : HoldAsCertified → GivesDigests functions.digest → (result : RunEnd) → result ≡ end_by (length script) end
+      → IfDone result (HoldsWhatIsCertified functions settings world outputs.vault outputs.vault_after)
+  ended-map holding digests result is =
+      subst (λ (r : RunEnd). IfDone r (HoldsWhatIsCertified functions settings world outputs.vault outputs.vault_after)) (sym is) (go end refl)
+    where
+      go : (e : Option ClockEnd) → end ≡ e → IfDone (end_by (length script) e) (HoldsWhatIsCertified functions settings world outputs.vault outputs.vault_after)
+      go None none' = record { rounds = past; logs = running.logs; bundle = running.keeps.vault; holds = ended-holds holding digests none' }
+      go (Some found) some = tt
 
   -- all epochs are certified where no clock ended
   pub ended-due : ChecksAsDone → GivesDigests functions.digest → end ≡ None

@@ -18,7 +18,7 @@ use Rattle.verifier_threads.specs.declared.runner.Runner.{Runner}
 use Rattle.verifier_threads.specs.declared.runner.State.{State}
 use Rattle.verifier_threads.specs.declared.runner.State.TheVariants as states
 use Rattle.verifier_threads.specs.declared.world_run.WorldRun.{WorldRun}
-use Rattle.verifier_threads.specs.Serving.{Outputs, setup_end}
+use Rattle.verifier_threads.specs.Serving.{Outputs, HoldsWhatIsCertified, setup_end}
 use Rattle.verifier_threads.specs.Running.{RunsBehind, RunsToEnd, IsAtPhase, IsAtClose, IsAtEnd}
 
 -- ---- which call comes next
@@ -107,6 +107,15 @@ pub record Stands (account : Account) {D : Type 0} (functions : D → DigestFunc
     (runner : Runner D) (outputs : Outputs) : Type 0 where
   pub account_is : runner.account ≡ account
   pub state : StateStands account runner.next runner.dropped.held functions own settings script runner.state outputs
+
+-- what is held where all is served: the contents of the run's world hold what is certified
+abbrev pub StateHolds : DigestFunctions → Settings → {D : Type 0} → State D → Outputs → Type 0
+StateHolds own settings (states.Served run) outputs = HoldsWhatIsCertified own settings (shown_world run.world) outputs.vault outputs.vault_after
+StateHolds own settings (states.Unserved rounds end) outputs = ⊥
+
+-- the contents that a runner keeps hold the plain map that the bundle in the vault certifies
+abbrev pub KeepsWhatIsCertified : DigestFunctions → Settings → {D : Type 0} → Runner D → Outputs → Type 0
+KeepsWhatIsCertified own settings runner outputs = StateHolds own settings runner.state outputs
 
 -- A runner that its calls have brought so far, where the vault now holds this.
 abbrev pub IsServing : {D : Type 0} → (D → DigestFunctions) → Runner D → Option (List ℕ) → Type 0

@@ -46,6 +46,11 @@ abbrev pub status_at : RunEnd → Status
 status_at (ends.Done epochs) = statuses.Done epochs
 status_at (ends.ClockEnd end) = statuses.ClockEnd end.worker end.at
 
+-- what is said where a run ends with all phases done
+abbrev pub IfDone : RunEnd → Type 0 → Type 0
+IfDone (ends.Done epochs) P = P
+IfDone (ends.ClockEnd end) P = Unit {0}
+
 -- where worker 0 stands if the counters don't suffice for the setup
 abbrev pub setup_end : Settings → ClockEnd
 setup_end settings = record { worker = 0; at = record { epoch = settings.header.first; counter = 0 } }
@@ -112,6 +117,13 @@ pub record Outputs : Type 0 where
   pub vault_after : Option (List ℕ)
   pub out : Option (List ℕ)
   pub out_after : Option (List ℕ)
+
+-- The contents of a world hold the plain map that logs certify of which a vault took the bundle.
+pub record HoldsWhatIsCertified (functions : DigestFunctions) (settings : Settings) (world : World Content) (vault vault_after : Option (List ℕ)) : Type 0 where
+  pub rounds : List Logs
+  pub logs : Logs
+  pub bundle : HasBundle settings.header (written_logs settings.header logs) (map (written_logs settings.header) rounds) vault vault_after
+  pub holds : ContentsHold settings world (map_certified functions settings.header logs)
 
 -- what a sink took before the end, where a vault has these bytes: of a report a front of the lines that they certify, and of a summary
 -- nothing

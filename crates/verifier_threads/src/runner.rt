@@ -6,8 +6,8 @@ ghost use Rattle.record_hash.specs.Functions.{DigestFunctions};
 ghost use Rattle.script_text.specs.Text.{AreTasks};
 ghost use Rattle.script_text.specs.declared.task.Task.{Task};
 ghost use Rattle.host_world.specs.Settings.{IsSettings};
-ghost use Rattle.verifier_threads.specs.Serving.{Outputs, IsServed, IsCutOff, IsCutAtEnd, IsCutInHeader, IsCutInRound};
-ghost use Rattle.verifier_threads.specs.Runners.{Stands, IsServing, IsUnserved, TellsLines, next_call_of, phases_left};
+ghost use Rattle.verifier_threads.specs.Serving.{Outputs, IfDone, IsServed, IsCutOff, IsCutAtEnd, IsCutInHeader, IsCutInRound};
+ghost use Rattle.verifier_threads.specs.Runners.{Stands, IsServing, IsUnserved, KeepsWhatIsCertified, TellsLines, next_call_of, phases_left};
 
 use crate::accounts::Account;
 use crate::ending::RunEnd;
@@ -121,13 +121,18 @@ impl<'a, D: Digests> Runner<'a, D> {
         self.next
     }
 
-    /// Behind the last close: writes the last line of the report, or the summary, and answers how the run ends.
+    /// Behind the last close: writes the last line of the report, or the summary, and answers how the run ends. Where no clock ended
+    /// the contents hold the plain map that the bundle certifies.
     pub fn finish<O: Sink>(&mut self, out: &mut O) -> Result<RunEnd, Failure>
         requires next { next_call_of self.old ≡ NextCall.Finish }
         requires serving { (held : Option (List ℕ)) × IsServing D.functions self.old held }
         ensures served { (account : Account) (own : DigestFunctions) (settings : Settings) (script : List (List Task)) (outputs : Outputs)
             → Stands account D.functions own settings script self.old outputs → outputs.out_after ≡ O.held out.old
             → IfOk result (λ end. IsServed account own settings script end (record outputs { out_after = O.held out.new })) }
+
+        ensures holds { (account : Account) (own : DigestFunctions) (settings : Settings) (script : List (List Task)) (outputs : Outputs)
+            → Stands account D.functions own settings script self.old outputs
+            → IfOk result (λ end. IfDone end (KeepsWhatIsCertified own settings self.new outputs)) }
 
         // Where it stops: the sink failed.
         ensures cut { (account : Account) (own : DigestFunctions) (settings : Settings) (script : List (List Task)) (outputs : Outputs)
@@ -239,6 +244,7 @@ fn end_unserved<O: Sink>(
     ensures cut { (own : DigestFunctions) (settings : Settings) (script : List (List Task)) (outputs : Outputs)
         → IsUnserved own settings rounds.now end outputs → outputs.out_after ≡ O.held out.old
         → OnErr result (IsCutAtEnd account.now own settings script (record outputs { out_after = O.held out.new })) }
+    ensures ended { IfOk result (λ run. run ≡ RunEnd.ClockEnd end) }
     ensures stop { OnErr result (result ≡ Err Failure.WriteFault) }
     ensures write_fault { OnErr result (Rose (O.faults out.old) (O.faults out.new)) }
     ensures never_falls { O.faults out.old ≤ O.faults out.new }

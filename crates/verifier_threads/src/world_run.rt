@@ -16,7 +16,7 @@ ghost use Rattle.host_serving.specs.Leading.{first_of};
 ghost use Rattle.host_serving.specs.Standing.{turns_of};
 ghost use Rattle.verifier_threads.specs.declared.runner.State.{State};
 ghost use Rattle.verifier_threads.specs.InRounds.{Logs, IsBehindRounds};
-ghost use Rattle.verifier_threads.specs.Serving.{Outputs, IsServed, IsCutOff, IsCutInHeader, IsCutInRound, IsCutAtEnd, end_by};
+ghost use Rattle.verifier_threads.specs.Serving.{Outputs, IfDone, HoldsWhatIsCertified, IsServed, IsCutOff, IsCutInHeader, IsCutInRound, IsCutAtEnd, end_by};
 ghost use Rattle.verifier_threads.specs.Runners.{StandsBefore, StandsFor, TellsLines, left_by};
 ghost use Rattle.verifier_threads.specs.Running.{Runs, RunsSome, RunsBehind, RunsWhole, RunsToEnd, IsUnderWay, IsUnderWayBehind, IsUnderWayWhole, IsFedUnderWay, HaveReadRound, IsAtPhase, IsAtClose, IsAtEnd, all_handed_out, with_runs_of};
 
@@ -112,6 +112,9 @@ impl<'a, D: Digests> WorldRun<'a, D> {
         ensures cut { (receipts : Bool) (outputs : Outputs) → RunsToEnd receipts D.functions self.old outputs → outputs.out_after ≡ O.held out.old
             → OnErr result (IsCutAtEnd (Account.Report receipts) (D.functions (digests_of self.old.world)) (settings_of self.old.world) (requests_of self.old.world)
             (record outputs { out_after = O.held out.new })) }
+        ensures holds { (receipts : Bool) (outputs : Outputs) → RunsToEnd receipts D.functions self.old outputs
+            → IfOk result (λ end. IfDone end (HoldsWhatIsCertified (D.functions (digests_of self.new.world)) (settings_of self.new.world) (shown_world self.new.world) outputs.vault outputs.vault_after)) }
+        ensures world { self.new.world ≡ self.old.world }
         ensures stop { OnErr result (result ≡ Err Failure.WriteFault) }
         ensures write_fault { OnErr result (Rose (O.faults out.old) (O.faults out.new)) }
         ensures never_falls { O.faults out.old ≤ O.faults out.new }
@@ -132,6 +135,9 @@ impl<'a, D: Digests> WorldRun<'a, D> {
         ensures cut { (receipts : Bool) (outputs : Outputs) → RunsToEnd receipts D.functions self.old outputs
             → OnErr result (IsCutAtEnd (Account.Summary load.now) (D.functions (digests_of self.old.world)) (settings_of self.old.world) (requests_of self.old.world)
             (record outputs { out = O.held out.old; out_after = O.held out.new })) }
+        ensures holds { (receipts : Bool) (outputs : Outputs) → RunsToEnd receipts D.functions self.old outputs
+            → IfOk result (λ end. IfDone end (HoldsWhatIsCertified (D.functions (digests_of self.new.world)) (settings_of self.new.world) (shown_world self.new.world) outputs.vault outputs.vault_after)) }
+        ensures world { self.new.world ≡ self.old.world }
         ensures stop { OnErr result (result ≡ Err Failure.WriteFault) }
         ensures write_fault { OnErr result (Rose (O.faults out.old) (O.faults out.new)) }
         ensures never_falls { O.faults out.old ≤ O.faults out.new }
@@ -159,6 +165,9 @@ impl<'a, D: Digests> WorldRun<'a, D> {
             → outputs.out_after ≡ O.held out.old
             → OnErr result (IsCutAtEnd account.now (D.functions (digests_of self.old.world)) (settings_of self.old.world) (requests_of self.old.world)
             (record outputs { out_after = O.held out.new })) }
+        ensures holds { (receipts : Bool) (outputs : Outputs) → RunsToEnd receipts D.functions self.old outputs
+            → IfOk result (λ end. IfDone end (HoldsWhatIsCertified (D.functions (digests_of self.new.world)) (settings_of self.new.world) (shown_world self.new.world) outputs.vault outputs.vault_after)) }
+        ensures world { self.new.world ≡ self.old.world }
         ensures stop { OnErr result (result ≡ Err Failure.WriteFault) }
         ensures write_fault { OnErr result (Rose (O.faults out.old) (O.faults out.new)) }
         ensures never_falls { O.faults out.old ≤ O.faults out.new }
@@ -174,6 +183,7 @@ impl<'a, D: Digests> WorldRun<'a, D> {
         requires runs { IsUnderWayWhole D.functions self.old }
         requires ended { IsAtEnd (host_of (D.functions (digests_of self.old.world)) self.old.world) (shown_world self.old.world) self.old.end }
         ensures end { result ≡ end_by (length (requests_of self.old.world)) self.old.end }
+        ensures world { self.new.world ≡ self.old.world }
         ensures judged { self.new.rounds.judged ≡ self.old.rounds.judged }
         ensures summary { self.new.rounds.summary ≡ self.old.rounds.summary }
     {

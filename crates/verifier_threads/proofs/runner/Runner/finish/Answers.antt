@@ -1,14 +1,15 @@
-use Rattle.std.proofs.Common.{List, IfOk, OnErr, sym, subst}
+use Rattle.std.proofs.Common.{◌≡◌, ℕ, List, Option, IfOk, OnErr, sym, subst}
 use Rattle.record_hash.specs.Functions.{DigestFunctions}
 use Rattle.script_text.specs.declared.task.Task.{Task}
 use Rattle.host_world.specs.declared.settings.Settings.{Settings}
-use Rattle.host_world.specs.Shown.{digests_of, requests_of}
+use Rattle.host_world.specs.Shown.{shown_world, digests_of, requests_of}
 use Rattle.verifier_threads.specs.declared.accounts.Account.{Account}
 use Rattle.verifier_threads.specs.declared.runner.NextCall.TheVariants as calls
 use Rattle.verifier_threads.specs.declared.runner.State.TheVariants as states
-use Rattle.verifier_threads.specs.Serving.{Outputs, IsServed, IsCutAtEnd}
-use Rattle.verifier_threads.specs.Runners.{StandsFor}
-use Rattle.verifier_threads.proofs.CallLemmas.{run_of-these, stands-of, finish-needs}
+use Rattle.verifier_threads.specs.declared.ending.RunEnd.TheVariants as ends
+use Rattle.verifier_threads.specs.Serving.{Outputs, IfDone, HoldsWhatIsCertified, IsServed, IsCutAtEnd}
+use Rattle.verifier_threads.specs.Runners.{StandsFor, KeepsWhatIsCertified}
+use Rattle.verifier_threads.proofs.CallLemmas.{run_of-these, stands-of, finish-needs, finish-runs, if_ok-then}
 use Rattle.verifier_threads.proofs.runner.Runner.finish.Goals as goal
 
 pub end_with-requires : goal.end_with-requires
@@ -64,3 +65,25 @@ returns-in-Unserved-clause-cut g c = λ account own settings script outputs stan
     c.requires.next c.in-Unserved.is stands in
     subst (λ (a : Account). OnErr c.end_unserved.result (IsCutAtEnd a own settings script now)) stands.account_is
     (c.end_unserved.ensures.cut own settings script outputs was.1 written)
+
+pub returns-in-Served-clause-holds : goal.returns-in-Served-clause-holds
+returns-in-Served-clause-holds g c = λ account own settings script outputs stands.
+    let functions = g.D.Digests.functions in
+    let served = c.in-Served.served in
+    let dropped = c.args.self.now.dropped.held in
+    let held = c.requires.serving.0 in
+    let now = c.end_with.new.self in
+    let result = c.end_with.result in
+    let was = stands-of functions own settings script account c.args.self.now outputs calls.Finish (states.Served served) c.requires.next c.in-Served.is stands in
+    let runs = finish-runs functions served held dropped account outputs was.stands in
+    run_of-these functions own settings script served was.is_of
+    (λ (f : DigestFunctions) (s : Settings) (t : List (List Task)). IfOk result (λ end. IfDone end (HoldsWhatIsCertified f s (shown_world now.world) outputs.vault outputs.vault_after)))
+    (subst (λ w. IfOk result (λ end. IfDone end (HoldsWhatIsCertified (functions (digests_of w)) w.settings (shown_world now.world) outputs.vault outputs.vault_after))) c.end_with.ensures.world
+    (subst (λ (after : Option (List ℕ)). IfOk result (λ end. IfDone end (HoldsWhatIsCertified (functions (digests_of now.world)) now.world.settings (shown_world now.world) outputs.vault after))) runs.4
+    (subst (λ (vault : Option (List ℕ)). IfOk result (λ end. IfDone end (HoldsWhatIsCertified (functions (digests_of now.world)) now.world.settings (shown_world now.world) vault runs.1.vault_after))) runs.3
+    (c.end_with.ensures.holds runs.0 runs.1 runs.2))))
+
+pub returns-in-Unserved-clause-holds : goal.returns-in-Unserved-clause-holds
+returns-in-Unserved-clause-holds g c = λ account own settings script outputs stands.
+    if_ok-then (λ end. end ≡ ends.ClockEnd c.in-Unserved.end) (λ end. IfDone end (KeepsWhatIsCertified own settings c.args.self.now outputs)) c.end_unserved.result c.end_unserved.ensures.ended
+    (λ end is. subst (λ e. IfDone e (KeepsWhatIsCertified own settings c.args.self.now outputs)) (sym is) tt)

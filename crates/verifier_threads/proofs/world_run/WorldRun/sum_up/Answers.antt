@@ -1,4 +1,4 @@
-use Rattle.std.proofs.Common.{◌≡◌, ℕ, ◌∙◌, ap, subst}
+use Rattle.std.proofs.Common.{◌≡◌, ℕ, sym, ◌∙◌, ap, subst}
 use Rattle.fv_outside.specs.Written.{Grows, GrowsByFront}
 use Rattle.report_text.specs.declared.status.Status.{Status}
 use Rattle.load_summary.specs.Counting.{Counted}
@@ -6,9 +6,9 @@ use Rattle.load_summary.specs.Summary.{summary_with_end}
 use Rattle.bundle_report.specs.declared.judged.Judged.{Judged}
 use Rattle.host_rounds.specs.SoFar.{RunsSoFar}
 use Rattle.host_world.specs.Shown.{shown_world, digests_of, requests_of}
-use Rattle.verifier_threads.specs.Serving.{status_at}
+use Rattle.verifier_threads.specs.Serving.{IfDone, HoldsWhatIsCertified, status_at}
 use Rattle.verifier_threads.proofs.PassingLemmas.{err_any}
-use Rattle.verifier_threads.proofs.EndingLemmas.{ended-summed, ended-cut_summary}
+use Rattle.verifier_threads.proofs.EndingLemmas.{ended-map, ended-summed, ended-cut_summary}
 use Rattle.verifier_threads.proofs.world_run.WorldRun.sum_up.Goals as goal
 
 -- the summary of what was counted, by other names
@@ -49,3 +49,12 @@ returns-clause-summed g c = λ receipts outputs whole.
     (subst (Grows out out')
     (same_summary load.seed load.ops old.rounds c.conclude-end.new.self.rounds c.status.result (status_at c.conclude-end.result) says.judged says.summary c.status.ensures.value)
     c.in_ok-write_summary.ensures.whole)
+
+pub returns-clause-holds : goal.returns-clause-holds
+returns-clause-holds g c = λ receipts outputs whole.
+    let old = c.args.self.now in
+    let functions = g.D.Digests.functions in
+    let result = c.conclude-end.result in
+    subst (λ w. IfDone result (HoldsWhatIsCertified (functions (digests_of w)) w.settings (shown_world w) outputs.vault outputs.vault_after)) (sym c.conclude-end.ensures.world)
+    (ended-map receipts (functions (digests_of old.world)) old.world.settings (requests_of old.world) (shown_world old.world) old.rounds old.end whole.past outputs whole.runs.running c.requires.ended
+    c.the_contents_hold_what_a_check_certifies.ensures.holds (λ text. (g.met.D.Digests.text_digest_shape old.world.d.now text).size) result c.conclude-end.ensures.end)
