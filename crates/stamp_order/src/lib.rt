@@ -2,9 +2,10 @@
 //!
 //! A moment is a clock, a verifier and the number of a command in its log. The merged order goes by the
 //! moments, clocks first (Lamport 1978), and keeps the order of each verifier. It is defined for any list
-//! whose members have moments, in `specs/Merged.antt`; `laws.rt` says what it does, and `merge` makes it of
-//! operations, and `merge_lists` of lists of them that stand in order each, without a copy. `specs/Serial.antt` says when operations are serial: each get answers the last put to its
-//! key; `is_serial` tests it by a `PlainMap`.
+//! whose members have moments, in `specs/Merged.antt`; `laws.rt` says what it does, `merge` makes it of
+//! operations, and `merge_lists` of lists of operations that stand in order each, without a copy.
+//! `specs/Serial.antt` says when operations are serial: each get answers the last put to its key; `is_serial`
+//! tests it by a `PlainMap`.
 //!
 //! The crate stands on `record_text` for operations, on `lamport_clocks` for stamps, and on std's stable sort
 //! and ordered map. Begin with `Moment` in `moment.rt` and `merge` in `merging.rt`.
