@@ -1,12 +1,12 @@
 //! Certifying epoch by epoch, as the logs come.
 ghost use Rattle.std.specs.Prelude.{◌≡◌, ◌≢◌, ◌+◌, ◌-◌, ◌<◌, ◌≤◌, ◌++◌, ℕ, List, map, length, slice_get, true, false, IfOk, IfSome, OnOk, OnErr, Ok, Err, None, Some};
+ghost use Rattle.std.specs.List.{fold};
 ghost use Rattle.fv_outside.specs.Failures.{FailsByWriting};
 ghost use Rattle.fv_outside.specs.Faults.{Counts, Rose};
 ghost use Rattle.fv_outside.specs.Written.{Grows, GrowsByFront};
 ghost use Rattle.lamport_clocks.specs.declared.header.Header.{Header};
 ghost use Rattle.merkle_records.specs.Scheme.{Scheme};
 ghost use Rattle.record_text.specs.declared.operation.Operation.{Operation};
-ghost use Rattle.load_summary.specs.Counting.{counted_of};
 ghost use Rattle.report_text.specs.Page.{Passes};
 ghost use Rattle.bundle_report.specs.RunReport.{courses_of, parts_at};
 ghost use Rattle.bundle_report.specs.Judged.{judged};
@@ -33,8 +33,8 @@ use base_words::Memory;
 use bundle_report::{Judged, Uneven};
 use epoch_gather::Verdict;
 use fv_outside::{Failure, Sink};
-use load_summary::Summary;
 use multiset_sum::Part;
+use operation_folds::OperationFold;
 use record_hash::Digests;
 use record_text::Operation;
 use report_text::{BundleEnd, Page, write_last};
@@ -82,24 +82,24 @@ impl Certifier {
         &self.judged
     }
 
-    /// Writes the lines of all epochs that the runs now certify and that are not written yet, counts their operations, and
-    /// takes what the runs have of these epochs out of them. The verdicts on the first of these may have been settled
+    /// Writes the lines of all epochs that the runs now certify and that are not written yet, adds their operations to a fold,
+    /// and takes what the runs have of these epochs out of them. The verdicts on the first of these may have been settled
     /// elsewhere; the others are found here. Where a run is starved that is want of memory, and nothing is written.
     ///
-    /// After want of memory or where the sink failed it holds a front of these lines, and the certifier is of no more use.
-    pub fn certify<D: Digests, O: Sink>(
+    /// After want of memory or where the sink failed it holds a front of these lines, and certifier and fold are of no more use.
+    pub fn certify<D: Digests, T: OperationFold, O: Sink>(
         &mut self,
         settled: &[Verdict],
         runs: &mut [FedRun],
         telling: &Telling<D>,
-        summary: &mut Summary,
+        folded: &mut T,
         out: &mut O,
     ) -> Result<(), Failure>
         requires few { length runs.old ≤ 64 }
         requires logs { AreFed runs.old → HaveLogs self.old (map (λ fed. fed.run) runs.old) }
         requires settled { AreFed runs.old → AreVerdictsOn self.old (map (λ fed. fed.run) runs.old) settled.now }
 
-        // Of all logs that the runs have taken so far: what they certify is counted and written.
+        // Of all logs that the runs have taken so far: what they certify is counted, written and added.
         ensures judged { (scheme : Scheme) (header : Header) (logs : List (List ℕ))
             → HaveRead scheme header logs self.old (map (λ fed. fed.run) runs.old)
             → OnOk result (self.new ≡ judged header.verifiers (courses_of scheme header logs)) }
@@ -110,11 +110,10 @@ impl Certifier {
             → HaveRead scheme header logs self.old (map (λ fed. fed.run) runs.old)
             → OnOk result (Grows (O.held out.old) (O.held out.new)
             (lines_from (text_by D.functions telling.now) (courses_of scheme header logs) (header.first + self.old.count) (self.new.count - self.old.count))) }
-        ensures counted { (scheme : Scheme) (header : Header) (logs : List (List ℕ)) (workers : ℕ) (before : List Operation)
+        ensures folded { (scheme : Scheme) (header : Header) (logs : List (List ℕ))
             → HaveRead scheme header logs self.old (map (λ fed. fed.run) runs.old)
-            → summary.old ≡ counted_of workers before
-            → OnOk result (summary.new ≡ counted_of workers (before
-            ++ lines_from operations_told (courses_of scheme header logs) (header.first + self.old.count) (self.new.count - self.old.count))) }
+            → OnOk result (T.state folded.new ≡ fold T.step (T.state folded.old)
+            (lines_from operations_told (courses_of scheme header logs) (header.first + self.old.count) (self.new.count - self.old.count))) }
 
         // Where it stops, the sink took a front of the lines of what they certify.
         ensures front { (scheme : Scheme) (header : Header) (logs : List (List ℕ))
@@ -141,7 +140,7 @@ impl Certifier {
         let mut page = Page::new();
         'epochs: loop {
             let handed = settled.get(self.judged.count - before);
-            if !self.certify_next(handed, runs, telling, summary, &mut page, out)? {
+            if !self.certify_next(handed, runs, telling, folded, &mut page, out)? {
                 break;
             }
         }
@@ -195,14 +194,14 @@ impl Certifier {
         }
     }
 
-    // Counts the operations of the next epoch and writes its lines, if it is certified, and answers whether it is. The verdict
+    // Adds the operations of the next epoch to a fold and writes its lines, if it is certified, and answers whether it is. The verdict
     // on it may be handed in.
-    fn certify_next<D: Digests, O: Sink>(
+    fn certify_next<D: Digests, T: OperationFold, O: Sink>(
         &mut self,
         handed: Option<&Verdict>,
         runs: &mut [FedRun],
         telling: &Telling<D>,
-        summary: &mut Summary,
+        folded: &mut T,
         page: &mut Page,
         out: &mut O,
     ) -> Result<bool, Failure>
@@ -214,9 +213,7 @@ impl Certifier {
         ensures turned { IfOk result (λ more. turn (text_by D.functions telling.now) self.old (map (λ fed. fed.run) runs.old)
             ≡ record { more = more; judged = self.new; runs = map (λ fed. fed.run) runs.new; text = (turn (text_by D.functions telling.now) self.old (map (λ fed. fed.run) runs.old)).text }) }
         ensures text { OnOk result (Passes (O.held out.old) page.old (turn (text_by D.functions telling.now) self.old (map (λ fed. fed.run) runs.old)).text (O.held out.new) page.new) }
-        ensures counted { (workers : ℕ) (before : List Operation)
-            → summary.old ≡ counted_of workers before
-            → OnOk result (summary.new ≡ counted_of workers (before ++ (turn operations_told self.old (map (λ fed. fed.run) runs.old)).text)) }
+        ensures folded { OnOk result (T.state folded.new ≡ fold T.step (T.state folded.old) (turn operations_told self.old (map (λ fed. fed.run) runs.old)).text) }
         ensures front { OnErr result (GrowsByFront (O.held out.old) (O.held out.new) (page.old ++ (turn (text_by D.functions telling.now) self.old (map (λ fed. fed.run) runs.old)).text)) }
         ensures fed { AreFed runs.old → AreFed runs.new }
         ensures less { result ≡ Ok true → parts_left runs.new < parts_left runs.old }
@@ -241,13 +238,23 @@ impl Certifier {
             Verdict::Missing(_) => return Ok(false),
         }
         take(&mut self.operations, runs, epoch)?;
-        summary.count(&self.operations)?;
+        add_all(folded, &self.operations)?;
         if write_epoch_lines(telling, epoch, &self.operations, page, out).is_err() {
             return Err(Failure::WriteFault);
         }
         self.judged.count = one_more(self.judged.count, epoch);
         Ok(true)
     }
+}
+
+// Adds operations to a fold, one after another.
+fn add_all<T: OperationFold>(folded: &mut T, operations: &[Operation]) -> Result<(), Memory>
+    ensures folded { OnOk result (T.state folded.new ≡ fold T.step (T.state folded.old) operations.now) }
+{
+    for operation in operations {
+        folded.add(operation)?;
+    }
+    Ok(())
 }
 
 // One epoch more, which is this one: it has as many before it, from the first on, as are counted, or more.

@@ -30,6 +30,7 @@ pub(crate) fn write_epoch_lines<D: Digests, O: Sink>(
         Telling::Receipts { digests, first } => {
             write_tagged(*digests, *first, epoch, operations, page, out)
         }
+        Telling::Nothing => Ok(()),
     }
 }
 

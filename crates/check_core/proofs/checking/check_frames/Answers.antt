@@ -90,11 +90,6 @@ returns-in_err-opened-clause-answers g c =
     memory_before c.args.receipts (g.D.Digests.functions c.args.d.now) c.args.header.now.verifiers c.args.reader.now _ _ _
     c.from_residual.result c.from_residual.ensures.1 c.requires.within refl
 
-pub returns-in_err-summary-clause-answers : goal.returns-in_err-summary-clause-answers
-returns-in_err-summary-clause-answers g c =
-    memory_before c.args.receipts (g.D.Digests.functions c.args.d.now) c.args.header.now.verifiers c.args.reader.now _ _ _
-    c.from_residual-in_err-summary.result c.from_residual-in_err-summary.ensures.1 c.requires.within refl
-
 pub batches-init : goal.batches-init
 batches-init g c =
     let functions = g.D.Digests.functions c.args.d.now in

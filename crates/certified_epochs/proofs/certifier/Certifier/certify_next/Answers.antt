@@ -1,9 +1,8 @@
-use Rattle.std.proofs.Common.{ℕ, ◌++◌, List, Bor, add-one, sym, ◌∙◌, ap, subst, append-nil, arith}
+use Rattle.std.proofs.Common.{ℕ, ◌++◌, List, Bor, add-one, sym, ◌∙◌, ap, subst, arith}
+use Rattle.std.specs.List.{fold}
 use Rattle.std.proofs.lemmas.Result.{IfOk-from_err}
 use Rattle.fv_outside.specs.Written.{GrowsByFront}
 use Rattle.fv_outside.proofs.WrittenLaws.{GrowsByFront-none}
-use Rattle.record_text.specs.declared.operation.Operation.{Operation}
-use Rattle.load_summary.specs.Counting.{counted_of}
 use Rattle.report_text.specs.Page.{Passes}
 use Rattle.report_text.proofs.PassLaws.{Passes-start, on_err}
 use Rattle.epoch_gather.specs.declared.outcome.Verdict.{Verdict}
@@ -30,12 +29,11 @@ returns-in_default-clause-text g c =
     (turn-none (text_by g.D.Digests.functions c.args.telling.now) c.args.self.now (runs_of c.args.runs.now) c.next_epoch.result c.in_default.is c.next_epoch.ensures.value)))
     (Passes-start (g.O.Sink.held c.args.out.now) c.args.page.now)
 
-pub returns-in_default-clause-counted : goal.returns-in_default-clause-counted
-returns-in_default-clause-counted g c = λ workers before summary_is.
-    summary_is
-    ∙ ap (counted_of workers) (sym (append-nil before))
-    ∙ ap (λ (ops : List Operation). counted_of workers (before ++ ops))
-    (sym (ap text_of (turn-none operations_told c.args.self.now (runs_of c.args.runs.now) c.next_epoch.result c.in_default.is c.next_epoch.ensures.value)))
+pub returns-in_default-clause-folded : goal.returns-in_default-clause-folded
+returns-in_default-clause-folded g c =
+    ap (fold g.T.OperationFold.step (g.T.OperationFold.state c.args.folded.now))
+    (sym (ap text_of
+    (turn-none operations_told c.args.self.now (runs_of c.args.runs.now) c.next_epoch.result c.in_default.is c.next_epoch.ensures.value)))
 
 pub verdict_on-requires : goal.verdict_on-requires
 verdict_on-requires g c = record {
@@ -111,38 +109,34 @@ pub returns-clause-less : goal.returns-clause-less
 returns-clause-less g c = λ done.
     less-left c.in-Some.epoch c.args.runs.now c.take.new.runs c.next_epoch.result c.in-Some.is c.next_epoch.ensures.value c.in_ok-take.ensures.left
 
-pub returns-in-Unbalanced-clause-counted : goal.returns-in-Unbalanced-clause-counted
-returns-in-Unbalanced-clause-counted g c = λ workers before summary_is.
-    summary_is
-    ∙ ap (counted_of workers) (sym (append-nil before))
-    ∙ ap (λ (ops : List Operation). counted_of workers (before ++ ops))
+pub returns-in-Unbalanced-clause-folded : goal.returns-in-Unbalanced-clause-folded
+returns-in-Unbalanced-clause-folded g c =
+    ap (fold g.T.OperationFold.step (g.T.OperationFold.state c.args.folded.now))
     (sym (ap text_of
     (turn-other operations_told c.args.self.now c.args.runs.now c.next_epoch.result c.in-Some.epoch c.in_ok-verdict_on.field-0 c.in-Some.is c.next_epoch.ensures.value
     c.in_ok-verdict_on.ensures.verdict c.self.inside.judged _ (sym c.self.view_is) c.in-Unbalanced.is)))
 
-pub returns-in-Missing-clause-counted : goal.returns-in-Missing-clause-counted
-returns-in-Missing-clause-counted g c = λ workers before summary_is.
-    summary_is
-    ∙ ap (counted_of workers) (sym (append-nil before))
-    ∙ ap (λ (ops : List Operation). counted_of workers (before ++ ops))
+pub returns-in-Missing-clause-folded : goal.returns-in-Missing-clause-folded
+returns-in-Missing-clause-folded g c =
+    ap (fold g.T.OperationFold.step (g.T.OperationFold.state c.args.folded.now))
     (sym (ap text_of
     (turn-other operations_told c.args.self.now c.args.runs.now c.next_epoch.result c.in-Some.epoch c.in_ok-verdict_on.field-0 c.in-Some.is c.next_epoch.ensures.value
     c.in_ok-verdict_on.ensures.verdict c.self.inside.judged _ (sym c.self.view_is) c.in-Missing.is)))
 
-pub returns-clause-counted : goal.returns-clause-counted
-returns-clause-counted g c = λ workers before summary_is.
-    c.in_ok-count.ensures.counted workers before summary_is
-    ∙ ap (λ (ops : List Operation). counted_of workers (before ++ ops))
+pub returns-clause-folded : goal.returns-clause-folded
+returns-clause-folded g c =
+    c.in_ok-add_all.ensures.folded
+    ∙ ap (fold g.T.OperationFold.step (g.T.OperationFold.state c.args.folded.now))
     (sym (ap text_of
     (turn-balanced operations_told c.args.self.now c.args.runs.now c.next_epoch.result c.in-Some.epoch c.in_ok-verdict_on.field-0 c.in-Some.is c.next_epoch.ensures.value
     c.in_ok-verdict_on.ensures.verdict c.self.inside.judged _
-    (runs_of c.take.new.runs) c.deref.result.now (sym c.self.view_is) (add-one c.self.inside.judged.count) c.in-Balanced.is c.in_ok-take.ensures.left (c.deref.ensures.value ∙ c.in_ok-take.ensures.operations))))
+    (runs_of c.take.new.runs) c.deref.result.now (sym c.self.view_is) (c.one_more-self-inside.ensures.value ∙ add-one c.self.inside.judged.count) c.in-Balanced.is c.in_ok-take.ensures.left (c.deref.ensures.value ∙ c.in_ok-take.ensures.operations))))
 
 pub returns-in_err-take-clause-front : goal.returns-in_err-take-clause-front
 returns-in_err-take-clause-front g c = on_err _ (GrowsByFront-none (g.O.Sink.held c.args.out.now) _)
 
-pub returns-in_err-count-clause-front : goal.returns-in_err-count-clause-front
-returns-in_err-count-clause-front g c = on_err _ (GrowsByFront-none (g.O.Sink.held c.args.out.now) _)
+pub returns-in_err-add_all-clause-front : goal.returns-in_err-add_all-clause-front
+returns-in_err-add_all-clause-front g c = on_err _ (GrowsByFront-none (g.O.Sink.held c.args.out.now) _)
 
 pub returns-in_err-verdict_on-clause-front : goal.returns-in_err-verdict_on-clause-front
 returns-in_err-verdict_on-clause-front g c = on_err _ (GrowsByFront-none (g.O.Sink.held c.args.out.now) _)
@@ -153,8 +147,8 @@ returns-in_err-verdict_on-clause-turned g c = IfOk-from_err _ _ c.from_residual.
 pub returns-in_err-verdict_on-clause-text : goal.returns-in_err-verdict_on-clause-text
 returns-in_err-verdict_on-clause-text g c = IfOk-from_err _ _ c.from_residual.ensures.0
 
-pub returns-in_err-verdict_on-clause-counted : goal.returns-in_err-verdict_on-clause-counted
-returns-in_err-verdict_on-clause-counted g c = λ workers before summary_is. IfOk-from_err _ _ c.from_residual.ensures.0
+pub returns-in_err-verdict_on-clause-folded : goal.returns-in_err-verdict_on-clause-folded
+returns-in_err-verdict_on-clause-folded g c = IfOk-from_err _ _ c.from_residual.ensures.0
 
 pub returns-in_err-take-clause-turned : goal.returns-in_err-take-clause-turned
 returns-in_err-take-clause-turned g c = IfOk-from_err _ _ c.from_residual-in_err-take.ensures.0
@@ -162,14 +156,14 @@ returns-in_err-take-clause-turned g c = IfOk-from_err _ _ c.from_residual-in_err
 pub returns-in_err-take-clause-text : goal.returns-in_err-take-clause-text
 returns-in_err-take-clause-text g c = IfOk-from_err _ _ c.from_residual-in_err-take.ensures.0
 
-pub returns-in_err-take-clause-counted : goal.returns-in_err-take-clause-counted
-returns-in_err-take-clause-counted g c = λ workers before summary_is. IfOk-from_err _ _ c.from_residual-in_err-take.ensures.0
+pub returns-in_err-take-clause-folded : goal.returns-in_err-take-clause-folded
+returns-in_err-take-clause-folded g c = IfOk-from_err _ _ c.from_residual-in_err-take.ensures.0
 
-pub returns-in_err-count-clause-turned : goal.returns-in_err-count-clause-turned
-returns-in_err-count-clause-turned g c = IfOk-from_err _ _ c.from_residual-in_err-count.ensures.0
+pub returns-in_err-add_all-clause-turned : goal.returns-in_err-add_all-clause-turned
+returns-in_err-add_all-clause-turned g c = IfOk-from_err _ _ c.from_residual-in_err-add_all.ensures.0
 
-pub returns-in_err-count-clause-text : goal.returns-in_err-count-clause-text
-returns-in_err-count-clause-text g c = IfOk-from_err _ _ c.from_residual-in_err-count.ensures.0
+pub returns-in_err-add_all-clause-text : goal.returns-in_err-add_all-clause-text
+returns-in_err-add_all-clause-text g c = IfOk-from_err _ _ c.from_residual-in_err-add_all.ensures.0
 
-pub returns-in_err-count-clause-counted : goal.returns-in_err-count-clause-counted
-returns-in_err-count-clause-counted g c = λ workers before summary_is. IfOk-from_err _ _ c.from_residual-in_err-count.ensures.0
+pub returns-in_err-add_all-clause-folded : goal.returns-in_err-add_all-clause-folded
+returns-in_err-add_all-clause-folded g c = IfOk-from_err _ _ c.from_residual-in_err-add_all.ensures.0
