@@ -17,39 +17,35 @@ ghost use Rattle.bundle_report.specs.BundleReport.{histories_at, end_of};
 ghost use Rattle.bundle_report.specs.SoFar.{HaveRead, HaveLogs, lines_from, runs_ended};
 ghost use Rattle.bundle_report.specs.Judged.{none_judged};
 ghost use Rattle.bundle_report.specs.Report.{operations_told};
-ghost use Rattle.stamp_order.specs.Merged.{merged, up_to};
-ghost use Rattle.stamp_order.specs.Operations.{moment_of, merged_up_to};
 ghost use Rattle.verifier_run.specs.Taken.{left_of};
-ghost use Rattle.bundle_report.specs.RunReport.{operations_among};
 ghost use Rattle.certified_epochs.specs.Telling.{text_by};
 ghost use Rattle.certified_epochs.specs.Turn.{AreFed, AreVerdictsOn, IsVerdictAt, next_epoch, parts_left, turn};
 
 use crate::ending::{end_of, first_refused};
 use crate::fed_run::FedRun;
 use crate::gathering::verdict_on;
-use crate::lines::write_epoch_lines;
+use crate::one_epoch::tell_epoch;
+use crate::pieces::Piece;
 use crate::telling::Telling;
-use base_words::Memory;
 use bundle_report::{Judged, Uneven};
 use epoch_gather::Verdict;
 use fv_outside::{Failure, Sink};
 use multiset_sum::Part;
 use operation_folds::OperationFold;
 use record_hash::Digests;
-use record_text::Operation;
 use report_text::{BundleEnd, Page, write_last};
-use stamp_order::Moment;
 use std::alloc::Global;
 use std::marker::Model;
+use std::thread::Threads;
 
 /// How many epochs the runs of all verifiers have certified so far, and the next one where its sums differ. Nothing is
 /// kept of an epoch once its lines are written. Contracts see what is judged.
 #[derive(Drop)]
 pub struct Certifier {
     judged: Judged,
-    // Room for what is looked at of one epoch, used again for the next.
+    // Room for what is looked at and written of one epoch, used again for the next.
     parts: Vec<Part>,
-    operations: Vec<Operation>,
+    pieces: Vec<Piece>,
 }
 
 impl Model for Certifier {
@@ -71,7 +67,7 @@ impl Certifier {
                 unbalanced: None,
             },
             parts: Vec::new(alloc),
-            operations: Vec::new(alloc),
+            pieces: Vec::new(alloc),
         }
     }
 
@@ -87,8 +83,9 @@ impl Certifier {
     /// elsewhere; the others are found here. Where a run is starved that is want of memory, and nothing is written.
     ///
     /// After want of memory or where the sink failed it holds a front of these lines, and certifier and fold are of no more use.
-    pub fn certify<D: Digests, T: OperationFold, O: Sink>(
+    pub fn certify<R: Threads + Sync, D: Digests + Sync, T: OperationFold, O: Sink>(
         &mut self,
+        rt: &R,
         settled: &[Verdict],
         runs: &mut [FedRun],
         telling: &Telling<D>,
@@ -140,7 +137,7 @@ impl Certifier {
         let mut page = Page::new();
         'epochs: loop {
             let handed = settled.get(self.judged.count - before);
-            if !self.certify_next(handed, runs, telling, folded, &mut page, out)? {
+            if !self.certify_next(rt, handed, runs, telling, folded, &mut page, out)? {
                 break;
             }
         }
@@ -196,8 +193,9 @@ impl Certifier {
 
     // Adds the operations of the next epoch to a fold and writes its lines, if it is certified, and answers whether it is. The verdict
     // on it may be handed in.
-    fn certify_next<D: Digests, T: OperationFold, O: Sink>(
+    fn certify_next<R: Threads + Sync, D: Digests + Sync, T: OperationFold, O: Sink>(
         &mut self,
+        rt: &R,
         handed: Option<&Verdict>,
         runs: &mut [FedRun],
         telling: &Telling<D>,
@@ -237,24 +235,20 @@ impl Certifier {
             }
             Verdict::Missing(_) => return Ok(false),
         }
-        take(&mut self.operations, runs, epoch)?;
-        add_all(folded, &self.operations)?;
-        if write_epoch_lines(telling, epoch, &self.operations, page, out).is_err() {
-            return Err(Failure::WriteFault);
-        }
+        tell_epoch(
+            rt,
+            telling,
+            epoch,
+            runs,
+            folded,
+            &mut self.pieces,
+            page,
+            out,
+        )?;
+        pass_all(runs, epoch);
         self.judged.count = one_more(self.judged.count, epoch);
         Ok(true)
     }
-}
-
-// Adds operations to a fold, one after another.
-fn add_all<T: OperationFold>(folded: &mut T, operations: &[Operation]) -> Result<(), Memory>
-    ensures folded { OnOk result (T.state folded.new ≡ fold T.step (T.state folded.old) operations.now) }
-{
-    for operation in operations {
-        folded.add(operation)?;
-    }
-    Ok(())
 }
 
 // One epoch more, which is this one: it has as many before it, from the first on, as are counted, or more.
@@ -265,38 +259,15 @@ fn one_more(count: usize, epoch: u32) -> usize
     count + 1
 }
 
-// Takes the operations up to an epoch out of all runs, in place of those that are there, and puts them in the one order.
-fn take(operations: &mut Vec<Operation>, runs: &mut [FedRun], epoch: u32) -> Result<(), Memory>
-    ensures operations { OnOk result (operations.new.items ≡ merged_up_to epoch (operations_among (map (λ fed. fed.run.course) runs.old))) }
-    ensures left { OnOk result (map (λ fed. fed.run) runs.new ≡ map (λ fed. left_of epoch fed.run) runs.old) }
-    ensures len { length runs.new ≡ length runs.old }
-    ensures fed { AreFed runs.old → AreFed runs.new }
-{
-    operations.clear();
-    take_all(operations, runs, epoch)?;
-    put_in_order(operations)
-}
-
-// Puts operations in the order of their moments; those of one moment stay as they stood.
-fn put_in_order(operations: &mut Vec<Operation>) -> Result<(), Memory>
-    ensures order { OnOk result (operations.new.items ≡ merged moment_of operations.old.items) }
-{
-    operations.sort_by_key(Moment::of)?;
-    Ok(())
-}
-
-// Takes the operations up to an epoch out of all runs, one run after another.
-fn take_all(operations: &mut Vec<Operation>, runs: &mut [FedRun], epoch: u32) -> Result<(), Memory>
-    ensures operations { OnOk result (operations.new.items
-        ≡ operations.old.items ++ up_to moment_of epoch (operations_among (map (λ fed. fed.run.course) runs.old))) }
-    ensures left { OnOk result (map (λ fed. fed.run) runs.new ≡ map (λ fed. left_of epoch fed.run) runs.old) }
+// Has all runs keep nothing of epochs up to this one.
+fn pass_all(runs: &mut [FedRun], epoch: u32)
+    ensures left { map (λ fed. fed.run) runs.new ≡ map (λ fed. left_of epoch fed.run) runs.old }
     ensures len { length runs.new ≡ length runs.old }
     ensures fed { AreFed runs.old → AreFed runs.new }
 {
     for fed in runs.iter_mut() {
-        fed.run.take_into(epoch, operations)?;
+        fed.run.pass(epoch);
     }
-    Ok(())
 }
 
 // The epoch of the first part that the first run still has.

@@ -126,7 +126,7 @@ fn check_frames<R: Threads + Sync, D: Digests + Sync, S: Source, O: Sink>(
     let mut rest = Batch::new(alloc);
     'batches: loop {
         let filled = pass_batch(rt, alloc, d, reader, source, runs, &mut first, &mut rest)?;
-        certifier.certify(&[], runs, &telling, &mut folded, out)?;
+        certifier.certify(rt, &[], runs, &telling, &mut folded, out)?;
         match filled {
             Filled::Whole => {}
             Filled::End => break,

@@ -130,7 +130,7 @@ found_told P verdicts index None at told = tt
 found_told P verdicts index (Some v) at told = told v.now (slice_get-get_or verdicts index v.now at.3.0 ∙ ap Some (sym at.1))
 
 pub certify_next-requires-clause-handed : goal.certify_next-requires-clause-handed
-certify_next-requires-clause-handed g c =
+certify_next-requires-clause-handed g c κs bounds =
     let inv = c.epochs.invariant in
     let have = c.requires.logs inv.fed_before in
     let now = c.epochs.self in

@@ -18,7 +18,7 @@ as_lent now judged items lent bytes summary same is =
     sym is ∙ ap (λ (runs : List FedRun). let s : RunsSoFar = record { judged = judged; runs = runs; bytes = bytes; summary = summary } in s) (sym same)
 
 pub certify-requires-clause-few : goal.certify-requires-clause-few
-certify-requires-clause-few g c =
+certify-requires-clause-few g c κs within =
     omega (arith, ap length c.as_mut_slice-runs.ensures.value, ap (λ (s : RunsSoFar). length s.runs) c.self.view_is, runs-few c.args.self.now c.requires.runs)
 
 pub returns-in_err-certify-clause-front : goal.returns-in_err-certify-clause-front
