@@ -19,8 +19,8 @@ use bundle_frames::{BundleReader, Next};
 use certified_epochs::{Certifier, Telling, open_runs};
 use fv_outside::{Failure, Sink, Source};
 use lamport_clocks::Header;
-use load_summary::Summary;
 use merkle_records::digests_have_32_bytes;
+use operation_folds::NothingMade;
 use record_hash::Digests;
 use report_text::{BundleEnd, Status, write_last};
 use std::alloc::Global;
@@ -121,13 +121,12 @@ fn check_frames<R: Threads + Sync, D: Digests + Sync, S: Source, O: Sink>(
     let runs = &mut opened[..];
     let telling = Telling::new(receipts, d, header);
     let mut certifier = Certifier::new(alloc);
-    // Of no workers: a check counts nobody's operations.
-    let mut summary = Summary::new(alloc, 0)?;
+    let mut folded = NothingMade;
     let mut first = Batch::new(alloc);
     let mut rest = Batch::new(alloc);
     'batches: loop {
         let filled = pass_batch(rt, alloc, d, reader, source, runs, &mut first, &mut rest)?;
-        certifier.certify(&[], runs, &telling, &mut summary, out)?;
+        certifier.certify(rt, &[], runs, &telling, &mut folded, out)?;
         match filled {
             Filled::Whole => {}
             Filled::End => break,

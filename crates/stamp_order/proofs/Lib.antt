@@ -3,4 +3,5 @@ pub mod OneOrderLaws
 mod JoinLemmas
 pub mod MomentLaws
 pub mod MergedLaws
+mod FirstLemmas
 pub mod MapLaws

@@ -90,11 +90,6 @@ returns-in_err-opened-clause-answers g c =
     memory_before c.args.receipts (g.D.Digests.functions c.args.d.now) c.args.header.now.verifiers c.args.reader.now _ _ _
     c.from_residual.result c.from_residual.ensures.1 c.requires.within refl
 
-pub returns-in_err-summary-clause-answers : goal.returns-in_err-summary-clause-answers
-returns-in_err-summary-clause-answers g c =
-    memory_before c.args.receipts (g.D.Digests.functions c.args.d.now) c.args.header.now.verifiers c.args.reader.now _ _ _
-    c.from_residual-in_err-summary.result c.from_residual-in_err-summary.ensures.1 c.requires.within refl
-
 pub batches-init : goal.batches-init
 batches-init g c =
     let functions = g.D.Digests.functions c.args.d.now in
@@ -125,14 +120,14 @@ batches-init g c =
     }
 
 pub certify-requires-clause-few : goal.certify-requires-clause-few
-certify-requires-clause-few g c =
+certify-requires-clause-few g c κs within =
     let functions = g.D.Digests.functions c.args.d.now in
     let passed = c.pass_batch.ensures.passed in
     let read = in_ok _ c.in_ok-filled.was passed.2 in
     omega (arith, c.batches.invariant.few, length_of_all functions 0 passed.0 c.batches.runs c.pass_batch.new.runs read)
 
 pub certify-requires-clause-logs : goal.certify-requires-clause-logs
-certify-requires-clause-logs g c = λ fine.
+certify-requires-clause-logs g c κs within = λ fine.
     let functions = g.D.Digests.functions c.args.d.now in
     let header = c.args.header.now in
     let inv = c.batches.invariant in
