@@ -81,10 +81,14 @@ impl Verifier {
             (stepped (scheme_of (D.functions d.now) self.old.header) self.old (ByPath command.now)) }
     {
         let before = *self.state.clock();
-        let outcome = self.state.apply(d, self.number, &self.header, command)?;
+        let applied = self.state.apply(d, self.number, &self.header, command);
+        let outcome = match &applied {
+            Ok(outcome) => outcome,
+            Err(refusal) => return Err(*refusal),
+        };
         let at = self.state.clock().at();
-        let effect = effect_of(self.number, self.accepted, at, &self.sums, &outcome);
-        self.sums.apply(d, &before, self.state.clock(), &outcome);
+        let effect = effect_of(self.number, self.accepted, at, &self.sums, outcome);
+        self.sums.apply(d, &before, self.state.clock(), outcome);
         self.accepted += 1;
         Ok(effect)
     }
@@ -100,12 +104,16 @@ impl Verifier {
             (stepped (scheme_of (D.functions d.now) self.old.header) self.old (BySlot command.now)) }
     {
         let before = *self.state.clock();
-        let outcome = self
+        let applied = self
             .state
-            .apply_slots(d, self.number, &self.header, command)?;
+            .apply_slots(d, self.number, &self.header, command);
+        let outcome = match &applied {
+            Ok(outcome) => outcome,
+            Err(refusal) => return Err(*refusal),
+        };
         let at = self.state.clock().at();
-        let effect = effect_of(self.number, self.accepted, at, &self.sums, &outcome);
-        self.sums.apply(d, &before, self.state.clock(), &outcome);
+        let effect = effect_of(self.number, self.accepted, at, &self.sums, outcome);
+        self.sums.apply(d, &before, self.state.clock(), outcome);
         self.accepted += 1;
         Ok(effect)
     }
