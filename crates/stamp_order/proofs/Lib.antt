@@ -4,3 +4,4 @@ mod JoinLemmas
 pub mod MomentLaws
 pub mod MergedLaws
 pub mod MapLaws
+mod EntriesLemmas
