@@ -8,7 +8,7 @@ from tools.slow.bundles import magic_of
 from tools.slow.known import without
 
 LATER = [
-    *("absent", "--absent", "follow"),
+    *("absent", "--absent"),
     *("FVB3", "--bits", "upgrade"),
     *("FVB4", "--clients", "sign"),
     *("--seal", "resume"),

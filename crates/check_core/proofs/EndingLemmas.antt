@@ -4,7 +4,6 @@ use Rattle.fv_outside.specs.Consumed.{StopsAtEnd, EndsBehind, TookAtMost, TookJu
 use Rattle.fv_outside.specs.Failures.{FailsByWriting}
 use Rattle.fv_outside.specs.Faults.{Rose}
 use Rattle.fv_outside.specs.Written.{Grows, GrowsByFront}
-use Rattle.fv_outside.proofs.WrittenLaws.{GrowsByFront-none}
 use Rattle.record_hash.specs.Functions.{DigestFunctions}
 use Rattle.lamport_clocks.specs.declared.header.Header.{Header}
 use Rattle.lamport_clocks.specs.Header.{IsHeader}
@@ -13,13 +12,13 @@ use Rattle.fv_outside.specs.declared.failure.Failure.{Failure}
 use Rattle.fv_outside.specs.declared.failure.Failure.TheVariants as failures
 use Rattle.bundle_frames.specs.Extent.{reading_end}
 use Rattle.bundle_frames.specs.Reading.{Reading, ahead, end_ahead, HasRead, ReadsAs}
-use Rattle.bundle_frames.proofs.ReadingLaws.{HasRead-none, HasRead-then, ReadsAs-back, TookAtMost-from_read, stops_near, stops_stopped}
+use Rattle.bundle_frames.proofs.ReadingLaws.{HasRead-then, ReadsAs-back, TookAtMost-from_read, stops_near, stops_stopped}
 use Rattle.report_text.specs.declared.status.Status.{Status}
 use Rattle.report_text.specs.declared.status.Status.TheVariants as statuses
 use Rattle.report_text.specs.declared.ending.BundleEnd.{BundleEnd}
 use Rattle.report_text.specs.declared.ending.BundleEnd.TheVariants as bundles
 use Rattle.report_text.specs.Ending.{status_of, failure_status}
-use Rattle.report_text.specs.Answer.{Answer, IsEnd, OfTaken, Writing, AnswersTo}
+use Rattle.report_text.specs.Answer.{IsEnd, OfTaken, Writing, AnswersTo}
 use Rattle.bundle_report.specs.Logs.{joined_from}
 use Rattle.bundle_report.specs.Logged.{Logged, logged_of}
 use Rattle.base_words.specs.declared.memory.Memory.{Memory}
@@ -234,18 +233,3 @@ memory_answers asked functions limit count taken left left_then faults faults_th
     (of_taken (λ bytes. GrowsByFront writing.held writing.held_after (asked_answer asked functions bytes).due) limit taken taken left left_then having_read (omega (arith, within))
     (reads_on (λ (logged : Logged). GrowsByFront writing.held writing.held_after (asked_by asked functions logged).due) count taken left logged_of (behind_at logs reading) means below front))
     (TookAtMost-from_read taken (limit + 1) left left_then having_read (omega (arith, within))) stops
-
--- before anything is read
-pub unread_answers : (answer : List ℕ → Answer) (limit : ℕ) (left : Option (List ℕ)) (faults : ℕ) (held : Option (List ℕ)) (out_faults : ℕ)
-    → AnswersTo answer reading_end limit statuses.Memory
-    (record { left = left; left_after = left; faults = faults; faults_after = faults })
-    (record { held = held; held_after = held; faults = out_faults; faults_after = out_faults })
-unread_answers answer limit left faults held out_faults =
-    answers-memory answer reading_end limit _ _
-    (of_taken (λ bytes. GrowsByFront held held (answer bytes).due) limit 0 0 left left (HasRead-none 0 left refl) (omega arith) (go left))
-    (TookAtMost-from_read 0 (limit + 1) left left (HasRead-none 0 left refl) (omega arith))
-    (stops_near 0 left left reading_end (HasRead-none 0 left refl) (λ some. absurd (omega (arith, some))))
-  where
-    go : (x : Option (List ℕ)) → IfSome x (λ bytes. GrowsByFront held held (answer (take 0 bytes)).due)
-    go None = tt
-    go (Some bytes) = GrowsByFront-none held (answer (take 0 bytes)).due

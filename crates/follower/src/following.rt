@@ -35,5 +35,14 @@ pub fn follow<R: Threads + Sync, D: Digests + Sync, S: Source, O: Sink>(
     logs_have_histories();
     operations_come_epoch_by_epoch();
     let mut followed = Followed::new(alloc);
-    tell_bundle(rt, alloc, d, limit, source, &Told::Nothing, &mut followed, out)
+    tell_bundle(
+        rt,
+        alloc,
+        d,
+        limit,
+        source,
+        &Told::Nothing,
+        &mut followed,
+        out,
+    )
 }

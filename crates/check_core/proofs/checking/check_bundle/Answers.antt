@@ -14,9 +14,10 @@ use Rattle.bundle_report.specs.Logs.{empty_logs}
 use Rattle.check_core.specs.Asked.{Asked, asked_answer}
 use Rattle.check_core.specs.Told.{asked_for}
 use Rattle.check_core.specs.Outcomes.{check_status}
+use Rattle.report_text.proofs.AnsweringLaws.{answers-none}
 use Rattle.check_core.proofs.StreamLemmas.{extent-more, near-more, come-more}
 use Rattle.check_core.proofs.BatchLemmas.{by_source}
-use Rattle.check_core.proofs.EndingLemmas.{unread_answers, ends_behind, took_first, cut_answers}
+use Rattle.check_core.proofs.EndingLemmas.{ends_behind, took_first, cut_answers}
 use Rattle.check_core.proofs.HeaderLemmas.{come_none, means_header, means_none, due_none, bad_answers}
 use Rattle.check_core.proofs.checking.check_bundle.Goals as goal
 
@@ -41,7 +42,7 @@ returns-in_err-reader-clause-answers g c =
     let wrote : Writing = record { held = held; held_after = held; faults = out_faults; faults_after = out_faults } in
     rw p.1
     (subst (λ (failure : Failure). AnswersTo (asked_answer asked functions) reading_end c.args.limit (failure_status c.args.limit failure) read wrote) (sym p.2)
-    (unread_answers (asked_answer asked functions) c.args.limit left faults held out_faults))
+    (answers-none (asked_answer asked functions) reading_end c.args.limit left held faults faults out_faults out_faults))
 
 pub returns-in_err-next-clause-answers : goal.returns-in_err-next-clause-answers
 returns-in_err-next-clause-answers g c =

@@ -1,23 +1,21 @@
-use Rattle.std.proofs.Common.{◌≡◌, ℕ, List, [], ◌∷◌, ◌++◌, map, Option, Some, None, refl, sym, ◌∙◌, ap, subst}
+use Rattle.std.proofs.Common.{◌≡◌, ℕ, List, [], ◌∷◌, ◌++◌, map, Option, Some, None, refl, ◌∙◌, ap, subst}
 use Rattle.std.specs.List.{flat_map}
 use Rattle.record_hash.specs.Functions.{DigestFunctions}
 use Rattle.lamport_clocks.specs.declared.header.Header.{Header}
 use Rattle.record_text.specs.declared.operation.Operation.{Operation}
 use Rattle.record_text.specs.Format.{format_of}
 use Rattle.log_codec.specs.Log.{Log, read_log}
-use Rattle.merkle_records.specs.Scheme.{Scheme, scheme_of}
+use Rattle.merkle_records.specs.Scheme.{scheme_of}
 use Rattle.bundle_frames.specs.Extent.{reading_end}
 use Rattle.report_text.specs.declared.status.Status.{Status}
 use Rattle.report_text.specs.Answer.{Answer, Reading, Writing, AnswersTo}
 use Rattle.report_text.specs.Ending.{status_of}
 use Rattle.report_text.specs.Status.{last_line}
 use Rattle.stamp_order.specs.Serial.{none_everywhere}
-use Rattle.soundness.specs.History.{Event}
-use Rattle.soundness.specs.Certified.{certified_operations}
+use Rattle.soundness.specs.Certified.{certified_operations, certified_count, epochs_from}
 use Rattle.bundle_report.specs.Logged.{logged_of}
 use Rattle.bundle_report.specs.Report.{operations_told}
 use Rattle.bundle_report.specs.BundleReport.{histories_in, end_of, certified_lines}
-use Rattle.certified_epochs.specs.Telling.{nothing_told}
 use Rattle.check_core.specs.Asked.{Asked, asked_at, asked_answer}
 use Rattle.check_core.specs.Told.{asked_for}
 use Rattle.check_core.specs.declared.told.Told.TheVariants.{Nothing}
@@ -49,11 +47,12 @@ module _ (functions : DigestFunctions) (start : ℕ → Option (List ℕ)) (empt
       let scheme = scheme_of functions header in
       let read = map (read_log (format_of header)) logs in
       let end = status_of (end_of scheme header read (histories_in scheme header read) bad) in
+      let epochs = epochs_from header.first (certified_count scheme header.first (histories_in scheme header read)) in
       same_answer _ _ _ _ end
-      (ap (λ (lines : List ℕ). lines ++ (map_text (map_behind start (certified_lines operations_told scheme header (histories_in scheme header read))) ++ last_line end)) (no_lines _)
+      (ap (λ (lines : List ℕ). lines ++ (map_text (map_behind start (certified_lines operations_told scheme header (histories_in scheme header read))) ++ last_line end)) (no_lines epochs)
       ∙ ap (λ (map : ℕ → Option (List ℕ)). map_text (map_behind map (certified_lines operations_told scheme header (histories_in scheme header read))) ++ last_line end) empty
       ∙ ap (λ (operations : List Operation). map_text (map_behind none_everywhere operations) ++ last_line end) (whole header read))
-      (no_lines _)
+      (no_lines epochs)
 
   the_follower : asked_answer asked functions ≡ follow_answer functions
   the_follower = λ i bytes. at (logged_of bytes).header (logged_of bytes).logs (logged_of bytes).bad i
