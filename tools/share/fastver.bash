@@ -5,7 +5,7 @@ _fastver() {
   local word=${COMP_WORDS[COMP_CWORD]} options
   COMPREPLY=()
   if [ "$COMP_CWORD" -eq 1 ]; then
-    mapfile -t COMPREPLY < <(compgen -W 'check audit run gen accept help --help --version' -- "$word")
+    mapfile -t COMPREPLY < <(compgen -W 'check audit run gen accept follow help --help --version' -- "$word")
     return
   fi
   case ${COMP_WORDS[COMP_CWORD - 1]} in
@@ -22,6 +22,7 @@ _fastver() {
     run) options='--key --verifiers --shards --hot --logs --first --counter --format --absent --receipts' ;;
     gen) options='--key --seed --ops --verifiers --shards --keys --every --hot --logs --first --counter' ;;
     accept) options='--key' ;;
+    follow) options='--key' ;;
     *) options= ;;
   esac
   mapfile -t COMPREPLY < <(compgen -W "$options" -- "$word")

@@ -5,3 +5,4 @@ pub mod MomentLaws
 pub mod MergedLaws
 mod FirstLemmas
 pub mod MapLaws
+mod EntriesLemmas
