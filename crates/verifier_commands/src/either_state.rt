@@ -84,10 +84,10 @@ impl EitherState {
             (told (perform (record { scheme = scheme_of (D.functions d.now) header.now; number = number; verifiers = header.now.verifiers }) (state_of self.old) (ByPath command.now))) }
         ensures clock { IfOk result (ClockMoves (state_of self.old).clock (state_of self.new).clock) }
     {
-        let EitherState::ByPath(state) = self else {
-            return Err(Refusal::Malformed);
-        };
-        state.apply(d, number, header, command)
+        match self {
+            EitherState::ByPath(state) => state.apply(d, number, header, command),
+            EitherState::BySlot(_) => Err(Refusal::Malformed),
+        }
     }
 
     /// Applies a command that names slots, by the verifier of this number, under this header.
@@ -102,9 +102,9 @@ impl EitherState {
             (told (perform (record { scheme = scheme_of (D.functions d.now) header.now; number = number; verifiers = header.now.verifiers }) (state_of self.old) (BySlot command.now))) }
         ensures clock { IfOk result (ClockMoves (state_of self.old).clock (state_of self.new).clock) }
     {
-        let EitherState::BySlot(state) = self else {
-            return Err(Refusal::Malformed);
-        };
-        state.apply(d, number, header, command)
+        match self {
+            EitherState::ByPath(_) => Err(Refusal::Malformed),
+            EitherState::BySlot(state) => state.apply(d, number, header, command),
+        }
     }
 }

@@ -87,10 +87,10 @@ impl Verifier {
             Err(refusal) => return Err(*refusal),
         };
         let at = self.state.clock().at();
-        let answer = Ok(effect_of(self.number, self.accepted, at, &self.sums, outcome));
+        let effect = effect_of(self.number, self.accepted, at, &self.sums, outcome);
         self.sums.apply(d, &before, self.state.clock(), outcome);
         self.accepted += 1;
-        answer
+        Ok(effect)
     }
 
     /// The same of a command that names slots. A verifier of entries by path refuses it.
@@ -112,10 +112,10 @@ impl Verifier {
             Err(refusal) => return Err(*refusal),
         };
         let at = self.state.clock().at();
-        let answer = Ok(effect_of(self.number, self.accepted, at, &self.sums, outcome));
+        let effect = effect_of(self.number, self.accepted, at, &self.sums, outcome);
         self.sums.apply(d, &before, self.state.clock(), outcome);
         self.accepted += 1;
-        answer
+        Ok(effect)
     }
 
     /// Its number.

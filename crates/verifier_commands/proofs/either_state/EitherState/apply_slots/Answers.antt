@@ -2,7 +2,7 @@ use Rattle.merkle_records.specs.Scheme.{scheme_of}
 use Rattle.verifier_commands.proofs.EitherLemmas.{follows_slot}
 use Rattle.verifier_commands.proofs.either_state.EitherState.apply_slots.Goals as goal
 
-pub returns-clause-follows : goal.returns-clause-follows
-returns-clause-follows g c = follows_slot
+pub returns-in-BySlot-clause-follows : goal.returns-in-BySlot-clause-follows
+returns-in-BySlot-clause-follows g c = follows_slot
     (record { scheme = scheme_of (g.D.Digests.functions c.args.d.now) c.args.header.now; number = c.args.number; verifiers = c.args.header.now.verifiers })
     c.args.command.now c.args.self.now c.in-BySlot.state c.apply.new.self c.apply.result c.in-BySlot.is c.apply.ensures.follows
