@@ -10,7 +10,7 @@ use Rattle.std.specs.BTreeMap.{is_at}
 use Rattle.std.proofs.lemmas.Bool.{cases_eq}
 use Rattle.std.proofs.lemmas.Bool.Decides.{nat_tests}
 use Rattle.stamp_order.specs.PlainMap.{value_at, AreRising, IsEntry}
-use Rattle.follower.specs.Followed.{key_line, key_lines, map_text}
+use Rattle.report_text.specs.KeyLines.{key_line, key_lines, map_text}
 
 -- the line of an entry
 abbrev pub entry_line : ℕ × Option (List ℕ) → List ℕ

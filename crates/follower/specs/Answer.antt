@@ -8,13 +8,14 @@ use Rattle.log_codec.specs.Log.{Log, read_log}
 use Rattle.merkle_records.specs.Scheme.{Scheme, scheme_of}
 use Rattle.report_text.specs.Ending.{status_of}
 use Rattle.report_text.specs.Answer.{Answer}
+use Rattle.report_text.specs.KeyLines.{map_text}
 use Rattle.report_text.specs.Status.{last_line}
 use Rattle.stamp_order.specs.Serial.{none_everywhere}
 use Rattle.soundness.specs.Certified.{certified_operations}
 use Rattle.bundle_report.specs.Logged.{Logged, logged_of}
 use Rattle.bundle_report.specs.BundleReport.{histories_in, end_of}
 use Rattle.bundle_report.specs.Answer.{no_answer}
-use Rattle.follower.specs.Followed.{map_behind, map_text}
+use Rattle.follower.specs.Followed.{map_behind}
 
 -- to logs under a header, in a bundle in which so much is bad: the plain map behind their certified operations, and the last line of
 -- their report; nothing is due where no more can be read

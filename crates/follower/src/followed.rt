@@ -6,15 +6,15 @@ ghost use Rattle.fv_outside.specs.Written.{Grows, GrowsByFront};
 ghost use Rattle.report_text.specs.Page.{Passes};
 ghost use Rattle.stamp_order.specs.Serial.{none_everywhere};
 ghost use Rattle.stamp_order.specs.PlainMap.{value_at};
-ghost use Rattle.follower.specs.Followed.{followed, map_text};
+ghost use Rattle.report_text.specs.KeyLines.{map_text};
+ghost use Rattle.follower.specs.Followed.{followed};
 
-use crate::entry_lines::key_line;
 use base_words::Memory;
 use check_core::WrittenFold;
 use fv_outside::{Failed, Sink};
 use operation_folds::OperationFold;
 use record_text::Operation;
-use report_text::Page;
+use report_text::{Page, key_line};
 use stamp_order::PlainMap;
 use std::alloc::Global;
 

@@ -5,7 +5,6 @@
 //! `check_core`, and on the map of `stamp_order`. Begin with `following.rt`; `followed.rt` has the map as a fold over operations.
 #![tactic(auto)]
 
-mod entry_lines;
 mod followed;
 mod following;
 

@@ -19,7 +19,8 @@ use Rattle.bundle_report.specs.BundleReport.{histories_in, end_of, certified_lin
 use Rattle.check_core.specs.Asked.{Asked, asked_at, asked_answer}
 use Rattle.check_core.specs.Told.{asked_for}
 use Rattle.check_core.specs.declared.told.Told.TheVariants.{Nothing}
-use Rattle.follower.specs.Followed.{map_behind, map_text}
+use Rattle.report_text.specs.KeyLines.{map_text}
+use Rattle.follower.specs.Followed.{map_behind}
 use Rattle.follower.specs.Answer.{follow_at, follow_answer}
 use Rattle.follower.proofs.following.follow.Goals as goal
 
