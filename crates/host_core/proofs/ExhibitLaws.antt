@@ -46,7 +46,7 @@ module _ {C R : Type 0} (mirrors : ℕ → List C → Type 0) (keeping : Keeping
       by_paths none_evicted (λ path. none_evicted) (order_of (histories_in host accounts)) (λ path. refl)
       (λ path. ap (λ (zs : List Event). first_clash none_evicted (changes_in zs))
       (merged-filter event_moment (λ event. touches path event.change) (all_from host 0 accounts))
-      ∙ (clear path).clear)
+      ∙ (clear path).told_so)
 
   -- nor of any number of epochs
   within_clear : (hs : List (List Event)) (count : ℕ) → first_clash none_evicted (changes_in (order_of hs)) ≡ None

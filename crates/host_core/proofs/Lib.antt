@@ -11,6 +11,8 @@ mod ScriptLemmas
 mod PromiseLemmas
 pub mod CoreLaws
 mod LastLemmas
+mod FollowLemmas
 mod ClashLemmas
 mod ClearLemmas
 pub mod ExhibitLaws
+pub mod StoringLaws

@@ -91,7 +91,7 @@ module _ {C R : Type 0} (mirrors : ℕ → List C → Type 0) (host : Host C R) 
     pub own_right : (i : ℕ) (account : Account) → IsOwn host old i account → IsRightAccount host i account
     own_right i account own = subst (IsRightAccount host i) own.is (right.each i own.there)
 
-    own_clock : (i : ℕ) (account : Account) → IsOwn host old i account → IsRightClock (epoch_in host old) old.closing account.clock
+    pub own_clock : (i : ℕ) (account : Account) → IsOwn host old i account → IsRightClock (epoch_in host old) old.closing account.clock
     own_clock i account own =
         subst (λ (a : Account). IsRightClock (epoch_in host old) old.closing a.clock) own.is (right.clocks i own.there)
 

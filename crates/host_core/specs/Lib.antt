@@ -6,3 +6,4 @@ pub mod Accepted
 pub mod Deeds
 pub mod Core
 pub mod Clear
+pub mod Storing

@@ -6,6 +6,7 @@ ghost use Rattle.host_core.specs.Host.{Host};
 ghost use Rattle.host_core.specs.World.{World};
 ghost use Rattle.host_core.specs.WorldEvent.{WorldEvent, AreEnabled, run_events};
 ghost use Rattle.host_core.specs.Clear.{HoldsIfClear, HasNothingToShow, IsServedSerially};
+ghost use Rattle.host_core.specs.Storing.{HoldsIfStoring, HoldsAnswered, HoldsCertified};
 ghost use Rattle.host_core.specs.Core.{HoldsAlways, AreAccepted, AreAnswered, IsDone, IsEven, IsInPhase, IsBehindClose, AreSealed, SealedArePermuted, AllCertified, IsWhole};
 
 /// Events that are enabled behind others are enabled with them, and lead where both lead, one behind the other.
@@ -55,4 +56,11 @@ pub fn sealed_epochs_are_certified<C, R>()
 pub fn certified_answers_are_serial<C, R>()
     ensures exhibit { (host : Host C R) → HoldsIfClear host (HasNothingToShow host) }
     ensures serial { (host : Host C R) → HoldsIfClear host (IsServedSerially host) }
+{}
+
+/// Where each operation on a key is done where the key's value is held, the contents hold the plain map behind all operations in
+/// their one order. Behind a whole last close these are the certified operations.
+pub fn contents_hold_the_plain_map<C, R>()
+    ensures answered { (host : Host C R) → HoldsIfStoring host (HoldsAnswered host) }
+    ensures certified { (host : Host C R) → HoldsIfStoring host (HoldsCertified host) }
 {}

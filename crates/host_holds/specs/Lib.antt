@@ -1,0 +1,2 @@
+-- What the laws on held values cite.
+pub mod Holding
