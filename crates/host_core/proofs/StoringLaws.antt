@@ -156,7 +156,7 @@ early_still epoch events all = every-weaker (IsEarly epoch) (IsEarly (suc epoch)
     go event (inr early) = inr (omega (arith, early))
 
 -- where nothing is answered there is no operation on a key
-unanswered : (key : ℕ) (events : List Event) → answers_in events ≡ [] → operating key events ≡ []
+pub unanswered : (key : ℕ) (events : List Event) → answers_in events ≡ [] → operating key events ≡ []
 unanswered key [] none = refl
 unanswered key (event ∷ events) none = go event.change refl (unanswered key events)
   where

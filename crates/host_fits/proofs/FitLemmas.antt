@@ -37,7 +37,7 @@ use Rattle.host_fits.proofs.ServeLemmas.{Serves, planned, runs, logged, serve_de
 
 -- ---- what is clear
 
-all-weaker : (P Q : Stamp → Type 0) → ((at : Stamp) → P at → Q at) → (told : Told) → AllByRecursion (λ (one : Stamp × Change). P one.0) told
+pub all-weaker : (P Q : Stamp → Type 0) → ((at : Stamp) → P at → Q at) → (told : Told) → AllByRecursion (λ (one : Stamp × Change). P one.0) told
     → AllByRecursion (λ (one : Stamp × Change). Q one.0) told
 all-weaker P Q weaker [] all = tt
 all-weaker P Q weaker (one ∷ told) all = (weaker one.0 all.0, all-weaker P Q weaker told all.1)
@@ -109,43 +109,44 @@ BothFit setting worker clock s seat contents request found =
 
 module _ (setting : Setting) (worker : ℕ) (clock : Reading) (s : ℕ) (contents : List Content) (request : Request) (found : Done Content) where
   -- at the shard
-  serve_shard : Serves setting worker clock s 0 contents request found
-      → IsClearDeed (PlacesMirror setting) (keeping_of setting) (ranged setting) worker (resting (ranged setting) worker clock) found.commands s contents (set contents 0 found.after)
-  serve_shard serves =
-      clear_deed setting worker (resting (ranged setting) worker clock) (resting (ranged setting) worker found.clock) found.commands did.told s contents (set contents 0 found.after)
-      (ap (λ (commands : List Command). run (rules_under (scheme (ranged setting)) setting.settings.header worker) (resting (ranged setting) worker clock) commands) plan.logged ∙ did.runs)
-      (subst (λ (cs : List Content). (path : List Bool) → IsCarried path (kept_of cs path) (kept_of (set contents 0 found.after) path) (carried path did.told)) (sym mirrors.is)
-      (subst (λ (cs : List Content). (path : List Bool) → IsCarried path (mirrors.shard.records path) (kept_of cs path) (carried path did.told)) (sym behind)
-      did.once))
-      (λ path not_home. did.own path (λ below. not_home (home-below mirrors.shard.frontier path (suc (bits_in setting)) s
-      (subst (λ (cs : List Content). length (frontier_in cs) ≡ suc (bits_in setting)) mirrors.is serves.ready.mirrored.levels)
-      (subst (λ (cs : List Content). number_of (frontier_in cs) ≡ s) mirrors.is serves.ready.mirrored.number) below)))
-      (subst (λ (cs : List Content). AllByRecursion (λ (one : Stamp × Change). IsLater one.0 (front_of cs)) did.told) (sym mirrors.is)
-      (all-weaker (IsWithin (Some (pending_shard mirrors.shard)) (Some (pending_shard left))) (λ stamp. IsLater stamp mirrors.shard.stamp) (λ stamp is. is.0) did.told did.within))
-      (subst (λ (cs : List Content). AllByRecursion (λ (one : Stamp × Change). IsNotAfter one.0 (front_of cs)) did.told) (sym behind)
-      (all-weaker (IsWithin (Some (pending_shard mirrors.shard)) (Some (pending_shard left))) (λ stamp. IsNotAfter stamp left.stamp) (λ stamp is. not_after stamp left.stamp is.1) did.told did.within))
-      (front setting worker clock s 0 contents request found serves).rises
-    where
-      mirrors : SeatsMirror (longest_of setting.settings.header) setting.functions.digest contents
-      mirrors = serves.ready.mirrored.mirrors
+  module _ (serves : Serves setting worker clock s 0 contents request found) where
+    abbrev pub at_shard : SeatsMirror (longest_of setting.settings.header) setting.functions.digest contents
+    at_shard = serves.ready.mirrored.mirrors
 
-      plan : IsPlanned setting.settings.absent setting.functions.digest worker clock (get_or contents 0 vacant) request found
-      plan = planned setting worker clock s 0 contents request found serves
+    abbrev pub shard_plan : IsPlanned setting.settings.absent setting.functions.digest worker clock (get_or contents 0 vacant) request found
+    shard_plan = planned setting worker clock s 0 contents request found serves
 
-      left : Shard
-      left = served setting.functions.digest worker mirrors.shard plan.is.links request clock (is_missed setting.settings.absent mirrors.shard plan.is.links request)
+    abbrev pub shard_left : Shard
+    shard_left = served setting.functions.digest worker at_shard.shard shard_plan.is.links request clock (is_missed setting.settings.absent at_shard.shard shard_plan.is.links request)
 
-      after : found.after ≡ cold left
-      after = plan.is.content ∙ ap (λ (cs : List Content). content_after setting.settings.absent setting.functions.digest worker (get_or cs 0 vacant) plan.is.links request clock) mirrors.is
+    pub shard_after : found.after ≡ cold shard_left
+    shard_after = shard_plan.is.content ∙ ap (λ (cs : List Content). content_after setting.settings.absent setting.functions.digest worker (get_or cs 0 vacant) shard_plan.is.links request clock) at_shard.is
 
-      behind : set contents 0 found.after ≡ cold left ∷ mirrors.places
-      behind = ap (λ (c : Content). set contents 0 c) after ∙ ap (λ (cs : List Content). set cs 0 (cold left)) mirrors.is
+    pub shard_behind : set contents 0 found.after ≡ cold shard_left ∷ at_shard.places
+    shard_behind = ap (λ (c : Content). set contents 0 c) shard_after ∙ ap (λ (cs : List Content). set cs 0 (cold shard_left)) at_shard.is
 
-      did : PlanRuns (rules_under (scheme (ranged setting)) setting.settings.header worker) (resting (ranged setting) worker clock) (cold mirrors.shard) (cold left) request plan.plan found.clock
-      did =
-          subst (λ (c : Content). PlanRuns (rules_under (scheme (ranged setting)) setting.settings.header worker) (resting (ranged setting) worker clock) (cold mirrors.shard) c request plan.plan found.clock) after
-          (subst (λ (cs : List Content). PlanRuns (rules_under (scheme (ranged setting)) setting.settings.header worker) (resting (ranged setting) worker clock) (get_or cs 0 vacant) found.after request plan.plan found.clock) mirrors.is
-          (runs setting worker clock s 0 contents request found serves))
+    pub shard_did : PlanRuns (rules_under (scheme (ranged setting)) setting.settings.header worker) (resting (ranged setting) worker clock) (cold at_shard.shard) (cold shard_left) request shard_plan.plan found.clock
+    shard_did =
+        subst (λ (c : Content). PlanRuns (rules_under (scheme (ranged setting)) setting.settings.header worker) (resting (ranged setting) worker clock) (cold at_shard.shard) c request shard_plan.plan found.clock) shard_after
+        (subst (λ (cs : List Content). PlanRuns (rules_under (scheme (ranged setting)) setting.settings.header worker) (resting (ranged setting) worker clock) (get_or cs 0 vacant) found.after request shard_plan.plan found.clock) at_shard.is
+        (runs setting worker clock s 0 contents request found serves))
+
+    -- it is clear
+    serve_shard : IsClearDeed (PlacesMirror setting) (keeping_of setting) (ranged setting) worker (resting (ranged setting) worker clock) found.commands s contents (set contents 0 found.after)
+    serve_shard =
+        clear_deed setting worker (resting (ranged setting) worker clock) (resting (ranged setting) worker found.clock) found.commands shard_did.told s contents (set contents 0 found.after)
+        (ap (λ (commands : List Command). run (rules_under (scheme (ranged setting)) setting.settings.header worker) (resting (ranged setting) worker clock) commands) shard_plan.logged ∙ shard_did.runs)
+        (subst (λ (cs : List Content). (path : List Bool) → IsCarried path (kept_of cs path) (kept_of (set contents 0 found.after) path) (carried path shard_did.told)) (sym at_shard.is)
+        (subst (λ (cs : List Content). (path : List Bool) → IsCarried path (at_shard.shard.records path) (kept_of cs path) (carried path shard_did.told)) (sym shard_behind)
+        shard_did.once))
+        (λ path not_home. shard_did.own path (λ below. not_home (home-below at_shard.shard.frontier path (suc (bits_in setting)) s
+        (subst (λ (cs : List Content). length (frontier_in cs) ≡ suc (bits_in setting)) at_shard.is serves.ready.mirrored.levels)
+        (subst (λ (cs : List Content). number_of (frontier_in cs) ≡ s) at_shard.is serves.ready.mirrored.number) below)))
+        (subst (λ (cs : List Content). AllByRecursion (λ (one : Stamp × Change). IsLater one.0 (front_of cs)) shard_did.told) (sym at_shard.is)
+        (all-weaker (IsWithin (Some (pending_shard at_shard.shard)) (Some (pending_shard shard_left))) (λ stamp. IsLater stamp at_shard.shard.stamp) (λ stamp is. is.0) shard_did.told shard_did.within))
+        (subst (λ (cs : List Content). AllByRecursion (λ (one : Stamp × Change). IsNotAfter one.0 (front_of cs)) shard_did.told) (sym shard_behind)
+        (all-weaker (IsWithin (Some (pending_shard at_shard.shard)) (Some (pending_shard shard_left))) (λ stamp. IsNotAfter stamp shard_left.stamp) (λ stamp is. not_after stamp shard_left.stamp is.1) shard_did.told shard_did.within))
+        (front setting worker clock s 0 contents request found serves).rises
 
   -- at a hot place
   serve_hot : (k : ℕ) → Serves setting worker clock s (suc k) contents request found

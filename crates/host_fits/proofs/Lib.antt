@@ -15,4 +15,8 @@ mod PlanLemmas
 mod MoveLemmas
 mod SteadyLemmas
 mod PromiseLemmas
+mod AccessLemmas
+mod ColdLemmas
+mod HotLemmas
+mod StoringLemmas
 pub mod TypedLaws

@@ -54,7 +54,7 @@ use Rattle.host_fits.proofs.ClearLemmas.{renewing-rises}
 -- ---- requests
 
 -- what was asked is answered so
-asked_so : (request : Request) (found : Value) (answer : Option (List ℕ)) → values.Blob answer ≡ value_after request found
+pub asked_so : (request : Request) (found : Value) (answer : Option (List ℕ)) → values.Blob answer ≡ value_after request found
     → (if request.put then answer else None) ≡ (if request.put then request.value else None)
 asked_so request found answer is = go request.put is
   where
@@ -72,7 +72,7 @@ pub bare_at_rest : (setting : Setting) (worker : ℕ) → IsBare (resting_cache 
 bare_at_rest setting worker =
     bare_if (worker == 0) (new_entry (root_of false) (values.Node (set_up_root setting.functions.digest (bits_in setting))) Root) refl
 
-open_now : (clock : Reading) (epoch : ℕ) → epoch ≡ clock.at.epoch → is_open clock epoch ≡ true
+pub open_now : (clock : Reading) (epoch : ℕ) → epoch ≡ clock.at.epoch → is_open clock epoch ≡ true
 open_now clock epoch same = grind (arith, nat_tests)
 
 -- what is said of all that waits is said of what does
@@ -135,10 +135,10 @@ module _ (setting : Setting) (worker : ℕ) (clock : Reading) (s seat : ℕ) (co
   range : (nat_lt request.key (2 ^ key_bits false) ≡ true) × (is_place_of longest contents seat request ≡ true)
   range = both (nat_lt request.key (2 ^ key_bits false)) (is_place_of longest contents seat request) serves.owns
 
-  small : request.key < 2 ^ key_bits false
+  pub small : request.key < 2 ^ key_bits false
   small = ltb-true request.key (2 ^ key_bits false) range.0
 
-  there : SeatServes longest digest hot_keys content request
+  pub there : SeatServes longest digest hot_keys content request
   there = seat_serves longest digest contents mirrors seat request small range.1
 
   pub planned : IsPlanned setting.settings.absent digest worker clock content request found
@@ -150,7 +150,7 @@ module _ (setting : Setting) (worker : ℕ) (clock : Reading) (s seat : ℕ) (co
   counters : (clock_after content clock).at.counter ≤ clock.end
   counters = (done_within clock.end (clock_after content clock).at.counter (served_at setting worker clock content request) found serves.is).1
 
-  stamped : AllByRecursion (IsStamped (ranged setting) clock.at.epoch) (waiting (pending content))
+  pub stamped : AllByRecursion (IsStamped (ranged setting) clock.at.epoch) (waiting (pending content))
   stamped = waits_there (IsStamped (ranged setting) clock.at.epoch) contents seat serves.ready.stamped
 
   opens : (c : Content) → AllByRecursion (IsStamped (ranged setting) clock.at.epoch) (waiting (pending c)) → IsOpenAt clock c

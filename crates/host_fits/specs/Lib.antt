@@ -1,2 +1,3 @@
 -- What the shipped host promises.
 pub mod Promise
+pub mod Holds

@@ -1,11 +1,14 @@
 //! What holds of the shipped host's world, behind whatever events. The functions do nothing: their contracts are the laws.
-ghost use Rattle.std.specs.Prelude.{◌≡◌, ℕ, ◌<◌, ◌≤◌, List, IfSome, Some, None};
+ghost use Rattle.std.specs.Prelude.{◌≡◌, ℕ, ◌<◌, ◌≤◌, List, length, IfSome, Some, None};
 ghost use Rattle.lamport_clocks.specs.Reading.{Reading};
 ghost use Rattle.record_hash.specs.Functions.{DigestFunctions};
 ghost use Rattle.record_text.specs.declared.request.Request.{Request};
 ghost use Rattle.record_text.specs.Longest.{longest_of};
 ghost use Rattle.log_codec.specs.declared.command.Command.{Command};
 ghost use Rattle.merkle_records.specs.Merkle.{GivesDigests};
+ghost use Rattle.stamp_order.specs.Serial.{none_everywhere};
+ghost use Rattle.soundness.specs.Certified.{operations_in, order_of, certified_operations};
+ghost use Rattle.soundness.specs.World.{stored_behind};
 ghost use Rattle.script_text.specs.declared.task.Task.{Task};
 ghost use Rattle.script_text.specs.Text.{AreTasks};
 ghost use Rattle.host_shard.specs.Content.{Content};
@@ -15,8 +18,10 @@ ghost use Rattle.move_laws.specs.Stages.{StageMirrors};
 ghost use Rattle.protection_moves.specs.Stage.{Stage};
 ghost use Rattle.protection_moves.specs.Move.{IsMove};
 ghost use Rattle.protection_moves.specs.Move as move;
+ghost use Rattle.host_core.specs.Host.{scheme};
 ghost use Rattle.host_core.specs.World.{set_up};
-ghost use Rattle.host_core.specs.WorldEvent.{WorldEvent, AreEnabled, run_events};
+ghost use Rattle.host_core.specs.WorldEvent.{WorldEvent, HasAdvanced, AreEnabled, run_events};
+ghost use Rattle.host_core.specs.Core.{histories};
 ghost use Rattle.host_order.specs.Steady.{IsSteady};
 ghost use Rattle.host_order.specs.Close.{MovesKeepEpoch};
 ghost use Rattle.host_world.specs.declared.settings.Settings.{Settings};
@@ -24,6 +29,7 @@ ghost use Rattle.host_world.specs.Behind.{AreInRange};
 ghost use Rattle.host_world.specs.Moving.{seats_of};
 ghost use Rattle.host_world.specs.ShippedHost.{shipped_host};
 ghost use Rattle.host_fits.specs.Promise.{CanRun, IsPromised};
+ghost use Rattle.host_fits.specs.Holds.{ContentsHold};
 
 /// Whatever the script, the workers, the shards, the first epoch and the counters' end: behind every list of events that
 /// are enabled from the setup on, the promise holds. It is asked that the numbers are in their ranges, that the setup's
@@ -33,6 +39,24 @@ pub fn the_shipped_host_keeps_its_promise()
         → CanRun functions settings script
         → let host = shipped_host functions settings script in
         AreEnabled host (set_up host) events → IsPromised host (run_events host (set_up host) events) }
+{}
+
+/// Behind whatever events the contents hold the plain map: of each key the data value that the operations of all logs leave, in their
+/// one order. Behind a whole last close, where each worker has advanced twice, these operations are the certified ones.
+pub fn the_contents_hold_the_plain_map()
+    ensures answered { (functions : DigestFunctions) (settings : Settings) (script : List (List Task)) (events : List (WorldEvent Request))
+        → CanRun functions settings script
+        → let host = shipped_host functions settings script in
+        AreEnabled host (set_up host) events
+        → ContentsHold settings (run_events host (set_up host) events)
+        (stored_behind none_everywhere (operations_in (order_of (histories host (run_events host (set_up host) events))))) }
+    ensures certified { (functions : DigestFunctions) (settings : Settings) (script : List (List Task)) (events : List (WorldEvent Request))
+        → CanRun functions settings script
+        → let host = shipped_host functions settings script in
+        AreEnabled host (set_up host) events
+        → ((i : ℕ) → i < length (run_events host (set_up host) events).workers → HasAdvanced host (run_events host (set_up host) events) i 2)
+        → ContentsHold settings (run_events host (set_up host) events)
+        (stored_behind none_everywhere (certified_operations (scheme host) settings.header.first (histories host (run_events host (set_up host) events)))) }
 {}
 
 /// What a script asks for line by line has keys in range.

@@ -36,7 +36,7 @@ use Rattle.move_laws.proofs.DescentLaws.{AreFit, apart_by_number}
 use Rattle.move_laws.proofs.FitLaws.{begun_mirrors, move_fits}
 use Rattle.host_holds.specs.Holding.{hot_record_of, value_or, held_value, stored_after}
 use Rattle.host_holds.proofs.ChainLemmas.{others_stay, ends_with, some_link, finds}
-use Rattle.host_holds.proofs.HotLemmas.{none_hot, hot-none, hot-found, others-replaced, vacant-none, hot-placed, others-placed, own-set, others-set, renewed-values}
+use Rattle.host_holds.proofs.HotLaws.{none_hot, hot-none, hot-found, others-replaced, vacant-none, hot-placed, others-placed, own-set, others-set, renewed-values}
 
 -- ---- keys
 

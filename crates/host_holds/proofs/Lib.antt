@@ -1,4 +1,4 @@
 -- How the laws on held values are proved, in reading order.
 mod ChainLemmas
-mod HotLemmas
+pub mod HotLaws
 pub mod HeldLaws

@@ -1,0 +1,5 @@
+use Rattle.host_fits.proofs.StoringLemmas.{holds_answered, holds_certified}
+use Rattle.host_fits.proofs.laws.the_contents_hold_the_plain_map.Goals as goal
+
+pub returns : goal.returns
+returns c = record { answered = holds_answered; certified = holds_certified }

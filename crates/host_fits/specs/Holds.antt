@@ -1,0 +1,27 @@
+-- What the shipped host holds of the data.
+use Rattle.std.specs.Prelude.{◌≡◌, ℕ, suc, ◌^◌, ◌<◌, nat_lt, false, take, Some, None, if◌then◌else◌}
+use Rattle.tree_keys.specs.Bits.{number_of}
+use Rattle.tree_keys.specs.Path.{key_path}
+use Rattle.soundness.specs.World.{Stored}
+use Rattle.host_shard.specs.Content.{Content}
+use Rattle.host_core.specs.World.{World, shard_at}
+use Rattle.host_core.specs.Storing.{Storing}
+use Rattle.host_holds.specs.Holding.{held_value, held_since}
+use Rattle.host_world.specs.declared.settings.Settings.{Settings}
+use Rattle.host_world.specs.Settings.{frontier_bits}
+
+-- the shard of a key: its number is what the first bits of the key's path spell
+abbrev pub shard_of : Settings → ℕ → ℕ
+shard_of settings key = number_of (take (suc (frontier_bits settings.shards)) (key_path false key))
+
+-- what the shipped host holds, as the machine sees it: a key of 64 bits has a shard
+abbrev pub storing_of : Settings → Storing Content
+storing_of settings = record {
+  home = λ key. if nat_lt key (2 ^ 64) then Some (shard_of settings key) else None;
+  held = held_value;
+  since = held_since;
+}
+
+-- The contents of a world hold a map: of each key of 64 bits the contents of its shard have the map's data value.
+abbrev pub ContentsHold : Settings → World Content → Stored → Type 0
+ContentsHold settings world stored = (key : ℕ) → key < 2 ^ 64 → held_value (shard_at world (shard_of settings key)).contents key ≡ stored key
