@@ -5,7 +5,7 @@ _fastver() {
   local word=${COMP_WORDS[COMP_CWORD]} options
   COMPREPLY=()
   if [ "$COMP_CWORD" -eq 1 ]; then
-    mapfile -t COMPREPLY < <(compgen -W 'check audit run gen accept help --help --version' -- "$word")
+    mapfile -t COMPREPLY < <(compgen -W 'check audit run gen accept follow help --help --version' -- "$word")
     return
   fi
   case ${COMP_WORDS[COMP_CWORD - 1]} in
@@ -19,9 +19,10 @@ _fastver() {
   case ${COMP_WORDS[1]} in
     check) options='--key --receipts' ;;
     audit) options='--key' ;;
-    run) options='--key --verifiers --shards --hot --logs --first --counter --format --receipts' ;;
+    run) options='--key --verifiers --shards --hot --logs --first --counter --format --absent --receipts' ;;
     gen) options='--key --seed --ops --verifiers --shards --keys --every --hot --logs --first --counter' ;;
     accept) options='--key' ;;
+    follow) options='--key' ;;
     *) options= ;;
   esac
   mapfile -t COMPREPLY < <(compgen -W "$options" -- "$word")

@@ -13,6 +13,7 @@ mod CertifiedCountLemmas
 pub mod CertifyLaws
 pub mod KeepingLaws
 pub mod LeftLaws
+pub mod OrderLaws
 pub mod PartLaws
 mod MoreLaws
 pub mod SoFarLaws

@@ -2,5 +2,7 @@
 pub mod RunsLaws
 mod FedLemmas
 mod TurnLemmas
+mod OrderLemmas
+mod PieceLemmas
 mod LinesLemmas
 mod OpeningLemmas

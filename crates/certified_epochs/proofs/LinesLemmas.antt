@@ -1,11 +1,19 @@
--- Two texts on a page, one behind the other, and how often the sink failed meanwhile.
-use Rattle.std.proofs.Common.{◌≡◌, ℕ, ◌≤◌, List, ◌++◌, length, drop, Option, Result, Err, inl, inr, sym, ◌∙◌, ap, subst, append-nil, arith}
+-- Two texts on a page, one behind the other, and what an epoch's text is.
+use Rattle.std.proofs.Common.{◌≡◌, ℕ, List, [], ◌++◌, length, map, Option, Bor, sym, ◌∙◌, ap, subst, append-nil, append_assoc}
 use Rattle.std.specs.List.{flat_map}
-use Rattle.std.proofs.lemmas.List.{drop_all}
-use Rattle.fv_outside.specs.Faults.{Counts, Rose}
+use Rattle.std.proofs.lemmas.List.{length-map}
 use Rattle.fv_outside.specs.Written.{GrowsByFront}
+use Rattle.fv_outside.proofs.WrittenLaws.{GrowsByFront-more}
+use Rattle.record_hash.specs.Functions.{DigestFunctions}
+use Rattle.record_text.specs.declared.operation.Operation.{Operation}
 use Rattle.report_text.specs.Page.{Passes}
-use Rattle.report_text.proofs.PassLaws.{Passes-then, Passes-stop, on_err}
+use Rattle.report_text.specs.Lines.{epoch_line, certificate_line}
+use Rattle.report_text.proofs.PassLaws.{Passes-then, Passes-front}
+use Rattle.certified_epochs.specs.declared.telling.Telling.{Telling}
+use Rattle.certified_epochs.specs.declared.telling.Telling.TheVariants.{Plain, Receipts}
+use Rattle.certified_epochs.specs.Telling.{text_by, line_by}
+use Rattle.certified_epochs.specs.Pieces.{lines_seen}
+use Rattle.certified_epochs.proofs.PieceLemmas.{lines-seen}
 
 -- both were added
 pub Passes-both : (a b c : Option (List ℕ)) (waited p q one two first second : List ℕ) → one ≡ first → two ≡ second
@@ -14,28 +22,43 @@ Passes-both a b c waited p q one two first second one_is two_is h k =
     Passes-then a b c waited p q first second (subst (λ (text : List ℕ). Passes a waited text b p) one_is h)
     (subst (λ (text : List ℕ). Passes b p text c q) two_is k)
 
--- the first was added, and then a part of what waits was written
-pub Passes-halfway : (a b c : Option (List ℕ)) (waited p one first second : List ℕ) → one ≡ first → Passes a waited one b p → GrowsByFront b c p
+-- a part of the first was written
+pub front-first : (a c : Option (List ℕ)) (waited one first second : List ℕ) → one ≡ first → GrowsByFront a c (waited ++ one)
     → GrowsByFront a c (waited ++ (first ++ second))
-Passes-halfway a b c waited p one first second one_is h k =
-    Passes-stop a b c waited p one second (first ++ second) h k (ap (λ (text : List ℕ). text ++ second) one_is)
+front-first a c waited one first second is h =
+    subst (GrowsByFront a c) (append_assoc waited one second ∙ ap (λ (text : List ℕ). waited ++ (text ++ second)) is)
+    (GrowsByFront-more a c (waited ++ one) second h)
 
--- behind the last of things that have lines, all of these were added
-pub Passes-lines : {A : Type 0} (line_of : A → List ℕ) (things : List A) (i : ℕ) (a b : Option (List ℕ)) (waited p text whole : List ℕ) → length things ≤ i
-    → text ++ flat_map line_of (drop i things) ≡ whole → Passes a waited text b p → Passes a waited whole b p
-Passes-lines {A} line_of things i a b waited p text whole past left h =
-    let rest = ap (λ (left_over : List A). text ++ flat_map line_of left_over) (sym (drop_all i things past)) in
-    subst (λ (t : List ℕ). Passes a waited t b p) (sym (append-nil text) ∙ rest ∙ left) h
+-- the first was added, and then a part of the second was written
+pub front-second : (a b c : Option (List ℕ)) (waited p one two first second : List ℕ) → one ≡ first → two ≡ second → Passes a waited one b p
+    → GrowsByFront b c (p ++ two) → GrowsByFront a c (waited ++ (first ++ second))
+front-second a b c waited p one two first second one_is two_is h k =
+    Passes-front a b c waited p one two [] (first ++ second) h k
+    (append-nil (one ++ two) ∙ ap (λ (text : List ℕ). text ++ two) one_is ∙ ap (λ (text : List ℕ). first ++ text) two_is)
 
--- ---- counts of faults over several calls
+module _ {D : Type 0} (functions : D → DigestFunctions) (telling : Telling D) (epoch : ℕ) (operations : List (Bor Operation)) where
+  -- how many there are, and their lines
+  abbrev pub counted_lines : List ℕ
+  counted_lines = epoch_line epoch (length operations) ++ lines_seen functions telling operations
 
-rose_before : (a b c : ℕ) → a ≤ b → Rose b c → Rose a c
-rose_before a b c within (inl rose) = inl (omega (arith, within, rose))
-rose_before a b c within (inr last) = inr last
+  counted : counted_lines
+      ≡ epoch_line epoch (length (map (λ op. op.now) operations)) ++ flat_map (line_by functions telling) (map (λ op. op.now) operations)
+  counted =
+      ap (λ (n : ℕ). epoch_line epoch n ++ lines_seen functions telling operations) (sym (length-map operations (λ (op : Bor Operation). op.now)))
+      ∙ ap (λ (lines : List ℕ). epoch_line epoch (length (map (λ (op : Bor Operation). op.now) operations)) ++ lines) (lines-seen functions telling operations)
 
--- a call that failed, after others
-pub Counts-failed : {A B E F : Type 0} (a b c : ℕ) (fault : E) (r : Result A F) → a ≤ b → Counts {A = B} b c (Err fault) → Counts a c r
-Counts-failed a b c fault r within h = record {
-  never_falls = omega (arith, within, h.never_falls);
-  failed = on_err r (rose_before a b c within h.failed);
-}
+-- the text of an epoch without receipts, and with them
+pub plain-is : {D : Type 0} (functions : D → DigestFunctions) (telling : Telling D) (epoch : ℕ) (operations : List (Bor Operation)) → telling ≡ Plain
+    → counted_lines functions telling epoch operations ≡ text_by functions telling epoch (map (λ op. op.now) operations)
+plain-is {D} functions telling epoch operations is =
+    subst (λ (t : Telling D). counted_lines functions t epoch operations ≡ text_by functions t epoch (map (λ (op : Bor Operation). op.now) operations)) (sym is)
+    (counted functions Plain epoch operations)
+
+pub receipts-is : {D : Type 0} (functions : D → DigestFunctions) (telling : Telling D) (epoch : ℕ) (operations : List (Bor Operation)) (digests : Bor D) (first : ℕ)
+    → telling ≡ Receipts digests first
+    → counted_lines functions telling epoch operations ++ certificate_line (functions digests.now) first epoch
+    ≡ text_by functions telling epoch (map (λ op. op.now) operations)
+receipts-is {D} functions telling epoch operations digests first is =
+    subst (λ (t : Telling D). counted_lines functions t epoch operations ++ certificate_line (functions digests.now) first epoch
+    ≡ text_by functions t epoch (map (λ (op : Bor Operation). op.now) operations)) (sym is)
+    (ap (λ (text : List ℕ). text ++ certificate_line (functions digests.now) first epoch) (counted functions (Receipts digests first) epoch operations))

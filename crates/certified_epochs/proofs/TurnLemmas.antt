@@ -1,9 +1,9 @@
 -- What one turn of certifying tells of the logs that the runs have taken.
 use Rattle.std.proofs.Common.{◌≡◌, ◌⊎◌, ℕ, suc, ◌+◌, ◌-◌, ◌<◌, ◌≤◌, Bool, true, false, List, [], ◌∷◌, length, map, drop, slice_get, Option, Some, None, inl, inr, refl, sym, ◌∙◌, ap, subst, arith, filter, cond, ◌++◌, append-nil}
-use Rattle.std.specs.Prelude.{Result, Ok, Err, is_err, OnErr, OnOk, IfSome, nat_lt}
+use Rattle.std.specs.Prelude.{IfSome, nat_lt}
 use Rattle.std.specs.Option.{option_map}
 use Rattle.std.proofs.lemmas.Bool.Decides.{nat_tests}
-use Rattle.std.proofs.lemmas.Bool.{false≢true, cases_lt, cond-false}
+use Rattle.std.proofs.lemmas.Bool.{cases_lt, cond-false}
 use Rattle.lamport_clocks.specs.declared.header.Header.{Header}
 use Rattle.merkle_records.specs.Scheme.{Scheme}
 use Rattle.multiset_sum.specs.declared.part.Part.{Part}
@@ -390,15 +390,6 @@ pub count-small : (so_far : Judged) (runs : List FedRun) (found : Option ℕ) (e
     → so_far.unbalanced ≡ None → found ≡ Some epoch → found ≡ next_epoch (runs_of runs) → so_far.count ≤ epoch
 count-small so_far runs found epoch have even is next =
     omega (arith, next_is have.0 have.1 have.2 so_far (runs_of runs) epoch have.3 even (sym next ∙ is))
-
--- what holds where there is an error, where there is one, and on success
-pub err_holds : {T E : Type 0} (P : Type 0) (r : Result T E) → is_err r ≡ true → OnErr r P → P
-err_holds P (Ok value) is holds = absurd (false≢true is)
-err_holds P (Err fault) is holds = holds
-
-pub ok_holds : {T E : Type 0} (P : Type 0) (r : Result T E) → is_err r ≡ false → OnOk r P → P
-ok_holds P (Ok value) is holds = holds
-ok_holds P (Err fault) is holds = absurd (false≢true (sym is))
 
 -- ---- turn after turn
 

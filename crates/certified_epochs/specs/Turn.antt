@@ -7,7 +7,8 @@ use Rattle.merkle_records.specs.Scheme.{Scheme}
 use Rattle.epoch_gather.specs.declared.outcome.Verdict.{Verdict}
 use Rattle.epoch_gather.specs.declared.outcome.Verdict.TheVariants as verdicts
 use Rattle.epoch_gather.specs.Verdict.{verdict_of}
-use Rattle.stamp_order.specs.Operations.{merged_up_to}
+use Rattle.stamp_order.specs.Operations.{moment_of, merged_up_to}
+use Rattle.stamp_order.specs.Merged.{IsMerged}
 use Rattle.record_text.specs.declared.operation.Operation.{Operation}
 use Rattle.verifier_run.specs.Course.{Course}
 use Rattle.verifier_run.specs.Progress.{Progress, ended}
@@ -22,6 +23,10 @@ use Rattle.certified_epochs.specs.declared.fed_run.FedRun.{FedRun}
 -- no run was starved
 abbrev pub AreFed : List FedRun → Type 0
 AreFed runs = AllByRecursion (λ fed. fed.is_starved ≡ false) runs
+
+-- the operations of each run stand in the order of their moments
+abbrev pub StandInOrder : List FedRun → Type 0
+StandInOrder runs = AllByRecursion (λ fed. IsMerged moment_of fed.run.course.items) runs
 
 -- a run at the end of its log
 abbrev pub ended_fed : FedRun → FedRun

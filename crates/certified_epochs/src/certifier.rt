@@ -1,12 +1,12 @@
 //! Certifying epoch by epoch, as the logs come.
 ghost use Rattle.std.specs.Prelude.{◌≡◌, ◌≢◌, ◌+◌, ◌-◌, ◌<◌, ◌≤◌, ◌++◌, ℕ, List, map, length, slice_get, true, false, IfOk, IfSome, OnOk, OnErr, Ok, Err, None, Some};
+ghost use Rattle.std.specs.List.{fold};
 ghost use Rattle.fv_outside.specs.Failures.{FailsByWriting};
 ghost use Rattle.fv_outside.specs.Faults.{Counts, Rose};
 ghost use Rattle.fv_outside.specs.Written.{Grows, GrowsByFront};
 ghost use Rattle.lamport_clocks.specs.declared.header.Header.{Header};
 ghost use Rattle.merkle_records.specs.Scheme.{Scheme};
 ghost use Rattle.record_text.specs.declared.operation.Operation.{Operation};
-ghost use Rattle.load_summary.specs.Counting.{counted_of};
 ghost use Rattle.report_text.specs.Page.{Passes};
 ghost use Rattle.bundle_report.specs.RunReport.{courses_of, parts_at};
 ghost use Rattle.bundle_report.specs.Judged.{judged};
@@ -17,39 +17,35 @@ ghost use Rattle.bundle_report.specs.BundleReport.{histories_at, end_of};
 ghost use Rattle.bundle_report.specs.SoFar.{HaveRead, HaveLogs, lines_from, runs_ended};
 ghost use Rattle.bundle_report.specs.Judged.{none_judged};
 ghost use Rattle.bundle_report.specs.Report.{operations_told};
-ghost use Rattle.stamp_order.specs.Merged.{merged, up_to};
-ghost use Rattle.stamp_order.specs.Operations.{moment_of, merged_up_to};
 ghost use Rattle.verifier_run.specs.Taken.{left_of};
-ghost use Rattle.bundle_report.specs.RunReport.{operations_among};
 ghost use Rattle.certified_epochs.specs.Telling.{text_by};
 ghost use Rattle.certified_epochs.specs.Turn.{AreFed, AreVerdictsOn, IsVerdictAt, next_epoch, parts_left, turn};
 
 use crate::ending::{end_of, first_refused};
 use crate::fed_run::FedRun;
 use crate::gathering::verdict_on;
-use crate::lines::write_epoch_lines;
+use crate::one_epoch::tell_epoch;
+use crate::pieces::Piece;
 use crate::telling::Telling;
-use base_words::Memory;
 use bundle_report::{Judged, Uneven};
 use epoch_gather::Verdict;
 use fv_outside::{Failure, Sink};
-use load_summary::Summary;
 use multiset_sum::Part;
+use operation_folds::OperationFold;
 use record_hash::Digests;
-use record_text::Operation;
 use report_text::{BundleEnd, Page, write_last};
-use stamp_order::Moment;
 use std::alloc::Global;
 use std::marker::Model;
+use std::thread::Threads;
 
 /// How many epochs the runs of all verifiers have certified so far, and the next one where its sums differ. Nothing is
 /// kept of an epoch once its lines are written. Contracts see what is judged.
 #[derive(Drop)]
 pub struct Certifier {
     judged: Judged,
-    // Room for what is looked at of one epoch, used again for the next.
+    // Room for what is looked at and written of one epoch, used again for the next.
     parts: Vec<Part>,
-    operations: Vec<Operation>,
+    pieces: Vec<Piece>,
 }
 
 impl Model for Certifier {
@@ -71,7 +67,7 @@ impl Certifier {
                 unbalanced: None,
             },
             parts: Vec::new(alloc),
-            operations: Vec::new(alloc),
+            pieces: Vec::new(alloc),
         }
     }
 
@@ -82,24 +78,25 @@ impl Certifier {
         &self.judged
     }
 
-    /// Writes the lines of all epochs that the runs now certify and that are not written yet, counts their operations, and
-    /// takes what the runs have of these epochs out of them. The verdicts on the first of these may have been settled
+    /// Writes the lines of all epochs that the runs now certify and that are not written yet, adds their operations to a fold,
+    /// and takes what the runs have of these epochs out of them. The verdicts on the first of these may have been settled
     /// elsewhere; the others are found here. Where a run is starved that is want of memory, and nothing is written.
     ///
-    /// After want of memory or where the sink failed it holds a front of these lines, and the certifier is of no more use.
-    pub fn certify<D: Digests, O: Sink>(
+    /// After want of memory or where the sink failed it holds a front of these lines, and certifier and fold are of no more use.
+    pub fn certify<R: Threads + Sync, D: Digests + Sync, T: OperationFold, O: Sink>(
         &mut self,
+        rt: &R,
         settled: &[Verdict],
         runs: &mut [FedRun],
         telling: &Telling<D>,
-        summary: &mut Summary,
+        folded: &mut T,
         out: &mut O,
     ) -> Result<(), Failure>
         requires few { length runs.old ≤ 64 }
         requires logs { AreFed runs.old → HaveLogs self.old (map (λ fed. fed.run) runs.old) }
         requires settled { AreFed runs.old → AreVerdictsOn self.old (map (λ fed. fed.run) runs.old) settled.now }
 
-        // Of all logs that the runs have taken so far: what they certify is counted and written.
+        // Of all logs that the runs have taken so far: what they certify is counted, written and added.
         ensures judged { (scheme : Scheme) (header : Header) (logs : List (List ℕ))
             → HaveRead scheme header logs self.old (map (λ fed. fed.run) runs.old)
             → OnOk result (self.new ≡ judged header.verifiers (courses_of scheme header logs)) }
@@ -110,11 +107,10 @@ impl Certifier {
             → HaveRead scheme header logs self.old (map (λ fed. fed.run) runs.old)
             → OnOk result (Grows (O.held out.old) (O.held out.new)
             (lines_from (text_by D.functions telling.now) (courses_of scheme header logs) (header.first + self.old.count) (self.new.count - self.old.count))) }
-        ensures counted { (scheme : Scheme) (header : Header) (logs : List (List ℕ)) (workers : ℕ) (before : List Operation)
+        ensures folded { (scheme : Scheme) (header : Header) (logs : List (List ℕ))
             → HaveRead scheme header logs self.old (map (λ fed. fed.run) runs.old)
-            → summary.old ≡ counted_of workers before
-            → OnOk result (summary.new ≡ counted_of workers (before
-            ++ lines_from operations_told (courses_of scheme header logs) (header.first + self.old.count) (self.new.count - self.old.count))) }
+            → OnOk result (T.state folded.new ≡ fold T.step (T.state folded.old)
+            (lines_from operations_told (courses_of scheme header logs) (header.first + self.old.count) (self.new.count - self.old.count))) }
 
         // Where it stops, the sink took a front of the lines of what they certify.
         ensures front { (scheme : Scheme) (header : Header) (logs : List (List ℕ))
@@ -141,7 +137,7 @@ impl Certifier {
         let mut page = Page::new();
         'epochs: loop {
             let handed = settled.get(self.judged.count - before);
-            if !self.certify_next(handed, runs, telling, summary, &mut page, out)? {
+            if !self.certify_next(rt, handed, runs, telling, folded, &mut page, out)? {
                 break;
             }
         }
@@ -195,14 +191,15 @@ impl Certifier {
         }
     }
 
-    // Counts the operations of the next epoch and writes its lines, if it is certified, and answers whether it is. The verdict
+    // Adds the operations of the next epoch to a fold and writes its lines, if it is certified, and answers whether it is. The verdict
     // on it may be handed in.
-    fn certify_next<D: Digests, O: Sink>(
+    fn certify_next<R: Threads + Sync, D: Digests + Sync, T: OperationFold, O: Sink>(
         &mut self,
+        rt: &R,
         handed: Option<&Verdict>,
         runs: &mut [FedRun],
         telling: &Telling<D>,
-        summary: &mut Summary,
+        folded: &mut T,
         page: &mut Page,
         out: &mut O,
     ) -> Result<bool, Failure>
@@ -214,9 +211,7 @@ impl Certifier {
         ensures turned { IfOk result (λ more. turn (text_by D.functions telling.now) self.old (map (λ fed. fed.run) runs.old)
             ≡ record { more = more; judged = self.new; runs = map (λ fed. fed.run) runs.new; text = (turn (text_by D.functions telling.now) self.old (map (λ fed. fed.run) runs.old)).text }) }
         ensures text { OnOk result (Passes (O.held out.old) page.old (turn (text_by D.functions telling.now) self.old (map (λ fed. fed.run) runs.old)).text (O.held out.new) page.new) }
-        ensures counted { (workers : ℕ) (before : List Operation)
-            → summary.old ≡ counted_of workers before
-            → OnOk result (summary.new ≡ counted_of workers (before ++ (turn operations_told self.old (map (λ fed. fed.run) runs.old)).text)) }
+        ensures folded { OnOk result (T.state folded.new ≡ fold T.step (T.state folded.old) (turn operations_told self.old (map (λ fed. fed.run) runs.old)).text) }
         ensures front { OnErr result (GrowsByFront (O.held out.old) (O.held out.new) (page.old ++ (turn (text_by D.functions telling.now) self.old (map (λ fed. fed.run) runs.old)).text)) }
         ensures fed { AreFed runs.old → AreFed runs.new }
         ensures less { result ≡ Ok true → parts_left runs.new < parts_left runs.old }
@@ -240,11 +235,17 @@ impl Certifier {
             }
             Verdict::Missing(_) => return Ok(false),
         }
-        take(&mut self.operations, runs, epoch)?;
-        summary.count(&self.operations)?;
-        if write_epoch_lines(telling, epoch, &self.operations, page, out).is_err() {
-            return Err(Failure::WriteFault);
-        }
+        tell_epoch(
+            rt,
+            telling,
+            epoch,
+            runs,
+            folded,
+            &mut self.pieces,
+            page,
+            out,
+        )?;
+        pass_all(runs, epoch);
         self.judged.count = one_more(self.judged.count, epoch);
         Ok(true)
     }
@@ -258,38 +259,15 @@ fn one_more(count: usize, epoch: u32) -> usize
     count + 1
 }
 
-// Takes the operations up to an epoch out of all runs, in place of those that are there, and puts them in the one order.
-fn take(operations: &mut Vec<Operation>, runs: &mut [FedRun], epoch: u32) -> Result<(), Memory>
-    ensures operations { OnOk result (operations.new.items ≡ merged_up_to epoch (operations_among (map (λ fed. fed.run.course) runs.old))) }
-    ensures left { OnOk result (map (λ fed. fed.run) runs.new ≡ map (λ fed. left_of epoch fed.run) runs.old) }
-    ensures len { length runs.new ≡ length runs.old }
-    ensures fed { AreFed runs.old → AreFed runs.new }
-{
-    operations.clear();
-    take_all(operations, runs, epoch)?;
-    put_in_order(operations)
-}
-
-// Puts operations in the order of their moments; those of one moment stay as they stood.
-fn put_in_order(operations: &mut Vec<Operation>) -> Result<(), Memory>
-    ensures order { OnOk result (operations.new.items ≡ merged moment_of operations.old.items) }
-{
-    operations.sort_by_key(Moment::of)?;
-    Ok(())
-}
-
-// Takes the operations up to an epoch out of all runs, one run after another.
-fn take_all(operations: &mut Vec<Operation>, runs: &mut [FedRun], epoch: u32) -> Result<(), Memory>
-    ensures operations { OnOk result (operations.new.items
-        ≡ operations.old.items ++ up_to moment_of epoch (operations_among (map (λ fed. fed.run.course) runs.old))) }
-    ensures left { OnOk result (map (λ fed. fed.run) runs.new ≡ map (λ fed. left_of epoch fed.run) runs.old) }
+// Has all runs keep nothing of epochs up to this one.
+fn pass_all(runs: &mut [FedRun], epoch: u32)
+    ensures left { map (λ fed. fed.run) runs.new ≡ map (λ fed. left_of epoch fed.run) runs.old }
     ensures len { length runs.new ≡ length runs.old }
     ensures fed { AreFed runs.old → AreFed runs.new }
 {
     for fed in runs.iter_mut() {
-        fed.run.take_into(epoch, operations)?;
+        fed.run.pass(epoch);
     }
-    Ok(())
 }
 
 // The epoch of the first part that the first run still has.

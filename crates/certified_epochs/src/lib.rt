@@ -9,7 +9,9 @@ mod ending;
 mod fed_run;
 mod gathering;
 mod lines;
+mod one_epoch;
 mod opening;
+mod pieces;
 mod telling;
 
 pub use certifier::Certifier;

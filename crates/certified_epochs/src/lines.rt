@@ -1,112 +1,146 @@
 //! The lines of one epoch.
-ghost use Rattle.std.specs.Prelude.{◌++◌, OnOk, OnErr};
-ghost use Rattle.std.specs.List.{flat_map};
-ghost use Rattle.fv_outside.specs.Faults.{Counts};
+ghost use Rattle.std.specs.Prelude.{◌≡◌, ◌≤◌, ◌*◌, ◌++◌, map, min, length, OnOk, OnErr, Err};
+ghost use Rattle.fv_outside.specs.Failures.{FailsByWriting};
+ghost use Rattle.fv_outside.specs.Faults.{Rose};
 ghost use Rattle.fv_outside.specs.Written.{GrowsByFront};
 ghost use Rattle.report_text.specs.Page.{Passes};
-ghost use Rattle.bundle_report.specs.Report.{plain_text, receipted_line, tagged_text};
+ghost use Rattle.report_text.specs.Lines as words;
 ghost use Rattle.certified_epochs.specs.Telling.{text_by};
+ghost use Rattle.certified_epochs.specs.Pieces.{lines_seen};
 
+use crate::pieces::{GROUP, Piece, fill_pieces, make_pieces, part};
 use crate::telling::Telling;
-use fv_outside::{Failed, Sink};
+use fv_outside::{Failed, Failure, Sink};
 use record_hash::Digests;
 use record_text::Operation;
-use report_text::{Page, certificate_line, epoch_line, operation_line, receipt_line};
+use report_text::{Page, certificate_line, epoch_line};
+use std::thread::Threads;
 
-/// Writes the lines of an epoch, whose operations these are.
-pub(crate) fn write_epoch_lines<D: Digests, O: Sink>(
+/// Writes the lines of an epoch, whose operations these are. Pieces are made as they are needed.
+pub(crate) fn write_epoch_lines<R: Threads + Sync, D: Digests + Sync, O: Sink>(
+    rt: &R,
     telling: &Telling<D>,
     epoch: u32,
-    operations: &[Operation],
+    operations: &[&Operation],
+    pieces: &mut Vec<Piece>,
     page: &mut Page,
     out: &mut O,
-) -> Result<(), Failed>
-    ensures whole { OnOk result (Passes (O.held out.old) page.old (text_by D.functions telling.now epoch operations.now) (O.held out.new) page.new) }
-    ensures front { OnErr result (GrowsByFront (O.held out.old) (O.held out.new) (page.old ++ text_by D.functions telling.now epoch operations.now)) }
-    ensures counts { Counts (O.faults out.old) (O.faults out.new) result }
+) -> Result<(), Failure>
+    ensures whole { OnOk result (Passes (O.held out.old) page.old
+        (text_by D.functions telling.now epoch (map (λ op. op.now) operations.now)) (O.held out.new) page.new) }
+    ensures front { OnErr result (GrowsByFront (O.held out.old) (O.held out.new)
+        (page.old ++ text_by D.functions telling.now epoch (map (λ op. op.now) operations.now))) }
+    ensures failure { FailsByWriting result }
+    ensures write_fault { result ≡ Err Failure.WriteFault → Rose (O.faults out.old) (O.faults out.new) }
+    ensures never_falls { O.faults out.old ≤ O.faults out.new }
 {
     match telling {
-        Telling::Plain => write_plain(epoch, operations, page, out),
+        Telling::Nothing => Ok(()),
+        Telling::Plain => write_counted(rt, telling, epoch, operations, pieces, page, out),
         Telling::Receipts { digests, first } => {
-            write_tagged(*digests, *first, epoch, operations, page, out)
+            write_counted(rt, telling, epoch, operations, pieces, page, out)?;
+            write_line(
+                certificate_line(*digests, *first, epoch).as_slice(),
+                page,
+                out,
+            )
         }
     }
 }
 
-// Writes the lines of an epoch without receipts.
-fn write_plain<O: Sink>(
+// Writes how many operations there are, and the lines of each.
+fn write_counted<R: Threads + Sync, D: Digests + Sync, O: Sink>(
+    rt: &R,
+    telling: &Telling<D>,
     epoch: u32,
-    operations: &[Operation],
+    operations: &[&Operation],
+    pieces: &mut Vec<Piece>,
     page: &mut Page,
     out: &mut O,
-) -> Result<(), Failed>
-    ensures whole { OnOk result (Passes (O.held out.old) page.old (plain_text epoch operations.now) (O.held out.new) page.new) }
-    ensures front { OnErr result (GrowsByFront (O.held out.old) (O.held out.new) (page.old ++ plain_text epoch operations.now)) }
-    ensures counts { Counts (O.faults out.old) (O.faults out.new) result }
+) -> Result<(), Failure>
+    ensures whole { OnOk result (Passes (O.held out.old) page.old
+        (words.epoch_line epoch (length operations.now) ++ lines_seen D.functions telling.now operations.now) (O.held out.new) page.new) }
+    ensures front { OnErr result (GrowsByFront (O.held out.old) (O.held out.new)
+        (page.old ++ (words.epoch_line epoch (length operations.now) ++ lines_seen D.functions telling.now operations.now))) }
+    ensures failure { FailsByWriting result }
+    ensures write_fault { result ≡ Err Failure.WriteFault → Rose (O.faults out.old) (O.faults out.new) }
+    ensures never_falls { O.faults out.old ≤ O.faults out.new }
 {
-    let head = epoch_line(epoch, operations.len() as u64);
-    page.write(head.as_slice(), out)?;
-    for op in operations {
-        page.write(operation_line(op).as_slice(), out)?;
+    make_pieces(pieces, operations.len())?;
+    write_line(
+        epoch_line(epoch, operations.len() as u64).as_slice(),
+        page,
+        out,
+    )?;
+    write_lines(rt, telling, operations, pieces, page, out)
+}
+
+// Writes a line.
+fn write_line<O: Sink>(line: &[u8], page: &mut Page, out: &mut O) -> Result<(), Failure>
+    ensures whole { OnOk result (Passes (O.held out.old) page.old line.now (O.held out.new) page.new) }
+    ensures front { OnErr result (GrowsByFront (O.held out.old) (O.held out.new) (page.old ++ line.now)) }
+    ensures failure { FailsByWriting result }
+    ensures write_fault { result ≡ Err Failure.WriteFault → Rose (O.faults out.old) (O.faults out.new) }
+    ensures never_falls { O.faults out.old ≤ O.faults out.new }
+{
+    match page.write_text(line, out) {
+        Ok(()) => Ok(()),
+        Err(Failed) => Err(Failure::WriteFault),
+    }
+}
+
+// Writes the lines of operations, a group after the other.
+fn write_lines<R: Threads + Sync, D: Digests + Sync, O: Sink>(
+    rt: &R,
+    telling: &Telling<D>,
+    operations: &[&Operation],
+    pieces: &mut [Piece],
+    page: &mut Page,
+    out: &mut O,
+) -> Result<(), Failure>
+    requires room { min 16384 (length operations.now) ≤ length pieces.old * 1024 }
+    ensures whole { OnOk result (Passes (O.held out.old) page.old (lines_seen D.functions telling.now operations.now) (O.held out.new) page.new) }
+    ensures front { OnErr result (GrowsByFront (O.held out.old) (O.held out.new) (page.old ++ lines_seen D.functions telling.now operations.now)) }
+    ensures failure { FailsByWriting result }
+    ensures write_fault { result ≡ Err Failure.WriteFault → Rose (O.faults out.old) (O.faults out.new) }
+    ensures never_falls { O.faults out.old ≤ O.faults out.new }
+{
+    for number in 0..operations.len() / GROUP + 1 {
+        write_group(
+            rt,
+            telling,
+            part(operations, GROUP, number),
+            pieces,
+            page,
+            out,
+        )?;
     }
     Ok(())
 }
 
-// Writes the lines of an epoch with receipts, and the certificate of the epochs from the first up to it.
-fn write_tagged<D: Digests, O: Sink>(
-    digests: &D,
-    first: u32,
-    epoch: u32,
-    operations: &[Operation],
+// Writes the lines of the operations of a group, a piece after the other.
+fn write_group<R: Threads + Sync, D: Digests + Sync, O: Sink>(
+    rt: &R,
+    telling: &Telling<D>,
+    group: &[&Operation],
+    pieces: &mut [Piece],
     page: &mut Page,
     out: &mut O,
-) -> Result<(), Failed>
-    ensures whole { OnOk result (Passes (O.held out.old) page.old (tagged_text (D.functions digests.now) first epoch operations.now) (O.held out.new) page.new) }
-    ensures front { OnErr result (GrowsByFront (O.held out.old) (O.held out.new)
-        (page.old ++ tagged_text (D.functions digests.now) first epoch operations.now)) }
-    ensures counts { Counts (O.faults out.old) (O.faults out.new) result }
+) -> Result<(), Failure>
+    requires room { length group.now ≤ length pieces.old * 1024 }
+    ensures whole { OnOk result (Passes (O.held out.old) page.old (lines_seen D.functions telling.now group.now) (O.held out.new) page.new) }
+    ensures front { OnErr result (GrowsByFront (O.held out.old) (O.held out.new) (page.old ++ lines_seen D.functions telling.now group.now)) }
+    ensures len { length pieces.new ≡ length pieces.old }
+    ensures failure { FailsByWriting result }
+    ensures write_fault { result ≡ Err Failure.WriteFault → Rose (O.faults out.old) (O.faults out.new) }
+    ensures never_falls { O.faults out.old ≤ O.faults out.new }
 {
-    let head = epoch_line(epoch, operations.len() as u64);
-    page.write(head.as_slice(), out)?;
-    write_with_receipts(digests, operations, page, out)?;
-    let certificate = certificate_line(digests, first, epoch);
-    page.write(certificate.as_slice(), out)?;
-    Ok(())
-}
-
-// Writes the lines of operations, each with its receipt.
-fn write_with_receipts<D: Digests, O: Sink>(
-    digests: &D,
-    operations: &[Operation],
-    page: &mut Page,
-    out: &mut O,
-) -> Result<(), Failed>
-    ensures whole { OnOk result (Passes (O.held out.old) page.old (flat_map (receipted_line (D.functions digests.now)) operations.now)
-        (O.held out.new) page.new) }
-    ensures front { OnErr result (GrowsByFront (O.held out.old) (O.held out.new)
-        (page.old ++ flat_map (receipted_line (D.functions digests.now)) operations.now)) }
-    ensures counts { Counts (O.faults out.old) (O.faults out.new) result }
-{
-    for op in operations {
-        write_with_receipt(digests, op, page, out)?;
+    fill_pieces(rt, telling, group, pieces);
+    for piece in pieces.iter() {
+        if !piece.is_whole {
+            return Err(Failure::Memory);
+        }
+        write_line(piece.text.as_slice(), page, out)?;
     }
-    Ok(())
-}
-
-// Writes the line of an operation, and then that of its receipt.
-fn write_with_receipt<D: Digests, O: Sink>(
-    digests: &D,
-    op: &Operation,
-    page: &mut Page,
-    out: &mut O,
-) -> Result<(), Failed>
-    ensures whole { OnOk result (Passes (O.held out.old) page.old (receipted_line (D.functions digests.now) op.now) (O.held out.new) page.new) }
-    ensures front { OnErr result (GrowsByFront (O.held out.old) (O.held out.new) (page.old ++ receipted_line (D.functions digests.now) op.now)) }
-    ensures counts { Counts (O.faults out.old) (O.faults out.new) result }
-{
-    let line = operation_line(op);
-    page.write(line.as_slice(), out)?;
-    let receipt = receipt_line(digests, op);
-    page.write(receipt.as_slice(), out)?;
     Ok(())
 }

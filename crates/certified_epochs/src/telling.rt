@@ -13,6 +13,8 @@ pub enum Telling<'a, D> {
     Plain,
     /// Each operation with its receipt, and each epoch with the certificate of the epochs from the first up to it.
     Receipts { digests: &'a D, first: u32 },
+    /// Not at all.
+    Nothing,
 }
 
 impl<'a, D: Digests> Telling<'a, D> {

@@ -1,5 +1,5 @@
 -- How a check ends behind a batch.
-use Rattle.std.proofs.Common.{◌≡◌, Bool, ◌⊎◌, ℕ, ◌+◌, ◌-◌, ◌<◌, ◌≤◌, min, List, [], length, take, Option, None, Some, IfSome, Result, Ok, Err, inl, inr, refl, sym, ap, subst, length-drop, arith}
+use Rattle.std.proofs.Common.{◌≡◌, ◌⊎◌, ℕ, ◌+◌, ◌-◌, ◌<◌, ◌≤◌, min, List, [], length, take, Option, None, Some, IfSome, Result, Ok, Err, inl, inr, refl, sym, ap, subst, length-drop, arith}
 use Rattle.fv_outside.specs.Consumed.{StopsAtEnd, EndsBehind, TookAtMost, TookJust, TookToEnd, most_behind}
 use Rattle.fv_outside.specs.Failures.{FailsByWriting}
 use Rattle.fv_outside.specs.Faults.{Rose}
@@ -21,11 +21,10 @@ use Rattle.report_text.specs.Ending.{status_of, failure_status}
 use Rattle.report_text.specs.Answer.{IsEnd, OfTaken, Writing, AnswersTo}
 use Rattle.bundle_report.specs.Logs.{joined_from}
 use Rattle.bundle_report.specs.Logged.{Logged, logged_of}
-use Rattle.bundle_report.specs.Report.{told_by}
-use Rattle.bundle_report.specs.Answer.{answer_by, check_answer}
 use Rattle.base_words.specs.declared.memory.Memory.{Memory}
 use Rattle.check_core.specs.declared.batch.Filled.{Filled}
 use Rattle.check_core.specs.declared.batch.Filled.TheVariants.{Whole, End, Stopped}
+use Rattle.check_core.specs.Asked.{Asked, asked_by, asked_answer}
 use Rattle.check_core.specs.Intake.{behind_at}
 use Rattle.check_core.specs.Stream.{HasCome, lines_due}
 use Rattle.report_text.proofs.AnsweringLaws.{answers-end, answers-read_fault, answers-limit, answers-memory, answers-write_fault}
@@ -119,40 +118,40 @@ module _ (limit : ℕ) (left left_now left_then : Option (List ℕ)) (faults fau
 
 -- ---- where it stops
 
-module _ (receipts : Bool) (functions : DigestFunctions) (header : Header) (limit : ℕ) (left left_then : Option (List ℕ)) (faults faults_then : ℕ) (all : List (List ℕ))
+module _ (asked : Asked) (functions : DigestFunctions) (header : Header) (limit : ℕ) (left left_then : Option (List ℕ)) (faults faults_then : ℕ) (all : List (List ℕ))
     (new : Reading) (known : new.progress.header ≡ Some header) (means : ReadsAs new.taken left logged_of (behind_at all new)) (writing : Writing) where
   abbrev Answers : Status → Type 0
   Answers result =
-      AnswersTo (check_answer receipts functions) reading_end limit result
+      AnswersTo (asked_answer asked functions) reading_end limit result
       (record { left = left; left_after = left_then; faults = faults; faults_after = faults_then }) writing
 
   -- where memory was wanting, or the sink failed
   pub stop_answers : {A : Type 0} (result : Result A Failure) (stop : Failure) → result ≡ Err stop → FailsByWriting result → Took limit left left_then new → IsHeader header → length all ≡ header.verifiers
-      → GrowsByFront writing.held writing.held_after (lines_due (told_by receipts functions header) functions header all)
+      → GrowsByFront writing.held writing.held_after (lines_due (asked.tell header) functions header all)
       → (stop ≡ failures.WriteFault → Rose writing.faults writing.faults_after)
       → Answers (failure_status limit stop)
   stop_answers result failures.Memory is fails having_read good whole front rose =
-      answers-memory (check_answer receipts functions) reading_end limit _ writing
-      (of_taken (λ bytes. GrowsByFront writing.held writing.held_after (check_answer receipts functions bytes).due) limit having_read.count new.taken left left_then having_read.having_read having_read.read
-      (reads_taken (λ (logged : Logged). GrowsByFront writing.held writing.held_after (answer_by receipts functions logged).due) new.taken left logged_of (behind_at all new) means
-      (due_front receipts functions header all new known writing.held writing.held_after good whole front [])))
+      answers-memory (asked_answer asked functions) reading_end limit _ writing
+      (of_taken (λ bytes. GrowsByFront writing.held writing.held_after (asked_answer asked functions bytes).due) limit having_read.count new.taken left left_then having_read.having_read having_read.read
+      (reads_taken (λ (logged : Logged). GrowsByFront writing.held writing.held_after (asked_by asked functions logged).due) new.taken left logged_of (behind_at all new) means
+      (due_front asked functions header all new known writing.held writing.held_after good whole front [])))
       (TookAtMost-from_read having_read.count (limit + 1) left left_then having_read.having_read having_read.most) having_read.stops
   stop_answers result failures.ReadFault is fails having_read good whole front rose = absurd (fails.source is)
   stop_answers result failures.InputLimit is fails having_read good whole front rose = absurd (fails.limit is)
   stop_answers result failures.VaultFault is fails having_read good whole front rose = absurd (fails.vault is)
   stop_answers result failures.WriteFault is fails having_read good whole front rose =
-      answers-write_fault (check_answer receipts functions) reading_end limit _ writing
-      (reads_all (λ (logged : Logged). GrowsByFront writing.held writing.held_after (answer_by receipts functions logged).text) new.taken left logged_of (behind_at all new) means
-      (λ more. text_front receipts functions header all new known writing.held writing.held_after good whole front more))
+      answers-write_fault (asked_answer asked functions) reading_end limit _ writing
+      (reads_all (λ (logged : Logged). GrowsByFront writing.held writing.held_after (asked_by asked functions logged).text) new.taken left logged_of (behind_at all new) means
+      (λ more. text_front asked functions header all new known writing.held writing.held_after good whole front more))
       (TookAtMost-from_read having_read.count (limit + 1) left left_then having_read.having_read having_read.most) having_read.stops (rose refl)
 
   -- what was due was written, by the bytes that were taken
   pub due_taken : (ahead new []).frames ≡ [] → joined_from 0 all [] ≡ all
-      → Grows writing.held writing.held_after (lines_due (told_by receipts functions header) functions header all)
-      → IfSome left (λ bytes. Grows writing.held writing.held_after (check_answer receipts functions (take new.taken bytes)).due)
+      → Grows writing.held writing.held_after (lines_due (asked.tell header) functions header all)
+      → IfSome left (λ bytes. Grows writing.held writing.held_after (asked_answer asked functions (take new.taken bytes)).due)
   due_taken none same written =
-      reads_taken (λ (logged : Logged). Grows writing.held writing.held_after (answer_by receipts functions logged).due) new.taken left logged_of (behind_at all new) means
-      (subst (Grows writing.held writing.held_after) (sym (due_spent receipts functions header all new known none same)) written)
+      reads_taken (λ (logged : Logged). Grows writing.held writing.held_after (asked_by asked functions logged).due) new.taken left logged_of (behind_at all new) means
+      (subst (Grows writing.held writing.held_after) (sym (due_spent asked functions header all new known none same)) written)
 
   -- ---- at the end
 
@@ -163,15 +162,15 @@ module _ (receipts : Bool) (functions : DigestFunctions) (header : Header) (limi
   -- with an answer
   pub end_answers : (bad : Option ℕ) (end : BundleEnd) → HasRead new.taken left left_then → new.taken ≤ limit
       → IfSome left_then (λ rest. ended bad ≡ behind_at all new rest) → TookToEnd reading_end left left_then → StopsAtEnd reading_end left left_then
-      → status_of end ≡ (answer_by receipts functions (ended bad)).status
-      → Grows writing.held writing.held_after (answer_by receipts functions (ended bad)).text
+      → status_of end ≡ (asked_by asked functions (ended bad)).status
+      → Grows writing.held writing.held_after (asked_by asked functions (ended bad)).text
       → Answers (status_of end)
   end_answers bad end having_read within is reached stops status text =
-      answers-end (check_answer receipts functions) reading_end limit _ writing (status_of end) (is_end end)
-      (ReadsAs-back (λ (logged : Logged). status_of end ≡ (answer_by receipts functions logged).status) new.taken left left_then logged_of (behind_at all new) having_read means
-      (same_left (λ (logged : Logged). status_of end ≡ (answer_by receipts functions logged).status) (ended bad) left_then (behind_at all new) is status))
-      (ReadsAs-back (λ (logged : Logged). Grows writing.held writing.held_after (answer_by receipts functions logged).text) new.taken left left_then logged_of (behind_at all new) having_read means
-      (same_left (λ (logged : Logged). Grows writing.held writing.held_after (answer_by receipts functions logged).text) (ended bad) left_then (behind_at all new) is text))
+      answers-end (asked_answer asked functions) reading_end limit _ writing (status_of end) (is_end end)
+      (ReadsAs-back (λ (logged : Logged). status_of end ≡ (asked_by asked functions logged).status) new.taken left left_then logged_of (behind_at all new) having_read means
+      (same_left (λ (logged : Logged). status_of end ≡ (asked_by asked functions logged).status) (ended bad) left_then (behind_at all new) is status))
+      (ReadsAs-back (λ (logged : Logged). Grows writing.held writing.held_after (asked_by asked functions logged).text) new.taken left left_then logged_of (behind_at all new) having_read means
+      (same_left (λ (logged : Logged). Grows writing.held writing.held_after (asked_by asked functions logged).text) (ended bad) left_then (behind_at all new) is text))
       (TookAtMost-from_read new.taken limit left left_then having_read within) reached stops
     where
       is_end : (end : BundleEnd) → IsEnd (status_of end)
@@ -183,29 +182,29 @@ module _ (receipts : Bool) (functions : DigestFunctions) (header : Header) (limi
   -- where the sink failed at the last line
   pub last_answers : (bad : Option ℕ) → HasRead new.taken left left_then → new.taken ≤ limit
       → IfSome left_then (λ rest. ended bad ≡ behind_at all new rest) → StopsAtEnd reading_end left left_then
-      → GrowsByFront writing.held writing.held_after (answer_by receipts functions (ended bad)).text
+      → GrowsByFront writing.held writing.held_after (asked_by asked functions (ended bad)).text
       → Rose writing.faults writing.faults_after
       → Answers statuses.WriteFault
   last_answers bad having_read within is stops front rose =
-      answers-write_fault (check_answer receipts functions) reading_end limit _ writing
-      (ReadsAs-back (λ (logged : Logged). GrowsByFront writing.held writing.held_after (answer_by receipts functions logged).text) new.taken left left_then logged_of (behind_at all new) having_read means
-      (same_left (λ (logged : Logged). GrowsByFront writing.held writing.held_after (answer_by receipts functions logged).text) (ended bad) left_then (behind_at all new) is front))
+      answers-write_fault (asked_answer asked functions) reading_end limit _ writing
+      (ReadsAs-back (λ (logged : Logged). GrowsByFront writing.held writing.held_after (asked_by asked functions logged).text) new.taken left left_then logged_of (behind_at all new) having_read means
+      (same_left (λ (logged : Logged). GrowsByFront writing.held writing.held_after (asked_by asked functions logged).text) (ended bad) left_then (behind_at all new) is front))
       (TookAtMost-from_read new.taken (limit + 1) left left_then having_read (omega (arith, within))) stops rose
 
 -- ---- where reading stops
 
 -- where the source failed, or gave too much
-module _ (receipts : Bool) (functions : DigestFunctions) (limit : ℕ) (left left_then : Option (List ℕ)) (faults faults_then : ℕ) (new : Reading) (writing : Writing)
+module _ (asked : Asked) (functions : DigestFunctions) (limit : ℕ) (left left_then : Option (List ℕ)) (faults faults_then : ℕ) (new : Reading) (writing : Writing)
     (stop : Failure) (took : Took limit left left_then new)
-    (due : IfSome left (λ bytes. Grows writing.held writing.held_after (check_answer receipts functions (take new.taken bytes)).due)) where
+    (due : IfSome left (λ bytes. Grows writing.held writing.held_after (asked_answer asked functions (take new.taken bytes)).due)) where
   abbrev CutAnswers : Failure → Type 0
   CutAnswers failure =
-      AnswersTo (check_answer receipts functions) reading_end limit (failure_status limit failure)
+      AnswersTo (asked_answer asked functions) reading_end limit (failure_status limit failure)
       (record { left = left; left_after = left_then; faults = faults; faults_after = faults_then }) writing
 
-  due_taken_of : OfTaken limit (λ bytes. Grows writing.held writing.held_after (check_answer receipts functions bytes).due) left left_then
+  due_taken_of : OfTaken limit (λ bytes. Grows writing.held writing.held_after (asked_answer asked functions bytes).due) left left_then
   due_taken_of =
-      of_taken (λ bytes. Grows writing.held writing.held_after (check_answer receipts functions bytes).due) limit took.count new.taken left left_then took.having_read took.read due
+      of_taken (λ bytes. Grows writing.held writing.held_after (asked_answer asked functions bytes).due) limit took.count new.taken left left_then took.having_read took.read due
 
   pub cut_answers : (stop ≡ failures.ReadFault → Rose faults faults_then)
       → (stop ≡ failures.ReadFault → TookAtMost limit left left_then)
@@ -215,22 +214,22 @@ module _ (receipts : Bool) (functions : DigestFunctions) (limit : ℕ) (left lef
       → CutAnswers stop
   cut_answers rose within just behind (inl is) =
       subst CutAnswers (sym is)
-      (answers-read_fault (check_answer receipts functions) reading_end limit _ writing due_taken_of (within is) took.stops (rose is))
+      (answers-read_fault (asked_answer asked functions) reading_end limit _ writing due_taken_of (within is) took.stops (rose is))
   cut_answers rose within just behind (inr is) =
       subst CutAnswers (sym is)
-      (answers-limit (check_answer receipts functions) reading_end limit _ writing due_taken_of (just is) took.stops (behind is))
+      (answers-limit (asked_answer asked functions) reading_end limit _ writing due_taken_of (just is) took.stops (behind is))
 
 -- ---- nothing more was read, or not to the end of a batch
 
 -- memory was wanting where so many bytes were taken, and what was written is a front of what is due, whatever follows
-pub memory_answers : (receipts : Bool) (functions : DigestFunctions) (limit count taken : ℕ) (left left_then : Option (List ℕ)) (faults faults_then : ℕ) (logs : List (List ℕ)) (reading : Reading)
+pub memory_answers : (asked : Asked) (functions : DigestFunctions) (limit count taken : ℕ) (left left_then : Option (List ℕ)) (faults faults_then : ℕ) (logs : List (List ℕ)) (reading : Reading)
     (writing : Writing) → ReadsAs count left logged_of (behind_at logs reading) → count ≤ taken → HasRead taken left left_then → taken ≤ limit
     → StopsAtEnd reading_end left left_then
-    → ((more : List ℕ) → GrowsByFront writing.held writing.held_after (answer_by receipts functions (behind_at logs reading more)).due)
-    → AnswersTo (check_answer receipts functions) reading_end limit statuses.Memory
+    → ((more : List ℕ) → GrowsByFront writing.held writing.held_after (asked_by asked functions (behind_at logs reading more)).due)
+    → AnswersTo (asked_answer asked functions) reading_end limit statuses.Memory
     (record { left = left; left_after = left_then; faults = faults; faults_after = faults_then }) writing
-memory_answers receipts functions limit count taken left left_then faults faults_then logs reading writing means below having_read within stops front =
-    answers-memory (check_answer receipts functions) reading_end limit _ writing
-    (of_taken (λ bytes. GrowsByFront writing.held writing.held_after (check_answer receipts functions bytes).due) limit taken taken left left_then having_read (omega (arith, within))
-    (reads_on (λ (logged : Logged). GrowsByFront writing.held writing.held_after (answer_by receipts functions logged).due) count taken left logged_of (behind_at logs reading) means below front))
+memory_answers asked functions limit count taken left left_then faults faults_then logs reading writing means below having_read within stops front =
+    answers-memory (asked_answer asked functions) reading_end limit _ writing
+    (of_taken (λ bytes. GrowsByFront writing.held writing.held_after (asked_answer asked functions bytes).due) limit taken taken left left_then having_read (omega (arith, within))
+    (reads_on (λ (logged : Logged). GrowsByFront writing.held writing.held_after (asked_by asked functions logged).due) count taken left logged_of (behind_at logs reading) means below front))
     (TookAtMost-from_read taken (limit + 1) left left_then having_read (omega (arith, within))) stops

@@ -1,5 +1,5 @@
 -- How a check begins: what has come once a header was read, and how it ends where none is good.
-use Rattle.std.proofs.Common.{◌≡◌, Bool, ◌⊎◌, ℕ, ◌+◌, ◌-◌, ◌≤◌, List, [], take, Option, Some, None, IfSome, Result, Ok, Err, OnOk, OnErr, inl, inr, refl, sym, ◌∙◌, ap, subst, arith}
+use Rattle.std.proofs.Common.{◌≡◌, ◌⊎◌, ℕ, ◌+◌, ◌-◌, ◌≤◌, List, [], take, Option, Some, None, IfSome, Result, Ok, Err, OnOk, OnErr, inl, inr, refl, sym, ◌∙◌, ap, subst, arith}
 use Rattle.std.specs.Prelude.{IsSomeAnd}
 use Rattle.fv_outside.specs.Consumed.{StopsAtEnd, TookToEnd}
 use Rattle.fv_outside.specs.Faults.{Rose}
@@ -20,8 +20,9 @@ use Rattle.report_text.specs.declared.ending.BundleEnd.TheVariants.{BadBundle}
 use Rattle.report_text.specs.Answer.{Answer, Writing, AnswersTo}
 use Rattle.bundle_report.specs.Logs.{log_count, empty_logs, logs_then}
 use Rattle.bundle_report.specs.Logged.{Logged, behind, logged_of}
-use Rattle.bundle_report.specs.Answer.{no_answer, answer_at, answer_by, check_answer}
+use Rattle.bundle_report.specs.Answer.{no_answer}
 use Rattle.fv_outside.specs.declared.failure.Failure.TheVariants.{WriteFault}
+use Rattle.check_core.specs.Asked.{Asked, asked_at, asked_by, asked_answer}
 use Rattle.check_core.specs.Intake.{behind_at}
 use Rattle.check_core.specs.Outcomes.{check_status}
 use Rattle.check_core.specs.Stream.{HasCome}
@@ -72,25 +73,25 @@ module _ (limit : ℕ) (left : Option (List ℕ)) (faults : ℕ) (old new : Read
       (λ more. ap (behind old.progress.header []) (same (ahead new more)) ∙ ap (λ (h : Option Header). behind h [] (ahead new more)) (sym known))) sum
 
 -- a bundle with no good header
-none_answer : (receipts : Bool) (functions : DigestFunctions) (logged : Logged) → logged.header ≡ None → answer_by receipts functions logged ≡ no_answer
-none_answer receipts functions logged is = ap (λ (h : Option Header). answer_at receipts functions h logged.logs logged.bad) is
+none_answer : (asked : Asked) (functions : DigestFunctions) (logged : Logged) → logged.header ≡ None → asked_by asked functions logged ≡ no_answer
+none_answer asked functions logged is = ap (λ (h : Option Header). asked_at asked functions h logged.logs logged.bad) is
 
-module _ (receipts : Bool) (functions : DigestFunctions) (limit : ℕ) (left left_then : Option (List ℕ)) (faults faults_then : ℕ) (new : Reading)
+module _ (asked : Asked) (functions : DigestFunctions) (limit : ℕ) (left left_then : Option (List ℕ)) (faults faults_then : ℕ) (new : Reading)
     (means : ReadsAs new.taken left logged_of (behind_at [] new)) (none : (ahead new []).header ≡ None) (writing : Writing) where
   -- nothing is due by what was taken
   pub due_none : writing.held_after ≡ writing.held
-      → IfSome left (λ bytes. Grows writing.held writing.held_after (check_answer receipts functions (take new.taken bytes)).due)
+      → IfSome left (λ bytes. Grows writing.held writing.held_after (asked_answer asked functions (take new.taken bytes)).due)
   due_none same =
-      reads_taken (λ (logged : Logged). Grows writing.held writing.held_after (answer_by receipts functions logged).due) new.taken left logged_of (behind_at [] new) means
-      (subst (λ (answer : Answer). Grows writing.held writing.held_after answer.due) (sym (none_answer receipts functions (behind_at [] new []) none))
+      reads_taken (λ (logged : Logged). Grows writing.held writing.held_after (asked_by asked functions logged).due) new.taken left logged_of (behind_at [] new) means
+      (subst (λ (answer : Answer). Grows writing.held writing.held_after answer.due) (sym (none_answer asked functions (behind_at [] new []) none))
       (subst (λ (held : Option (List ℕ)). Grows writing.held held []) (sym same) (Grows-nil writing.held)))
 
   -- what holds of the answer holds at the end
   at_end : (P : Answer → Type 0) (x : Option (List ℕ)) → IfSome x (λ rest. ahead new rest ≡ ahead new []) → P no_answer
-      → IfSome x (λ rest. P (answer_by receipts functions (behind_at [] new rest)))
+      → IfSome x (λ rest. P (asked_by asked functions (behind_at [] new rest)))
   at_end P None same holds = tt
   at_end P (Some rest) same holds =
-      subst P (sym (none_answer receipts functions (behind_at [] new rest) (ap (λ b. b.header) same ∙ none))) holds
+      subst P (sym (none_answer asked functions (behind_at [] new rest) (ap (λ b. b.header) same ∙ none))) holds
 
   -- the report is its last line
   pub bad_answers : (result : Result BundleEnd Failure) → (result ≡ Ok (BadBundle 0)) ⊎ (result ≡ Err WriteFault)
@@ -100,23 +101,23 @@ module _ (receipts : Bool) (functions : DigestFunctions) (limit : ℕ) (left lef
       → HasRead new.taken left left_then → new.taken ≤ limit
       → IfSome left_then (λ rest. ahead new rest ≡ ahead new [])
       → TookToEnd reading_end left left_then → StopsAtEnd reading_end left left_then
-      → AnswersTo (check_answer receipts functions) reading_end limit (check_status limit result)
+      → AnswersTo (asked_answer asked functions) reading_end limit (check_status limit result)
       (record { left = left; left_after = left_then; faults = faults; faults_after = faults_then }) writing
   bad_answers result (inl is) whole front rose having_read within ends reached stops =
-      subst (λ (r : Result BundleEnd Failure). AnswersTo (check_answer receipts functions) reading_end limit (check_status limit r)
+      subst (λ (r : Result BundleEnd Failure). AnswersTo (asked_answer asked functions) reading_end limit (check_status limit r)
       (record { left = left; left_after = left_then; faults = faults; faults_after = faults_then }) writing) (sym is)
-      (answers-end (check_answer receipts functions) reading_end limit _ writing (statuses.BadBundle 0) tt
-      (ReadsAs-back (λ (logged : Logged). statuses.BadBundle 0 ≡ (answer_by receipts functions logged).status) new.taken left left_then logged_of (behind_at [] new) having_read means
+      (answers-end (asked_answer asked functions) reading_end limit _ writing (statuses.BadBundle 0) tt
+      (ReadsAs-back (λ (logged : Logged). statuses.BadBundle 0 ≡ (asked_by asked functions logged).status) new.taken left left_then logged_of (behind_at [] new) having_read means
       (at_end (λ (answer : Answer). statuses.BadBundle 0 ≡ answer.status) left_then ends refl))
-      (ReadsAs-back (λ (logged : Logged). Grows writing.held writing.held_after (answer_by receipts functions logged).text) new.taken left left_then logged_of (behind_at [] new) having_read means
+      (ReadsAs-back (λ (logged : Logged). Grows writing.held writing.held_after (asked_by asked functions logged).text) new.taken left left_then logged_of (behind_at [] new) having_read means
       (at_end (λ (answer : Answer). Grows writing.held writing.held_after answer.text) left_then ends
       (subst (λ (r : Result BundleEnd Failure). OnOk r (Grows writing.held writing.held_after no_answer.text)) is whole)))
       (TookAtMost-from_read new.taken limit left left_then having_read within) reached stops)
   bad_answers result (inr is) whole front rose having_read within ends reached stops =
-      subst (λ (r : Result BundleEnd Failure). AnswersTo (check_answer receipts functions) reading_end limit (check_status limit r)
+      subst (λ (r : Result BundleEnd Failure). AnswersTo (asked_answer asked functions) reading_end limit (check_status limit r)
       (record { left = left; left_after = left_then; faults = faults; faults_after = faults_then }) writing) (sym is)
-      (answers-write_fault (check_answer receipts functions) reading_end limit _ writing
-      (ReadsAs-back (λ (logged : Logged). GrowsByFront writing.held writing.held_after (answer_by receipts functions logged).text) new.taken left left_then logged_of (behind_at [] new) having_read means
+      (answers-write_fault (asked_answer asked functions) reading_end limit _ writing
+      (ReadsAs-back (λ (logged : Logged). GrowsByFront writing.held writing.held_after (asked_by asked functions logged).text) new.taken left left_then logged_of (behind_at [] new) having_read means
       (at_end (λ (answer : Answer). GrowsByFront writing.held writing.held_after answer.text) left_then ends
       (subst (λ (r : Result BundleEnd Failure). OnErr r (GrowsByFront writing.held writing.held_after no_answer.text)) is front)))
       (TookAtMost-from_read new.taken (limit + 1) left left_then having_read (omega (arith, within))) stops

@@ -1,6 +1,7 @@
 -- A check in the middle of a bundle, batch after batch.
 use Rattle.std.proofs.Common.{◌≡◌, ◌⊎◌, ℕ, zero, suc, ◌+◌, ◌-◌, ◌<◌, ◌≤◌, Bool, List, [], ◌∷◌, ◌++◌, length, map, take, drop, Option, Some, None, IfSome, inl, inr, true, false, true≢false, refl, sym, ◌∙◌, ap, subst, append-nil, take-append-drop, arith}
-use Rattle.std.specs.List.{AllByRecursion}
+use Rattle.std.specs.List.{AllByRecursion, fold}
+use Rattle.std.proofs.lemmas.List.Sums.{fold-append}
 use Rattle.std.proofs.Math.Seq.{take-add}
 use Rattle.fv_outside.specs.Consumed.{most_behind}
 use Rattle.fv_outside.specs.Written.{Grows, GrowsByFront}
@@ -19,8 +20,7 @@ use Rattle.verifier_run.specs.Progress.{fed, weight}
 use Rattle.bundle_report.specs.declared.judged.Judged.{Judged}
 use Rattle.bundle_report.specs.Logs.{joined_from, logs_so_far}
 use Rattle.bundle_report.specs.Logged.{behind, logged_of}
-use Rattle.bundle_report.specs.Report.{EpochText, told_by}
-use Rattle.bundle_report.specs.Answer.{answer_at, answer_by}
+use Rattle.bundle_report.specs.Report.{EpochText, EpochTold}
 use Rattle.report_text.specs.Answer.{Answer}
 use Rattle.bundle_report.specs.RunReport.{courses_of}
 use Rattle.bundle_report.specs.Judged.{judged}
@@ -33,6 +33,7 @@ use Rattle.certified_epochs.specs.Turn.{AreFed}
 use Rattle.certified_epochs.proofs.RunsLaws.{all_runs, all_feds, headers_from, weights_from}
 use Rattle.check_core.specs.Batch.{bytes_of, GoesOnBy}
 use Rattle.check_core.specs.Feeding.{AllRead}
+use Rattle.check_core.specs.Asked.{Asked, asked_at, asked_by}
 use Rattle.check_core.specs.Intake.{behind_at}
 use Rattle.check_core.specs.Stream.{HasCome, AreChecked, lines_counted, lines_due}
 use Rattle.check_core.proofs.FeedingLemmas.{taken_by_all}
@@ -119,31 +120,31 @@ module _ (left left_now : Option (List ℕ)) (faults faults_now : ℕ) (logs : L
 
 -- ---- what is due
 
-module _ (receipts : Bool) (functions : DigestFunctions) (header : Header) (logs : List (List ℕ)) (reading : Reading)
+module _ (asked : Asked) (functions : DigestFunctions) (header : Header) (logs : List (List ℕ)) (reading : Reading)
     (known : reading.progress.header ≡ Some header) where
   -- what is written of an epoch
   abbrev tell : EpochText
-  tell = told_by receipts functions header
+  tell = asked.tell header
 
   -- the logs with what is ahead
   abbrev all : List ℕ → List (List ℕ)
   all more = joined_from 0 logs (ahead reading more).frames
 
   abbrev answered : List ℕ → Answer
-  answered more = answer_at receipts functions (Some header) (all more) (ahead reading more).bad
+  answered more = asked_at asked functions (Some header) (all more) (ahead reading more).bad
 
-  answer_ahead : (more : List ℕ) → answer_by receipts functions (behind_at logs reading more) ≡ answered more
+  answer_ahead : (more : List ℕ) → asked_by asked functions (behind_at logs reading more) ≡ answered more
   answer_ahead more =
       let rest = ahead reading more in
-      ap (λ (h : Option Header). answer_at receipts functions rest.header (joined_from 0 (logs_so_far h logs rest.header) rest.frames) rest.bad) known
-      ∙ ap (λ (h : Option Header). answer_at receipts functions h (all more) rest.bad) (ahead_header reading header more known)
+      ap (λ (h : Option Header). asked_at asked functions rest.header (joined_from 0 (logs_so_far h logs rest.header) rest.frames) rest.bad) known
+      ∙ ap (λ (h : Option Header). asked_at asked functions h (all more) rest.bad) (ahead_header reading header more known)
 
-  pub due_ahead : (more : List ℕ) → (answer_by receipts functions (behind_at logs reading more)).due ≡ lines_due tell functions header (all more)
+  pub due_ahead : (more : List ℕ) → (asked_by asked functions (behind_at logs reading more)).due ≡ lines_due tell functions header (all more)
   due_ahead more = ap (λ (a : Answer). a.due) (answer_ahead more)
 
   -- where no frame is ahead
   pub due_spent : (ahead reading []).frames ≡ [] → joined_from 0 logs [] ≡ logs
-      → (answer_by receipts functions (behind_at logs reading [])).due ≡ lines_due tell functions header logs
+      → (asked_by asked functions (behind_at logs reading [])).due ≡ lines_due tell functions header logs
   due_spent none same =
       due_ahead [] ∙ ap (λ (frames : List Frame). lines_due tell functions header (joined_from 0 logs frames)) none
       ∙ ap (lines_due tell functions header) same
@@ -151,7 +152,7 @@ module _ (receipts : Bool) (functions : DigestFunctions) (header : Header) (logs
   -- What was counted is a front of what is due, whatever follows.
   pub counted_front : (so_far : Judged) (runs : List FedRun) (held held_now : Option (List ℕ)) → AreChecked functions header logs so_far runs
       → Grows held held_now (lines_counted tell functions header logs so_far)
-      → (more : List ℕ) → GrowsByFront held held_now (answer_by receipts functions (behind_at logs reading more)).due
+      → (more : List ℕ) → GrowsByFront held held_now (asked_by asked functions (behind_at logs reading more)).due
   counted_front so_far runs held held_now checked written more =
       let front = lines-front tell (scheme_of functions header) header logs so_far (map (λ fed. fed.run) runs) (ahead reading more).frames checked in
       subst (GrowsByFront held held_now) (front.1 ∙ sym (due_ahead more))
@@ -160,14 +161,14 @@ module _ (receipts : Bool) (functions : DigestFunctions) (header : Header) (logs
   -- So is a front of what is due by the logs so far, and of the whole text.
   pub due_front : (held held_now : Option (List ℕ)) → IsHeader header → length logs ≡ header.verifiers
       → GrowsByFront held held_now (lines_due tell functions header logs)
-      → (more : List ℕ) → GrowsByFront held held_now (answer_by receipts functions (behind_at logs reading more)).due
+      → (more : List ℕ) → GrowsByFront held held_now (asked_by asked functions (behind_at logs reading more)).due
   due_front held held_now good whole written more =
       let front = due-stays tell (scheme_of functions header) header logs (ahead reading more).frames good whole in
       subst (GrowsByFront held held_now) (front.1 ∙ sym (due_ahead more)) (GrowsByFront-more held held_now (lines_due tell functions header logs) front.0 written)
 
   pub text_front : (held held_now : Option (List ℕ)) → IsHeader header → length logs ≡ header.verifiers
       → GrowsByFront held held_now (lines_due tell functions header logs)
-      → (more : List ℕ) → GrowsByFront held held_now (answer_by receipts functions (behind_at logs reading more)).text
+      → (more : List ℕ) → GrowsByFront held held_now (asked_by asked functions (behind_at logs reading more)).text
   text_front held held_now good whole written more =
       let front = due-stays tell (scheme_of functions header) header logs (ahead reading more).frames good whole in
       subst (GrowsByFront held held_now) (sym (ap (λ (a : Answer). a.text) (answer_ahead more)))
@@ -175,6 +176,12 @@ module _ (receipts : Bool) (functions : DigestFunctions) (header : Header) (logs
       (subst (GrowsByFront held held_now) front.1 (GrowsByFront-more held held_now (lines_due tell functions header logs) front.0 written)))
 
 -- ---- what a batch brings
+
+-- a fold over more
+pub made_more : {S A : Type 0} (step : S → A → S) (start before now : S) (counted rest all : List A) → before ≡ fold step start counted
+    → now ≡ fold step before rest → counted ++ rest ≡ all → now ≡ fold step start all
+made_more {S} step start before now counted rest all so_far more is =
+    more ∙ ap (λ (s : S). fold step s rest) so_far ∙ sym (fold-append step start counted rest) ∙ ap (fold step start) is
 
 -- what holds of each run holds of it as a run that is fed, and the other way round
 pub runs_headers : (functions : DigestFunctions) (header : Header) (logs : List (List ℕ)) (so_far : Judged) (runs : List FedRun)
@@ -201,7 +208,7 @@ read_checked functions header logs frames so_far runs runs_fed checked read fine
     let headers = runs_headers functions header logs so_far runs checked in
     fed_checked functions header logs frames so_far runs runs_fed checked (taken_by_all functions frames 0 header runs runs_fed read headers fine).1
 
-module _ (tell : EpochText) (functions : DigestFunctions) (header : Header) (logs : List (List ℕ)) (frames : List Frame) (so_far : Judged) (runs : List FedRun)
+module _ {A : Type 0} (tell : EpochTold A) (functions : DigestFunctions) (header : Header) (logs : List (List ℕ)) (frames : List Frame) (so_far : Judged) (runs : List FedRun)
     (checked : AreChecked functions header logs so_far runs) where
   abbrev more_logs : List (List ℕ)
   more_logs = joined_from 0 logs frames
@@ -218,42 +225,58 @@ module _ (tell : EpochText) (functions : DigestFunctions) (header : Header) (log
       ≡ lines_from tell courses header.first count
   lines_to count within =
       let sum : so_far.count + (count - so_far.count) ≡ count = omega (arith, within) in
-      ap (λ (text : List ℕ). text ++ lines_from tell courses (header.first + so_far.count) (count - so_far.count))
+      ap (λ (text : List A). text ++ lines_from tell courses (header.first + so_far.count) (count - so_far.count))
       (sym (lines-taken tell own_scheme header logs so_far (map (λ fed. fed.run) runs) frames checked))
       ∙ sym (lines-behind tell courses header.first so_far.count (count - so_far.count))
       ∙ ap (lines_from tell courses header.first) sum
 
-  -- all that is due was written
-  pub due_more : (now : Judged) (runs_fed runs_now : List FedRun) (held before after : Option (List ℕ))
+  -- of all epochs that the logs certify now
+  pub told_more : (now : Judged) (runs_fed runs_now : List FedRun)
       → AreChecked functions header more_logs so_far runs_fed → AreChecked functions header more_logs now runs_now
       → now ≡ judged header.verifiers courses
-      → Grows held before (lines_counted tell functions header logs so_far)
-      → Grows before after (lines_from tell courses (header.first + so_far.count) (now.count - so_far.count))
-      → Grows held after (lines_due tell functions header more_logs)
-  due_more now runs_fed runs_now held before after checked_fed checked_now all written more =
+      → lines_counted tell functions header logs so_far ++ lines_from tell courses (header.first + so_far.count) (now.count - so_far.count)
+      ≡ lines_due tell functions header more_logs
+  told_more now runs_fed runs_now checked_fed checked_now all =
       let within = counted-within own_scheme header more_logs so_far (map (λ fed. fed.run) runs_fed) checked_fed in
-      subst (Grows held after)
-      (lines_to now.count (omega (arith, within, ap (λ (j : Judged). j.count) all))
-      ∙ lines-due tell own_scheme header more_logs now (map (λ fed. fed.run) runs_now) checked_now all)
+      lines_to now.count (omega (arith, within, ap (λ (j : Judged). j.count) all))
+      ∙ lines-due tell own_scheme header more_logs now (map (λ fed. fed.run) runs_now) checked_now all
+
+module _ (tell : EpochText) (functions : DigestFunctions) (header : Header) (logs : List (List ℕ)) (frames : List Frame) (so_far : Judged) (runs : List FedRun)
+    (checked : AreChecked functions header logs so_far runs) where
+  abbrev logs_now : List (List ℕ)
+  logs_now = joined_from 0 logs frames
+
+  abbrev now_courses : List (Course Operation)
+  now_courses = courses_of (scheme_of functions header) header logs_now
+
+  -- all that is due was written
+  pub due_more : (now : Judged) (runs_fed runs_now : List FedRun) (held before after : Option (List ℕ))
+      → AreChecked functions header logs_now so_far runs_fed → AreChecked functions header logs_now now runs_now
+      → now ≡ judged header.verifiers now_courses
+      → Grows held before (lines_counted tell functions header logs so_far)
+      → Grows before after (lines_from tell now_courses (header.first + so_far.count) (now.count - so_far.count))
+      → Grows held after (lines_due tell functions header logs_now)
+  due_more now runs_fed runs_now held before after checked_fed checked_now all written more =
+      subst (Grows held after) (told_more tell functions header logs frames so_far runs checked now runs_fed runs_now checked_fed checked_now all)
       (Grows-then held before after _ _ written more)
 
   -- a front of it was
-  pub front_more : (runs_fed : List FedRun) (held before after : Option (List ℕ)) → AreChecked functions header more_logs so_far runs_fed
+  pub front_more : (runs_fed : List FedRun) (held before after : Option (List ℕ)) → AreChecked functions header logs_now so_far runs_fed
       → Grows held before (lines_counted tell functions header logs so_far)
-      → GrowsByFront before after (lines_from tell courses (header.first + so_far.count) ((judged header.verifiers courses).count - so_far.count))
-      → GrowsByFront held after (lines_due tell functions header more_logs)
+      → GrowsByFront before after (lines_from tell now_courses (header.first + so_far.count) ((judged header.verifiers now_courses).count - so_far.count))
+      → GrowsByFront held after (lines_due tell functions header logs_now)
   front_more runs_fed held before after checked_fed written front =
-      let within = counted-within own_scheme header more_logs so_far (map (λ fed. fed.run) runs_fed) checked_fed in
+      let within = counted-within (scheme_of functions header) header logs_now so_far (map (λ fed. fed.run) runs_fed) checked_fed in
       subst (GrowsByFront held after)
-      (lines_to (judged header.verifiers courses).count within ∙ lines-certified tell own_scheme header more_logs checked_fed.header_good checked_fed.whole)
+      (lines_to tell functions header logs frames so_far runs checked (judged header.verifiers now_courses).count within ∙ lines-certified tell (scheme_of functions header) header logs_now checked_fed.header_good checked_fed.whole)
       (GrowsByFront-then held before after _ _ written front)
 
   -- or nothing more
   pub front_none : (held before after : Option (List ℕ)) → Grows held before (lines_counted tell functions header logs so_far) → after ≡ before
-      → GrowsByFront held after (lines_due tell functions header more_logs)
+      → GrowsByFront held after (lines_due tell functions header logs_now)
   front_none held before after written same =
-      let front = lines-front tell own_scheme header logs so_far (map (λ fed. fed.run) runs) frames checked in
-      subst (λ (now : Option (List ℕ)). GrowsByFront held now (lines_due tell functions header more_logs)) (sym same)
+      let front = lines-front tell (scheme_of functions header) header logs so_far (map (λ fed. fed.run) runs) frames checked in
+      subst (λ (now : Option (List ℕ)). GrowsByFront held now (lines_due tell functions header logs_now)) (sym same)
       (subst (GrowsByFront held before) front.1
       (GrowsByFront-more held before (lines_counted tell functions header logs so_far) front.0 (GrowsByFront-whole _ _ _ written)))
 

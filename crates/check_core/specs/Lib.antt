@@ -3,5 +3,7 @@ pub mod Batch
 pub mod Feeding
 pub mod Intake
 pub mod Outcomes
+pub mod Asked
+pub mod Told
 pub mod Stream
 pub use Rattle.bundle_report.specs

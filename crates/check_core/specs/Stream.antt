@@ -8,7 +8,7 @@ use Rattle.bundle_frames.specs.Extent.{reading_end}
 use Rattle.bundle_frames.specs.Reading.{Reading, end_ahead, HasRead, ReadsAs}
 use Rattle.bundle_report.specs.declared.judged.Judged.{Judged}
 use Rattle.bundle_report.specs.Logged.{logged_of}
-use Rattle.bundle_report.specs.Report.{EpochText}
+use Rattle.bundle_report.specs.Report.{EpochTold}
 use Rattle.bundle_report.specs.BundleReport.{certified_lines, histories_at}
 use Rattle.bundle_report.specs.RunReport.{courses_of}
 use Rattle.bundle_report.specs.SoFar.{HaveRead, lines_from}
@@ -29,10 +29,10 @@ pub record HasCome (left : Option (List ℕ)) (faults : ℕ) (logs : List (List 
 abbrev pub AreChecked : DigestFunctions → Header → List (List ℕ) → Judged → List FedRun → Type 0
 AreChecked functions header logs so_far runs = HaveRead (scheme_of functions header) header logs so_far (map (λ fed. fed.run) runs)
 
--- the lines of the epochs that are counted
-abbrev pub lines_counted : EpochText → DigestFunctions → Header → List (List ℕ) → Judged → List ℕ
+-- the lines of the epochs that are counted, or what else is told of them
+abbrev pub lines_counted : {A : Type 0} → EpochTold A → DigestFunctions → Header → List (List ℕ) → Judged → List A
 lines_counted tell functions header logs so_far = lines_from tell (courses_of (scheme_of functions header) header logs) header.first so_far.count
 
--- the lines of all epochs that logs certify
-abbrev pub lines_due : EpochText → DigestFunctions → Header → List (List ℕ) → List ℕ
+-- the lines of all epochs that logs certify, or what else is told of them
+abbrev pub lines_due : {A : Type 0} → EpochTold A → DigestFunctions → Header → List (List ℕ) → List A
 lines_due tell functions header logs = certified_lines tell (scheme_of functions header) header (histories_at (scheme_of functions header) header logs)

@@ -1,4 +1,4 @@
-//! A check of a bundle: what is certified, and how its report ends.
+//! A check of a bundle: what is certified, what is made of it, and how its report ends.
 ghost use Rattle.std.specs.Prelude.{◌≡◌, ◌≢◌, ◌+◌, ◌<◌, ◌≤◌, ◌^◌, ◌⊎◌, ℕ, List, Option, Some, IfSome, OnOk, OnErr, Ok, Err};
 ghost use Rattle.fv_outside.specs.Faults.{Rose};
 ghost use Rattle.fv_outside.specs.Written.{Grows, GrowsByFront};
@@ -10,17 +10,21 @@ ghost use Rattle.bundle_frames.specs.Progress.{position};
 ghost use Rattle.bundle_report.specs.Logs.{empty_logs};
 ghost use Rattle.bundle_report.specs.Headline.{IsSound};
 ghost use Rattle.bundle_report.specs.Answer.{check_answer, no_answer};
+ghost use Rattle.check_core.specs.Asked.{asked_answer};
 ghost use Rattle.check_core.specs.Outcomes.{IsCheckStatus, check_status};
 ghost use Rattle.check_core.specs.Stream.{HasCome};
+ghost use Rattle.check_core.specs.Told.{asked_for};
 
 use crate::batch::{Batch, Filled};
 use crate::passing::pass_batch;
+use crate::told::Told;
+use crate::written::WrittenFold;
 use bundle_frames::{BundleReader, Next};
-use certified_epochs::{Certifier, Telling, open_runs};
+use certified_epochs::{Certifier, open_runs};
 use fv_outside::{Failure, Sink, Source};
 use lamport_clocks::Header;
-use load_summary::Summary;
 use merkle_records::digests_have_32_bytes;
+use operation_folds::NothingMade;
 use record_hash::Digests;
 use report_text::{BundleEnd, Status, write_last};
 use std::alloc::Global;
@@ -50,24 +54,48 @@ pub fn check<R: Threads + Sync, D: Digests + Sync, S: Source, O: Sink>(
     ensures headline { IfSome (S.left source.old) (IsSound (D.functions d.now)) }
 {
     digests_have_32_bytes(d);
-    match check_bundle(rt, alloc, d, limit, source, out, receipts) {
+    let told = Told::Lines { receipts };
+    let mut nothing = NothingMade;
+    tell_bundle(rt, alloc, d, limit, source, &told, &mut nothing, out)
+}
+
+/// Reads a bundle so, tells each certified epoch as it is asked, and behind the last writes what a fold makes of all their
+/// operations, and the last line of the report.
+pub fn tell_bundle<R: Threads + Sync, D: Digests + Sync, F: WrittenFold, S: Source, O: Sink>(
+    rt: &R,
+    alloc: Global,
+    d: &D,
+    limit: u64,
+    source: &mut S,
+    told: &Told,
+    folded: &mut F,
+    out: &mut O,
+) -> Status
+    requires limit { limit ≤ 2 ^ 40 }
+    ensures outcomes { IsCheckStatus result }
+    ensures answers { AnswersTo (asked_answer (asked_for told.now (D.functions d.now) (F.text_behind folded.old)) (D.functions d.now)) reading_end limit result
+        (record { left = S.left source.old; left_after = S.left source.new; faults = S.faults source.old; faults_after = S.faults source.new })
+        (record { held = O.held out.old; held_after = O.held out.new; faults = O.faults out.old; faults_after = O.faults out.new }) }
+{
+    match check_bundle(rt, alloc, d, limit, source, told, folded, out) {
         Ok(end) => end.status(),
         Err(failure) => Status::of_failure(failure, limit),
     }
 }
 
 // Reads the header, and checks what follows it.
-fn check_bundle<R: Threads + Sync, D: Digests + Sync, S: Source, O: Sink>(
+fn check_bundle<R: Threads + Sync, D: Digests + Sync, F: WrittenFold, S: Source, O: Sink>(
     rt: &R,
     alloc: Global,
     d: &D,
     limit: u64,
     source: &mut S,
+    told: &Told,
+    folded: &mut F,
     out: &mut O,
-    receipts: bool,
 ) -> Result<BundleEnd, Failure>
     requires limit { limit ≤ 2 ^ 40 }
-    ensures answers { AnswersTo (check_answer receipts (D.functions d.now)) reading_end limit (check_status limit result)
+    ensures answers { AnswersTo (asked_answer (asked_for told.now (D.functions d.now) (F.text_behind folded.old)) (D.functions d.now)) reading_end limit (check_status limit result)
         (record { left = S.left source.old; left_after = S.left source.new; faults = S.faults source.old; faults_after = S.faults source.new })
         (record { held = O.held out.old; held_after = O.held out.new; faults = O.faults out.old; faults_after = O.faults out.new }) }
     ensures vault { result ≢ Err Failure.VaultFault }
@@ -82,8 +110,9 @@ fn check_bundle<R: Threads + Sync, D: Digests + Sync, S: Source, O: Sink>(
             &header,
             &mut reader,
             source,
+            told,
+            folded,
             out,
-            receipts,
         ),
         // No frame comes before the header.
         Next::Frame(_) => write_bad_header(out),
@@ -92,15 +121,16 @@ fn check_bundle<R: Threads + Sync, D: Digests + Sync, S: Source, O: Sink>(
 }
 
 // Reads the frames behind a header, a batch at a time, and writes what each certifies before more is read.
-fn check_frames<R: Threads + Sync, D: Digests + Sync, S: Source, O: Sink>(
+fn check_frames<R: Threads + Sync, D: Digests + Sync, F: WrittenFold, S: Source, O: Sink>(
     rt: &R,
     alloc: Global,
     d: &D,
     header: &Header,
     reader: &mut BundleReader,
     source: &mut S,
+    told: &Told,
+    folded: &mut F,
     out: &mut O,
-    receipts: bool,
 ) -> Result<BundleEnd, Failure>
     requires header { IsHeader header.now }
     requires known { reader.old.progress.header ≡ Some header.now }
@@ -112,29 +142,31 @@ fn check_frames<R: Threads + Sync, D: Digests + Sync, S: Source, O: Sink>(
     // Of whatever the source had before, where so much of it has come and no frame yet.
     ensures answers { (left : Option (List ℕ)) (faults : ℕ)
         → HasCome left faults (empty_logs header.now.verifiers) reader.old (S.left source.old) (S.faults source.old)
-        → AnswersTo (check_answer receipts (D.functions d.now)) reading_end reader.old.limit (check_status reader.old.limit result)
+        → AnswersTo (asked_answer (asked_for told.now (D.functions d.now) (F.text_behind folded.old)) (D.functions d.now)) reading_end reader.old.limit (check_status reader.old.limit result)
         (record { left = left; left_after = S.left source.new; faults = faults; faults_after = S.faults source.new })
         (record { held = O.held out.old; held_after = O.held out.new; faults = O.faults out.old; faults_after = O.faults out.new }) }
     ensures vault { result ≢ Err Failure.VaultFault }
 {
     let mut opened = open_runs(alloc, header)?;
     let runs = &mut opened[..];
-    let telling = Telling::new(receipts, d, header);
+    let telling = told.telling(d, header);
     let mut certifier = Certifier::new(alloc);
-    // Of no workers: a check counts nobody's operations.
-    let mut summary = Summary::new(alloc, 0)?;
     let mut first = Batch::new(alloc);
     let mut rest = Batch::new(alloc);
     'batches: loop {
         let filled = pass_batch(rt, alloc, d, reader, source, runs, &mut first, &mut rest)?;
-        certifier.certify(&[], runs, &telling, &mut summary, out)?;
+        certifier.certify(rt, &[], runs, &telling, folded, out)?;
         match filled {
             Filled::Whole => {}
             Filled::End => break,
             Filled::Stopped(stop) => return Err(stop),
         }
     }
-    Ok(certifier.finish(runs, reader.bad(), out)?)
+    let bad = reader.bad();
+    if folded.write(out).is_err() {
+        return Err(Failure::WriteFault);
+    }
+    Ok(certifier.finish(runs, bad, out)?)
 }
 
 // Writes the report of a bundle whose header is bad.

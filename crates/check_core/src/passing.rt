@@ -52,7 +52,8 @@ pub fn pass_batch<R: Threads + Sync, D: Digests + Sync, S: Source>(
     Ok(filled)
 }
 
-// Feeds the first frames of a batch while the rest is read, in threads of their own where there are many bytes to be fed.
+// Feeds the first frames of a batch while the rest is read, in threads of their own where there are many bytes to be fed to
+// several runs. A single run is fed as fast where its frames were read.
 fn feed_and_fill<R: Threads + Sync, D: Digests + Sync, S: Source>(
     rt: &R,
     alloc: Global,
@@ -70,7 +71,7 @@ fn feed_and_fill<R: Threads + Sync, D: Digests + Sync, S: Source>(
         (S.left source.old) (S.left source.new) (S.faults source.old) (S.faults source.new) }
     ensures taken { AllRead (D.functions d.now) 0 first.now runs.old runs.new }
 {
-    if first.bytes() < FEW_BYTES {
+    if first.bytes() < FEW_BYTES || runs.len() < 2 {
         feed_batch(rt, d, first, runs);
         return rest.fill(alloc, reader, source, BATCH_FRAMES - FIRST_FRAMES);
     }

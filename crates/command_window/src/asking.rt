@@ -3,21 +3,21 @@ ghost use Rattle.std.specs.Prelude.{◌≡◌, ◌+◌, ◌≤◌, None};
 ghost use Rattle.arrayvec.specs.ArrayVec.{array_vec_len};
 ghost use Rattle.command_window.specs.Window.{IsForgotten, IsUnknown};
 
-use crate::naming::{Deed, Name, Told, named};
-use crate::places::Places;
+use crate::places::{Name, Places, Sought, tells};
 use crate::read_command::{Asked, AskedKind, ReadCommand};
 use arrayvec::ArrayVec;
 use lamport_clocks::Stamp;
-use log_codec::LogCommand;
-use record_text::{LONGEST_ELEMENT_TEXT, push_blob, push_path, push_stamp, push_u16, push_value};
+use log_codec::{Command, LogCommand, SlotCommand};
+use record_text::{
+    Blob, LONGEST_ELEMENT_TEXT, Value, push_blob, push_path, push_stamp, push_u16, push_value,
+};
 use tree_keys::Path;
 
-// What is sought of a record: a command that adds it by its digest, that adds it, or that tells its value.
+// A value that a command tells.
 #[derive(Clone, Copy)]
-enum Sought {
-    AddByDigest,
-    Add,
-    Value,
+enum Told<'a> {
+    Value(&'a Value),
+    Data(&'a Blob),
 }
 
 /// Notes what a command will ask for that stands behind these commands, in the log of the verifier of this number: the digest of
@@ -33,44 +33,108 @@ pub(crate) fn ask(
     requires forgotten { IsForgotten asked.old }
     ensures unknown { IsUnknown asked.new }
 {
-    asked.kind = match named(command) {
-        Some((name, deed)) => ask_of(&mut asked.text, reads, places, &name, &deed, number),
-        None => AskedKind::Nothing,
+    asked.kind = match command {
+        LogCommand::ByPath(command) => ask_by_path(&mut asked.text, reads, places, command, number),
+        LogCommand::BySlot(command) => ask_by_slot(&mut asked.text, reads, places, command, number),
     };
 }
 
-// The same of a command that does this with the record of this name. The text is empty before.
-fn ask_of(
+// The same of a command that names paths. The text is empty before.
+fn ask_by_path(
     text: &mut ArrayVec<u8, LONGEST_ELEMENT_TEXT>,
     reads: &[ReadCommand],
     places: &Places,
-    name: &Name<'_>,
-    deed: &Deed<'_>,
+    command: &Command,
     number: u16,
 ) -> AskedKind
     requires empty { array_vec_len text.old ≡ 0 }
 {
-    match deed {
-        Deed::AddsByDigest(_, value) => {
+    match command {
+        Command::AddM { value, .. } => {
             push_value(text, value);
             AskedKind::Digest
         }
-        Deed::AddsByStamp(path, value, stamp, verifier) => {
+        Command::EvictM { path, .. } => brought_by(reads, places, &Name::ByPath(*path)),
+        Command::AddB {
+            path,
+            value,
+            stamp,
+            verifier,
+        } => {
             push_element(text, path, &Told::Value(value), *stamp, *verifier);
             AskedKind::Lanes
         }
-        Deed::EvictsByDigest => brought_by(reads, places, name),
-        Deed::EvictsByStamp(stamp) => ask_evicted(text, reads, places, name, *stamp, number),
-        Deed::Tells(_) => AskedKind::Nothing,
+        Command::EvictB { path, stamp } => {
+            ask_evicted(text, reads, places, &Name::ByPath(*path), *stamp, number)
+        }
+        Command::EvictBM { path, stamp, .. } => {
+            ask_evicted(text, reads, places, &Name::ByPath(*path), *stamp, number)
+        }
+        _ => AskedKind::Nothing,
+    }
+}
+
+// The same of a command that names slots.
+fn ask_by_slot(
+    text: &mut ArrayVec<u8, LONGEST_ELEMENT_TEXT>,
+    reads: &[ReadCommand],
+    places: &Places,
+    command: &SlotCommand,
+    number: u16,
+) -> AskedKind
+    requires empty { array_vec_len text.old ≡ 0 }
+{
+    match command {
+        SlotCommand::AddM { value, .. } => {
+            push_value(text, value);
+            AskedKind::Digest
+        }
+        SlotCommand::EvictM { slot, .. } => brought_by(reads, places, &Name::BySlot(*slot)),
+        SlotCommand::AddB {
+            path,
+            value,
+            stamp,
+            verifier,
+            ..
+        } => {
+            push_element(text, path, &Told::Value(value), *stamp, *verifier);
+            AskedKind::Lanes
+        }
+        SlotCommand::EvictB { slot, stamp } => {
+            ask_evicted(text, reads, places, &Name::BySlot(*slot), *stamp, number)
+        }
+        SlotCommand::EvictBM { slot, stamp, .. } => {
+            ask_evicted(text, reads, places, &Name::BySlot(*slot), *stamp, number)
+        }
+        _ => AskedKind::Nothing,
     }
 }
 
 // The digest of the value with which the record came in, where one of these commands added it by its digest.
-fn brought_by(reads: &[ReadCommand], places: &Places, name: &Name<'_>) -> AskedKind {
+fn brought_by(reads: &[ReadCommand], places: &Places, name: &Name) -> AskedKind {
     match last_place(reads, places, name, Sought::AddByDigest) {
         Some(place) => AskedKind::DigestOf(place),
         None => AskedKind::Nothing,
     }
+}
+
+// The place of the last of these commands that tells what is sought of the record of this name.
+fn last_place(
+    reads: &[ReadCommand],
+    places: &Places,
+    name: &Name,
+    sought: Sought,
+) -> Option<usize> {
+    let mut next = places.last(name);
+    for _ in 0..reads.len() {
+        let place = next?;
+        let read = reads.get(place)?;
+        if tells(&read.command, name, sought) {
+            return Some(place);
+        }
+        next = places.before(place);
+    }
+    None
 }
 
 // The lanes of an element that is evicted, where these commands tell its path and value.
@@ -78,7 +142,7 @@ fn ask_evicted(
     text: &mut ArrayVec<u8, LONGEST_ELEMENT_TEXT>,
     reads: &[ReadCommand],
     places: &Places,
-    name: &Name<'_>,
+    name: &Name,
     stamp: Stamp,
     number: u16,
 ) -> AskedKind
@@ -122,65 +186,46 @@ fn push_told(text: &mut ArrayVec<u8, LONGEST_ELEMENT_TEXT>, value: &Told<'_>)
 }
 
 // The value of a record, as the last of these commands tells that names it with a value.
-fn told_value<'a>(reads: &'a [ReadCommand], places: &Places, name: &Name<'_>) -> Option<Told<'a>> {
+fn told_value<'a>(reads: &'a [ReadCommand], places: &Places, name: &Name) -> Option<Told<'a>> {
     let place = last_place(reads, places, name, Sought::Value)?;
     let read = reads.get(place)?;
-    let (_, deed) = named(&read.command)?;
-    match deed {
-        Deed::AddsByDigest(_, value) => Some(Told::Value(value)),
-        Deed::AddsByStamp(_, value, _, _) => Some(Told::Value(value)),
-        Deed::Tells(told) => Some(told),
-        Deed::EvictsByDigest | Deed::EvictsByStamp(_) => None,
+    match &read.command {
+        LogCommand::ByPath(command) => value_by_path(command),
+        LogCommand::BySlot(command) => value_by_slot(command),
     }
 }
 
 // The path of a record: its name, or that of the last of these commands that adds a record in its slot.
-fn told_path(reads: &[ReadCommand], places: &Places, name: &Name<'_>) -> Option<Path> {
+fn told_path(reads: &[ReadCommand], places: &Places, name: &Name) -> Option<Path> {
     if let Name::ByPath(path) = name {
-        return Some(**path);
+        return Some(*path);
     }
     let place = last_place(reads, places, name, Sought::Add)?;
     let read = reads.get(place)?;
-    let (_, deed) = named(&read.command)?;
-    match deed {
-        Deed::AddsByDigest(path, _) => Some(*path),
-        Deed::AddsByStamp(path, _, _, _) => Some(*path),
+    match &read.command {
+        LogCommand::BySlot(SlotCommand::AddM { path, .. }) => Some(*path),
+        LogCommand::BySlot(SlotCommand::AddB { path, .. }) => Some(*path),
         _ => None,
     }
 }
 
-// The place of the last of these commands that does what is sought with the record of this name.
-fn last_place(
-    reads: &[ReadCommand],
-    places: &Places,
-    name: &Name<'_>,
-    sought: Sought,
-) -> Option<usize> {
-    let mut next = places.last(name);
-    for _ in 0..reads.len() {
-        let place = next?;
-        let read = reads.get(place)?;
-        if is_sought(&read.command, name, sought) {
-            return Some(place);
-        }
-        next = places.before(place);
-    }
-    None
-}
-
-// Whether a command does what is sought with the record of this name.
-fn is_sought(command: &LogCommand, name: &Name<'_>, sought: Sought) -> bool {
-    match named(command) {
-        Some((own, deed)) if does(&deed, sought) => own.is_same(name),
-        _ => false,
+// The value that a command tells.
+fn value_by_path(command: &Command) -> Option<Told<'_>> {
+    match command {
+        Command::AddM { value, .. } => Some(Told::Value(value)),
+        Command::AddB { value, .. } => Some(Told::Value(value)),
+        Command::Get { value, .. } => Some(Told::Value(value)),
+        Command::Put { value, .. } => Some(Told::Value(value)),
+        _ => None,
     }
 }
 
-fn does(deed: &Deed<'_>, sought: Sought) -> bool {
-    match (deed, sought) {
-        (Deed::AddsByDigest(_, _), _) => true,
-        (Deed::AddsByStamp(_, _, _, _), Sought::Add | Sought::Value) => true,
-        (Deed::Tells(_), Sought::Value) => true,
-        _ => false,
+fn value_by_slot(command: &SlotCommand) -> Option<Told<'_>> {
+    match command {
+        SlotCommand::AddM { value, .. } => Some(Told::Value(value)),
+        SlotCommand::AddB { value, .. } => Some(Told::Value(value)),
+        SlotCommand::Get { value, .. } => Some(Told::Data(value)),
+        SlotCommand::Put { value, .. } => Some(Told::Data(value)),
+        _ => None,
     }
 }

@@ -11,7 +11,6 @@
 
 mod asking;
 mod hashing;
-mod naming;
 mod places;
 mod read_command;
 mod window;

@@ -81,16 +81,18 @@ impl CommandWindow {
         while self.reads.len() < room {
             match read_command(header, behind(bytes, taken)) {
                 Decoded::Read(command, len) => {
+                    // Pushed at once, so that it is moved once.
                     let place = self.reads.len();
+                    self.reads.push_reserved(ReadCommand { command, len });
+                    let command = &self.reads[place].command;
                     ask(
                         &mut self.asked[place],
                         self.reads.as_slice(),
                         &self.places,
-                        &command,
+                        command,
                         self.number,
                     );
-                    self.places.note(place, &command);
-                    self.reads.push_reserved(ReadCommand { command, len });
+                    self.places.note(place, command);
                     taken += len;
                 }
                 Decoded::Malformed | Decoded::Truncated => return,

@@ -2,13 +2,14 @@
 use Rattle.std.proofs.Common.{◌≡◌, ℕ, List, Option, Some, None, IfSome, refl, sym, ◌∙◌, ap, inl, inr, arith}
 use Rattle.fv_outside.specs.Consumed.{TookAtMost}
 use Rattle.record_hash.specs.ShaDigests.{sha_under}
-use Rattle.program_words.specs.declared.words.Asked.TheVariants.{Check, Audit, Run, Gen, Accept}
+use Rattle.program_words.specs.declared.words.Asked.TheVariants.{Check, Audit, Run, Gen, Accept, Follow}
 use Rattle.report_text.specs.declared.status.Status.TheVariants.{Memory}
 use Rattle.report_text.proofs.AnsweringLaws.{answers-none}
 use Rattle.bundle_frames.specs.Extent.{reading_end}
 use Rattle.bundle_report.specs.Answer.{sha_check_answer}
 use Rattle.program_words.specs.declared.words.Asked.{Asked}
 use Rattle.bundle_report.proofs.HeadlineLaws.{sha_headline, of_left}
+use Rattle.follower.specs.Answer.{sha_follow_answer}
 use Rattle.fastver_top.specs.Auditing.{sha_audit_answer}
 use Rattle.fastver_top.specs.Answers.{asked_key, AnswersFor, bundle_for, IsSoundFor}
 use Rattle.fv_outside.specs.declared.failure.Failure.TheVariants as failures
@@ -45,6 +46,7 @@ answers-nothing (Run run) most left held vault name r r' w w' v v' =
     (inr (record { unnamed = refl; vault = refl; out = refl }))
 answers-nothing (Gen load) most left held vault name r r' w w' v v' =
     gens-nothing (sha_under load.key) load _ _ (record { unnamed = refl; vault = refl; out = refl })
+answers-nothing (Follow key) most left held vault name r r' w w' v v' = answers-none (sha_follow_answer key) reading_end most left held r r' w w'
 answers-nothing (Accept key) most left held vault name r r' w w' v v' =
     answers-unread (sha_under key) most
     (record { left = left; left_after = left; faults = r; faults_after = r' }) (record { held = held; held_after = held; faults = w; faults_after = w' })

@@ -2,7 +2,7 @@
 use Rattle.std.specs.Prelude.{◌≡◌, ◌⊎◌, ℕ, Bool, true, false, List, [], ◌∷◌, Option, None, Some}
 use Rattle.program_words.specs.Words.{asked_of}
 use Rattle.program_words.specs.declared.words.Asked.{Asked}
-use Rattle.program_words.specs.declared.words.Asked.TheVariants.{Check, Audit, Run, Gen, Accept}
+use Rattle.program_words.specs.declared.words.Asked.TheVariants.{Check, Audit, Run, Gen, Accept, Follow}
 use Rattle.report_text.specs.declared.status.Status.{Status}
 use Rattle.report_text.specs.Kinds.{StatusKind, IsOneOf}
 use Rattle.report_text.specs.Kinds as kinds
@@ -41,6 +41,7 @@ rules_of (Audit key) = record { reads = whole; uses_vault = false; ends = audit_
 rules_of (Run run) = record { reads = whole; uses_vault = true; ends = run_kinds; unwritten = before_run_kinds; unnamed = before_run_kinds }
 rules_of (Gen load) = record { reads = nothing; uses_vault = true; ends = gen_kinds; unwritten = []; unnamed = [] }
 rules_of (Accept key) = record { reads = whole; uses_vault = false; ends = accept_kinds; unwritten = before_answer_kinds; unnamed = [] }
+rules_of (Follow key) = record { reads = in_parts; uses_vault = false; ends = check_kinds; unwritten = []; unnamed = [] }
 
 -- the kinds of status where the words ask for nothing
 abbrev pub unasked_kinds : List StatusKind

@@ -12,6 +12,7 @@ use crate::auditing::audit_text;
 use crate::generating::serve_generated;
 use crate::running::run_script;
 use check_core::check;
+use follower::follow;
 use fv_outside::{Gate, Sink, Source, Vault};
 use program_words::{Asked, Key, WordsFault, read_words};
 use record_hash::ShaDigests;
@@ -31,7 +32,8 @@ pub const INPUT_LIMIT: u64 = 1 << 40;
 /// key and the numbers of a host reads a script, serves it, writes the bundle of its logs to the vault, and to the sink the
 /// report of that bundle. `fastver gen` with a key, a seed and such numbers makes a script in place of reading one, serves it so,
 /// and writes how often each worker got, put and deleted, in place of the report. `fastver accept --key HEX` reads a receipt and
-/// a certificate, and writes whether the receipt is accepted. But by a run and by a load the vault is left as it is.
+/// a certificate, and writes whether the receipt is accepted. `fastver follow --key HEX` reads a bundle and writes the map that
+/// its certified operations make, and the last line of its report. But by a run and by a load the vault is left as it is.
 #[tactic(auto, using(crate::proofs::AnswerLemmas::left_is_sound))]
 pub fn fastver<R: Threads + Wait + Sync, S: Source, O: Sink, V: Vault, G: Gate + Sync>(
     rt: &R,
@@ -54,8 +56,8 @@ pub fn fastver<R: Threads + Wait + Sync, S: Source, O: Sink, V: Vault, G: Gate +
     ensures within { ReadsWhole (rules_by (map (λ word. word.now) words.now))
         → result ≢ Status.InputLimit (2 ^ 40) → TookAtMost (2 ^ 40) (S.left source.old) (S.left source.new) }
 
-    // Where they ask for something: what is written, the status, what was taken of the source, and the faults. A check and an
-    // audit answer to the source's bytes, a run serves them as a script, and a load is served as one, under the key of the words.
+    // Where they ask for something: what is written, the status, what was taken of the source, and the faults. A check, an
+    // audit and a follower answer to the source's bytes, a run serves them as a script, and a load is served as one, under the key of the words.
     ensures answers { (asked : Asked) → asked_of (map (λ word. word.now) words.now) ≡ Some asked
         → AnswersFor asked (2 ^ 40) result
         (record { left = S.left source.old; left_after = S.left source.new; faults = S.faults source.old; faults_after = S.faults source.new })
@@ -88,6 +90,9 @@ pub fn fastver<R: Threads + Wait + Sync, S: Source, O: Sink, V: Vault, G: Gate +
         }
         Ok(Asked::Accept(key)) => {
             accept_text(alloc, &digests_under(&key), INPUT_LIMIT, source, out)
+        }
+        Ok(Asked::Follow(key)) => {
+            follow(rt, alloc, &digests_under(&key), INPUT_LIMIT, source, out)
         }
         Err(WordsFault::Usage) => Status::Usage,
         Err(WordsFault::Memory) => Status::Memory,

@@ -1,6 +1,6 @@
 -- What a round brings to the runs, and what certifying them brings to the report.
 use Rattle.std.proofs.Common.{◌≡◌, ℕ, zero, suc, ◌+◌, ◌-◌, ◌<◌, ◌≤◌, Bool, false, true, List, [], ◌∷◌, ◌++◌, length, map, take, drop, Option, Result, Ok, Err, OnOk, OnErr, refl, sym, ◌∙◌, ap, subst, append-nil, eq-eqb, if◌then◌else◌, arith}
-use Rattle.std.specs.List.{AllByRecursion}
+use Rattle.std.specs.List.{AllByRecursion, fold}
 use Rattle.std.specs.Result.{is_err}
 use Rattle.std.proofs.lemmas.Bool.{ne_eqb, false≢true}
 use Rattle.std.proofs.lemmas.List.{take_all, drop_all, length-map}
@@ -28,7 +28,8 @@ use Rattle.certified_epochs.specs.Turn.{AreFed}
 use Rattle.certified_epochs.proofs.RunsLaws.{all_runs, all_feds, headers_from, weights_from}
 use Rattle.host_rounds.specs.Round.{logs_with, pieces_of}
 use Rattle.host_rounds.specs.Feeding.{AllRead}
-use Rattle.load_summary.specs.Counting.{Counted, counted_of}
+use Rattle.load_summary.specs.Counting.{Counted, counted_of, with_operation}
+use Rattle.load_summary.proofs.CountingLaws.{fold-counted}
 use Rattle.host_rounds.specs.SoFar.{RunsSoFar, HaveRun, HaveRunSome, lines_counted, lines_due, operations_counted}
 use Rattle.host_rounds.proofs.BundleLaws.{round-joined}
 
@@ -202,15 +203,18 @@ module _ (functions : DigestFunctions) (header : Header) (logs : List (List ℕ)
 
   module _ (now : RunsSoFar) (taken : HaveRead own_scheme header logs now.judged (map (λ fed. fed.run) now.runs)) where
     pub certified-run : AreFed now.runs → now.bytes ≡ so_far.bytes → now.judged ≡ judged header.verifiers courses
-        → ((workers : ℕ) (before : List Operation) → so_far.summary ≡ counted_of workers before
-        → now.summary ≡ counted_of workers (before ++ lines_from operations_told courses (header.first + so_far.judged.count) (now.judged.count - so_far.judged.count)))
+        → now.summary ≡ fold with_operation so_far.summary
+        (lines_from operations_told courses (header.first + so_far.judged.count) (now.judged.count - so_far.judged.count))
         → HaveRun functions header logs now
     certified-run fine same all counted = record {
       fed = fine;
       taken = taken;
       few = subst (λ (bytes : ℕ). AllByRecursion (λ fed. weight fed.run ≤ bytes) now.runs) (sym same) (runs_weights functions header logs so_far now have taken);
       summed =
-          counted header.verifiers (operations_counted functions header logs so_far) have.summed
+          counted
+          ∙ ap (λ (before : Counted). fold with_operation before (lines_from operations_told courses (header.first + so_far.judged.count) (now.judged.count - so_far.judged.count)))
+          have.summed
+          ∙ fold-counted header.verifiers (operations_counted functions header logs so_far) _
           ∙ ap (counted_of header.verifiers) (lines_to operations_told now.judged.count (omega (arith, within_all, ap (λ (j : Judged). j.count) all)));
     }
 

@@ -27,6 +27,7 @@ use record_hash::Digests;
 use report_text::{BundleEnd, Status, write_last};
 use std::alloc::Global;
 use std::marker::Model;
+use std::thread::Threads;
 
 /// What the verifiers' runs have come to over the rounds so far. The vault that has the bundle, and the sink of the
 /// report, are handed in at each call; both only grow. Contracts see what is judged, the runs, how many bytes were fed, and
@@ -81,8 +82,9 @@ impl Rounds {
 
     /// Writes the lines of all epochs that the runs now certify and that are not written yet, and counts of each worker what it
     /// did in them. The verdicts on the first of these may have been settled when the logs were taken.
-    pub fn certify<D: Digests, O: Sink>(
+    pub fn certify<R: Threads + Sync, D: Digests + Sync, O: Sink>(
         &mut self,
+        rt: &R,
         settled: &[Verdict],
         telling: &Telling<D>,
         out: &mut O,
@@ -113,7 +115,7 @@ impl Rounds {
         let runs = self.runs.as_mut_slice();
         let summary = &mut self.summary;
         self.certifier
-            .certify(settled, runs, telling, summary, out)?;
+            .certify(rt, settled, runs, telling, summary, out)?;
         Ok(())
     }
 

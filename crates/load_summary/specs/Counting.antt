@@ -1,8 +1,8 @@
 -- Operations as they are counted one by one.
-use Rattle.std.specs.Prelude.{ℕ, ◌+◌, ◌≤◌, Bool, true, false, List, length, Option, Some, None}
+use Rattle.std.specs.Prelude.{ℕ, ◌+◌, ◌≤◌, Bool, true, false, List, [], length, get_or, set, Option, Some, None}
 use Rattle.record_text.specs.declared.operation.Operation.{Operation}
 use Rattle.load_summary.specs.declared.tally.Tally.{Tally}
-use Rattle.load_summary.specs.Tallies.{tallies_of}
+use Rattle.load_summary.specs.Tallies.{tally_of, tallies_of}
 
 -- how many operations were counted, and the tally of each worker
 pub record Counted : Type 0 where
@@ -19,6 +19,13 @@ with_one false None tally = record tally { gets = tally.gets + 1; none = tally.n
 with_one false (Some bytes) tally = record tally { gets = tally.gets + 1 }
 with_one true None tally = record tally { dels = tally.dels + 1 }
 with_one true (Some bytes) tally = record tally { puts = tally.puts + 1 }
+
+-- with an operation more, which is in the tally of its worker if that is one of these
+abbrev pub with_operation : Counted → Operation → Counted
+with_operation counted op = record {
+  operations = counted.operations + 1;
+  tallies = set counted.tallies op.verifier (with_one op.put op.value (get_or counted.tallies op.verifier (tally_of 0 [])));
+}
 
 -- no number of a tally is above this one
 pub record IsWithin (most : ℕ) (tally : Tally) : Type 0 where

@@ -4,13 +4,14 @@ ghost use Rattle.fv_outside.specs.Faults.{Counts};
 ghost use Rattle.fv_outside.specs.Written.{Grows, GrowsByFront};
 ghost use Rattle.record_text.specs.declared.operation.Operation.{Operation};
 ghost use Rattle.report_text.specs.Page.{Passes};
-ghost use Rattle.load_summary.specs.Counting.{counted_of};
+ghost use Rattle.load_summary.specs.Counting.{counted_of, with_operation};
 ghost use Rattle.load_summary.specs.Summary.{summary_with_end, worker_lines};
 
 use crate::lines::{end_line, head_lines, worker_line};
 use crate::tally::Tally;
 use base_words::Memory;
 use fv_outside::{Failed, Sink};
+use operation_folds::OperationFold;
 use record_text::Operation;
 use report_text::{Page, Status};
 use std::alloc::Global;
@@ -69,10 +70,7 @@ impl Summary {
     // Counts one operation.
     fn count_one(&mut self, operation: &Operation)
         requires room { self.old.operations + 1 < 2 ^ 64 }
-        ensures counted { (workers : ℕ) (before : List Operation)
-            → self.old ≡ counted_of workers before
-            → self.new ≡ counted_of workers (before ++ operation.now ∷ []) }
-        ensures operations { self.new.operations ≡ self.old.operations + 1 }
+        ensures counted { self.new ≡ with_operation self.old operation.now }
     {
         if let Some(tally) = self.tallies.get_mut(usize::from(operation.verifier)) {
             tally.count(operation);
@@ -100,6 +98,28 @@ impl Summary {
         write_workers(&self.tallies, &mut page, out)?;
         page.write(end_line(end).as_slice(), out)?;
         page.flush(out)
+    }
+}
+
+// One operation after another is counted, as far as 64 bits count them.
+impl OperationFold for Summary {
+    ghost use Rattle.load_summary.specs.Counting.{Counted};
+
+    ghost State = { Counted };
+
+    ghost state = { λ summary. summary };
+
+    ghost step = { with_operation };
+
+    fn add(&mut self, operation: &Operation) -> Result<(), Memory>
+        ensures added { OnOk result (self.new ≡ with_operation self.old operation.now) }
+        ensures full { IsErr result ↔ (2 ^ 64 ≤ self.old.operations + 1) }
+    {
+        if self.operations == u64::MAX {
+            return Err(Memory);
+        }
+        self.count_one(operation);
+        Ok(())
     }
 }
 

@@ -6,6 +6,7 @@ use Rattle.std.specs.Option.{option_map}
 use Rattle.std.specs.Str.Parse.{digits_value}
 use Rattle.std.proofs.lemmas.Bool.Decides.{nat_tests}
 use Rattle.clap.specs.Walk.{Row, Text, first_of}
+use Rattle.program_words.specs.Found.{flag_in}
 use Rattle.program_words.specs.Numbers.{is_numeral, in_range, number_between, needed_in, optional_in, given}
 use Rattle.program_words.specs.HostWords.{most_verifiers, most_touches, greatest_end, first_version, last_version, is_shard_count, shards_in, numbers_in, IsPower, AreHostNumbers}
 use Rattle.program_words.specs.LoadWords.{most_ops, most_keys, usual_keys, most_every, usual_every, load_in, AreLoadNumbers}
@@ -108,6 +109,7 @@ numbers_range rows numbers is =
       first = unwrap_or f.0 0;
       counter = unwrap_or e.0 greatest_end;
       version = unwrap_or v.0 first_version;
+      absent = flag_in (codes "absent") rows;
     } in
     let same : made ≡ numbers = (let inside : Some made ≡ Some numbers = v.1.1 in cc) in
     let verifiers = needed_range 1 most_verifiers a.0 (first_of (codes "verifiers") rows) a.1.0 in

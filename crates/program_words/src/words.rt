@@ -35,6 +35,8 @@ pub enum Asked {
     Gen(GenWords),
     /// To say whether a receipt is to be accepted.
     Accept(Key),
+    /// To write the map that the logs certify.
+    Follow(Key),
 }
 
 /// Why the words gave nothing to do.
@@ -108,6 +110,8 @@ fn asked_as(
         gen_as(alloc, found, key)
     } else if name == "accept" {
         Ok(Some(Asked::Accept(key)))
+    } else if name == "follow" {
+        Ok(Some(Asked::Follow(key)))
     } else {
         Ok(None)
     }

@@ -1,5 +1,5 @@
 -- What was written and what waits on a page, line after line.
-use Rattle.std.proofs.Common.{◌≡◌, ℕ, ◌+◌, ◌<◌, List, [], ◌∷◌, ◌++◌, length, drop, get_or, Option, Result, Ok, Err, OnErr, sym, ◌∙◌, ap, subst, append_assoc, append-nil}
+use Rattle.std.proofs.Common.{◌≡◌, ℕ, ◌+◌, ◌<◌, List, [], ◌∷◌, ◌++◌, length, drop, get_or, Option, Result, Ok, Err, OnErr, OnOk, sym, ◌∙◌, ap, subst, append_assoc, append-nil}
 use Rattle.std.specs.List.{flat_map}
 use Rattle.std.proofs.lemmas.List.{drop_more}
 use Rattle.fv_outside.specs.Written.{Grows, GrowsByFront}
@@ -69,3 +69,20 @@ lines_step {A = A} line_of things i thing text line whole below is line_is left 
   where
     next : drop i things ≡ thing ∷ drop (i + 1) things
     next = drop_more things i thing below ∙ ap (λ (t : A). t ∷ drop (i + 1) things) (sym is)
+
+-- what waits is written, and then a text
+pub Passes-whole : (a b c : Option (List ℕ)) (waited p text : List ℕ) → p ≡ [] → Grows a b waited → Grows b c text → Passes a waited text c p
+Passes-whole a b c waited p text empty h k = record {
+  written = waited ++ text;
+  grown = Grows-then a b c waited text h k;
+  kept = ap (λ (l : List ℕ). (waited ++ text) ++ l) empty ∙ append-nil (waited ++ text);
+}
+
+-- what follows from what holds on success, or of an error
+pub ok_then : {T E P Q : Type 0} (r : Result T E) → (P → Q) → OnOk r P → OnOk r Q
+ok_then (Ok answer) f p = f p
+ok_then (Err error) f p = tt
+
+pub err_then : {T E P Q : Type 0} (r : Result T E) → (P → Q) → OnErr r P → OnErr r Q
+err_then (Ok answer) f p = tt
+err_then (Err error) f p = f p

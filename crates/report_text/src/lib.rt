@@ -9,12 +9,14 @@
 mod digits;
 mod ending;
 mod exhibit;
+mod key_lines;
 mod lines;
 mod page;
 mod status;
 
 pub use ending::BundleEnd;
 pub use exhibit::write_exhibit;
+pub use key_lines::key_line;
 pub use lines::{
     LONGEST_LINE, RECEIPT_LINE_ROOM, certificate_line, epoch_line, last_line, operation_line,
     receipt_line, write_epoch, write_last, write_operation,

@@ -78,4 +78,21 @@ impl Page {
         self.push(line);
         Ok(())
     }
+
+    /// Adds a text of any length. Where there is no room for it, what waits is written first, and then the text.
+    pub fn write_text<O: Sink>(&mut self, text: &[u8], sink: &mut O) -> Result<(), Failed>
+        ensures whole { OnOk result (Passes (O.held sink.old) self.old text.now (O.held sink.new) self.new) }
+        ensures front { OnErr result (GrowsByFront (O.held sink.old) (O.held sink.new) (self.old ++ text.now)) }
+        ensures name { O.name sink.new ≡ O.name sink.old }
+        ensures counts { Counts (O.faults sink.old) (O.faults sink.new) result }
+    {
+        if self.has_room(text.len()) {
+            self.push(text);
+            return Ok(());
+        }
+        match self.flush(sink) {
+            Ok(()) => write_all(sink, text),
+            Err(failed) => Err(failed),
+        }
+    }
 }

@@ -3,4 +3,6 @@ pub mod OneOrderLaws
 mod JoinLemmas
 pub mod MomentLaws
 pub mod MergedLaws
+mod FirstLemmas
 pub mod MapLaws
+mod EntriesLemmas

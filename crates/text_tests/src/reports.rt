@@ -163,6 +163,20 @@ fn pages_are_written_when_full(rt: HostRuntime) {
     same(&rt, "flushed", &sink.bytes().len(), &10000);
 }
 
+#[test]
+fn long_texts_are_written_at_once(rt: HostRuntime) {
+    let mut sink = MemorySink::new(rt.alloc(), 20000, 5000, &[]).expect(&rt, "memory");
+    let mut page = Page::new();
+    page.write_text(b"short", &mut sink)
+        .ok()
+        .expect(&rt, "a short text");
+    same(&rt, "waits", &sink.bytes().len(), &0);
+    page.write_text(&[b'x'; PAGE_ROOM + 1], &mut sink)
+        .ok()
+        .expect(&rt, "a long text");
+    same(&rt, "written", &sink.bytes().len(), &(PAGE_ROOM + 6));
+}
+
 // Writes a hundred lines of a hundred bytes.
 fn write_lines(rt: &impl Abort, page: &mut Page, sink: &mut MemorySink) {
     for _ in 0..100 {

@@ -61,6 +61,51 @@ get 5 none
 -> 8
 clean 0
 refused v0 command 0 NotCached
+== follow
+addM 18446744073709551615 none root
+put 18446744073709551615 63
+addM 5 none root
+put 5 6162
+get 5 6162
+put 5 .
+next
+next
+-> 0
+5 .
+18446744073709551615 63
+done 1
+== follow
+addM 5 none root
+put 5 6162
+addM 18446744073709551615 none root
+put 18446744073709551615 none
+put 5 none
+next
+next
+-> 0
+done 1
+== follow
+addM 5 none root
+put 5 61
+next
+next
+put 5 62
+-> 0
+5 61
+done 1
+== follow
+addM 5 none root
+put 5 61
+next
+next
+get 7 none
+-> 8
+5 61
+refused v0 command 4 NotCached
+== follow
+raw 000000000000
+-> 7
+bad bundle at byte 18
 ";
 
 // Where the read of this number fails nothing is written.
@@ -145,7 +190,7 @@ fn assert_fronts<R: Threads + Wait + Sync + Abort>(
 
 #[test]
 fn a_front_of_each_answer_stands(rt: HostRuntime) {
-    for case in &cases_in(&rt, rt.alloc(), ANSWERS, 5) {
+    for case in &cases_in(&rt, rt.alloc(), ANSWERS, 10) {
         let bytes = bytes_of(&rt, rt.alloc(), case);
         assert_fronts(&rt, rt.alloc(), case, &bytes);
     }

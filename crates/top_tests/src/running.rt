@@ -91,7 +91,7 @@ fn words_of<'a>(rt: &impl Abort, alloc: Global, line: &'a str) -> Vec<&'a str> {
     words
 }
 
-/// What is there behind the program with the words of a line, over these bytes. No check and no audit touches its vault, and
+/// What is there behind the program with the words of a line, over these bytes. No check, no audit and no follower touches its vault, and
 /// no refusal.
 pub(crate) fn ask<R: Threads + Wait + Sync + Abort>(
     rt: &R,

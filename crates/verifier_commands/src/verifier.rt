@@ -4,12 +4,9 @@ ghost use Rattle.std.specs.Option.{option_copied};
 ghost use Rattle.base_words.specs.Follows.{Follows};
 ghost use Rattle.lamport_clocks.specs.Header.{IsHeader};
 ghost use Rattle.log_codec.specs.declared.log_command.LogCommand.TheVariants.{ByPath, BySlot};
-ghost use Rattle.lamport_clocks.specs.declared.stamp.Stamp.{Stamp};
-ghost use Rattle.merkle_records.specs.Scheme.{Scheme, scheme_of};
+ghost use Rattle.merkle_records.specs.Scheme.{scheme_of};
 ghost use Rattle.verifier_commands.specs.VerifierState.{state_of, first_state, path_entry, slot_entry};
-ghost use Rattle.verifier_commands.specs.declared.outcome.Outcome.TheVariants.{NextEpoch};
-ghost use Rattle.verifier_commands.specs.Sums.{sums_after};
-ghost use Rattle.verifier_commands.specs.Machine.{Machine, AreBounded, ClockMoves, opening_machine, stepped, effect_of};
+ghost use Rattle.verifier_commands.specs.Machine.{Machine, opening_machine, stepped, effect_of};
 
 use crate::effect::Effect;
 use crate::either_state::EitherState;
@@ -84,17 +81,14 @@ impl Verifier {
             (stepped (scheme_of (D.functions d.now) self.old.header) self.old (ByPath command.now)) }
     {
         let before = *self.state.clock();
-        let outcome = self.state.apply(d, self.number, &self.header, command)?;
-        let clock = *self.state.clock();
-        let effect = conclude(
-            &mut self.sums,
-            d,
-            self.number,
-            self.accepted,
-            &before,
-            &clock,
-            outcome,
-        );
+        let applied = self.state.apply(d, self.number, &self.header, command);
+        let outcome = match &applied {
+            Ok(outcome) => outcome,
+            Err(refusal) => return Err(*refusal),
+        };
+        let at = self.state.clock().at();
+        let effect = effect_of(self.number, self.accepted, at, &self.sums, outcome);
+        self.sums.apply(d, &before, self.state.clock(), outcome);
         self.accepted += 1;
         Ok(effect)
     }
@@ -110,19 +104,16 @@ impl Verifier {
             (stepped (scheme_of (D.functions d.now) self.old.header) self.old (BySlot command.now)) }
     {
         let before = *self.state.clock();
-        let outcome = self
+        let applied = self
             .state
-            .apply_slots(d, self.number, &self.header, command)?;
-        let clock = *self.state.clock();
-        let effect = conclude(
-            &mut self.sums,
-            d,
-            self.number,
-            self.accepted,
-            &before,
-            &clock,
-            outcome,
-        );
+            .apply_slots(d, self.number, &self.header, command);
+        let outcome = match &applied {
+            Ok(outcome) => outcome,
+            Err(refusal) => return Err(*refusal),
+        };
+        let at = self.state.clock().at();
+        let effect = effect_of(self.number, self.accepted, at, &self.sums, outcome);
+        self.sums.apply(d, &before, self.state.clock(), outcome);
         self.accepted += 1;
         Ok(effect)
     }
@@ -177,62 +168,28 @@ impl Verifier {
     }
 }
 
-// Takes the outcome of the verifier's next command into the sums, between these readings of the clock, and says what it answers.
-#[tactic(auto, using(crate::proofs::BoundLaws::bounds))]
-fn conclude<D: Digests>(
-    sums: &mut Sums,
-    d: &D,
-    number: u16,
-    accepted: u64,
-    before: &Clock,
-    clock: &Clock,
-    outcome: Outcome,
-) -> Effect
-    requires bounded { AreBounded sums.old before.now }
-    requires moved { ClockMoves before.now clock.now outcome }
-    ensures sums { (scheme : Scheme) → scheme.lanes ≡ (D.functions d.now).lanes
-        → sums.new ≡ sums_after scheme before.now.at.epoch sums.old outcome }
-    ensures bounded { AreBounded sums.new clock.now }
-    ensures effect { (machine : Machine) → machine.number ≡ number → machine.accepted ≡ accepted → machine.sums ≡ sums.old
-        → result ≡ effect_of machine clock.now.at outcome }
+// What an outcome answers, of the verifier's next command, at this stamp.
+fn effect_of(number: u16, accepted: u64, at: Stamp, sums: &Sums, outcome: &Outcome) -> Effect
+    ensures value { (machine : Machine) → machine.number ≡ number → machine.accepted ≡ accepted → machine.sums ≡ sums.now
+        → result ≡ effect_of machine at outcome.now }
 {
-    let at = clock.at();
-    match outcome {
-        Outcome::AddM | Outcome::EvictM => Effect::Plain,
-        Outcome::AddB(element) => {
-            sums.add(d, before.at().epoch, &element);
-            Effect::Plain
+    let (put, key, value) = match outcome {
+        Outcome::Get(key, value) => (false, *key, value.copy()),
+        Outcome::Put(key, value) => (true, *key, value.copy()),
+        Outcome::NextEpoch(None) => return Effect::Opened,
+        Outcome::NextEpoch(Some(epoch)) => {
+            return Effect::Sealed(Part {
+                verifier: number,
+                epoch: *epoch,
+                added: sums.added_before,
+                evicted: sums.evicted_before,
+            });
         }
-        Outcome::EvictB(element) | Outcome::EvictBM(element) => {
-            sums.evict(d, &element);
-            Effect::Plain
-        }
-        Outcome::Get(key, value) => {
-            Effect::Did(Operation::new(at, number, accepted, false, key, value))
-        }
-        Outcome::Put(key, value) => {
-            Effect::Did(Operation::new(at, number, accepted, true, key, value))
-        }
-        Outcome::NextEpoch(sealed) => {
-            let effect = turned(number, sealed, sums);
-            sums.advance();
-            effect
-        }
-    }
-}
-
-// What the step to the next epoch answers, where it seals this one, if any, and the sums are those before it.
-fn turned(number: u16, sealed: Option<u32>, sums: &Sums) -> Effect
-    ensures value { (machine : Machine) (at : Stamp) → machine.number ≡ number → machine.sums ≡ sums.now
-        → result ≡ effect_of machine at (NextEpoch sealed) }
-{
-    match sealed {
-        None => Effect::Opened,
-        Some(epoch) => Effect::Sealed(Part {
-            verifier: number,
-            epoch,
-            added: sums.added_before,
-            evicted: sums.evicted_before,
-        }),
-    }
+        Outcome::AddM
+        | Outcome::EvictM
+        | Outcome::AddB(_)
+        | Outcome::EvictB(_)
+        | Outcome::EvictBM(_) => return Effect::Plain,
+    };
+    Effect::Did(Operation::new(at, number, accepted, put, key, value))
 }

@@ -198,27 +198,43 @@ impl Run<Operation> {
         self.tracer.items()
     }
 
-    /// Takes the gets and puts of epochs up to this one, in order. They are kept no longer, nor are the parts of these
-    /// epochs: `ops` and `parts` answer those of later ones. All else stays, and a log goes on as it would have.
+    /// The gets and puts of epochs up to this one, in order.
+    pub fn ops_up_to(&self, through: u32) -> &[Operation]
+        ensures value { result.now ≡ taken_by through self.now.course }
+    {
+        self.tracer.operations_up_to(through)
+    }
+
+    /// Keeps the gets and puts of epochs up to this one no longer, nor the parts of these epochs: `ops` and `parts` answer
+    /// those of later ones. All else stays, and a log goes on as it would have.
+    pub fn pass(&mut self, through: u32)
+        ensures left { self.new ≡ left_of through self.old }
+    {
+        self.tracer.pass(through);
+    }
+
+    /// The same, and hands out these gets and puts. For want of memory nothing is taken.
     pub fn take(&mut self, through: u32) -> Result<Vec<Operation>, Memory>
         ensures operations { IfOk result (λ taken. taken.items ≡ taken_by through self.old.course) }
         ensures left { OnOk result (self.new ≡ left_of through self.old) }
         ensures memory { OnErr result (self.new ≡ self.old) }
     {
-        let mut taken = Vec::new(self.tracer.allocator());
-        self.take_into(through, &mut taken)?;
+        let taken = copies(self.tracer.allocator(), self.ops_up_to(through))?;
+        self.pass(through);
         Ok(taken)
     }
+}
 
-    /// The same, appended to others. For want of memory nothing is taken, and these are as they were.
-    pub fn take_into(&mut self, through: u32, into: &mut Vec<Operation>) -> Result<(), Memory>
-        ensures operations { OnOk result (into.new.items ≡ into.old.items ++ taken_by through self.old.course) }
-        ensures left { OnOk result (self.new ≡ left_of through self.old) }
-        ensures memory { OnErr result (self.new ≡ self.old) }
-        ensures memory_into { OnErr result (into.new.items ≡ into.old.items) }
-    {
-        self.tracer.take_into(through, into)
+// Copies of operations.
+fn copies(alloc: Global, operations: &[Operation]) -> Result<Vec<Operation>, Memory>
+    ensures items { IfOk result (λ v. v.items ≡ operations.now) }
+{
+    let mut copies = Vec::new(alloc);
+    copies.reserve(operations.len())?;
+    for operation in operations {
+        copies.push_reserved(operation.copy());
     }
+    Ok(copies)
 }
 
 // Takes the commands that are whole, up to the first that is refused, and answers where the one that is cut

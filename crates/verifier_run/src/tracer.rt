@@ -132,29 +132,24 @@ impl<T: Kept> Tracer<T> {
 }
 
 impl Tracer<Operation> {
-    /// Appends the operations of epochs up to this one to others, and keeps none of these and no part of these epochs.
-    /// For want of memory nothing of it is done.
-    pub(crate) fn take_into(
-        &mut self,
-        through: u32,
-        into: &mut Vec<Operation>,
-    ) -> Result<(), Memory>
-        ensures taken { OnOk result (into.new.items ≡ into.old.items ++ taken_by through self.old) }
-        ensures left { OnOk result (self.new ≡ left_behind through self.old) }
-        ensures err { OnErr result (self.new ≡ self.old) }
-        ensures err_into { OnErr result (into.new.items ≡ into.old.items) }
+    /// The operations of epochs up to this one: they stand in front.
+    pub(crate) fn operations_up_to(&self, through: u32) -> &[Operation]
+        ensures value { result.now ≡ taken_by through self.now }
+    {
+        let operations = self.items.as_slice();
+        front(operations, operations_through(operations, through))
+    }
 
-        // The rest is as it was, either way.
+    /// Keeps no operation and no part of epochs up to this one.
+    pub(crate) fn pass(&mut self, through: u32)
+        ensures left { self.new ≡ left_behind through self.old }
         ensures machine { self.new.machine ≡ self.old.machine }
         ensures refused { self.new.refused ≡ self.old.refused }
     {
         let operations = operations_through(self.items.as_slice(), through);
-        into.reserve(operations)?;
-        append(into, front(self.items.as_slice(), operations));
         let parts = parts_through(self.parts.as_slice(), through);
         self.items.pass(operations);
         self.parts.pass(parts);
-        Ok(())
     }
 }
 
@@ -196,14 +191,4 @@ fn front(operations: &[Operation], len: usize) -> &[Operation]
     ensures value { result.now ≡ take len operations.now }
 {
     &operations[..len]
-}
-
-// Appends operations for which there is room.
-fn append(into: &mut Vec<Operation>, operations: &[Operation])
-    requires room { vec_len into.old + length operations.now ≤ vec_capacity into.old }
-    ensures items { into.new.items ≡ into.old.items ++ operations.now }
-{
-    for operation in operations {
-        into.push_reserved(operation.copy());
-    }
 }

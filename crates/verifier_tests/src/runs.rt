@@ -205,13 +205,14 @@ fn assert_second_left(rt: &impl Abort, run: &Run) {
 #[test]
 fn what_is_taken_is_kept_no_longer(rt: HostRuntime) {
     let mut run = accepted_run(&rt, rt.alloc(), &ToyDigests, PUT_TWICE);
-    let mut taken = run.take(0).expect(&rt, "memory");
+    let taken = run.take(0).expect(&rt, "memory");
     let first = [ab_at_5(&rt, 1, true)];
     same(&rt, "taken", &taken.as_slice(), &first.as_slice());
     assert_second_left(&rt, &run);
-    run.take_into(1, &mut taken).expect(&rt, "memory");
-    same(&rt, "both", &taken.len(), &2);
-    same(&rt, "the second", &index_at(&rt, &taken, 1), &3);
+    same(&rt, "of epoch 0", &run.ops_up_to(0).len(), &0);
+    same(&rt, "of epoch 1", &run.ops_up_to(1).len(), &1);
+    same(&rt, "the second", &index_at(&rt, run.ops_up_to(1), 0), &3);
+    run.pass(1);
     same(&rt, "no put left", &run.ops().len(), &0);
     same(&rt, "no part left", &run.parts().len(), &0);
 }

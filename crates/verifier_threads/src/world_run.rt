@@ -288,7 +288,7 @@ impl<'a, D: Digests + Sync> WorldRun<'a, D> {
         self.end = earlier_end(self.end, end);
         let settled = self.pass_to_seal(rt, last, vault)?;
         let telling = self.telling(receipts);
-        self.rounds.certify(&settled, &telling, out)
+        self.rounds.certify(rt, &settled, &telling, out)
     }
 
     // Hands out what all workers logged in a close: it goes to the vault, and the verifiers' runs take it, each in a thread of its

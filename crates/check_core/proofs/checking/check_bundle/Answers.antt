@@ -11,8 +11,10 @@ use Rattle.bundle_frames.proofs.ReadingLaws.{HasRead-then, TookAtMost-from_read,
 use Rattle.report_text.specs.Ending.{failure_status}
 use Rattle.report_text.specs.Answer.{Reading as ReadBy, Writing, AnswersTo}
 use Rattle.bundle_report.specs.Logs.{empty_logs}
-use Rattle.bundle_report.specs.Answer.{check_answer}
+use Rattle.check_core.specs.Asked.{Asked, asked_answer}
+use Rattle.check_core.specs.Told.{asked_for}
 use Rattle.check_core.specs.Outcomes.{check_status}
+use Rattle.report_text.proofs.AnsweringLaws.{answers-none}
 use Rattle.check_core.proofs.StreamLemmas.{extent-more, near-more, come-more}
 use Rattle.check_core.proofs.BatchLemmas.{by_source}
 use Rattle.check_core.proofs.EndingLemmas.{ends_behind, took_first, cut_answers}
@@ -27,10 +29,26 @@ no_frame P known none frame = subst (λ (h : Option Header). IsSomeAnd h P) none
 fault_no_limit : (r : Result Next Failure) (stop : Failure) → r ≡ Err stop → stop ≡ ReadFault → r ≡ Err InputLimit → ⊥
 fault_no_limit r stop is fault limit = cc
 
+pub returns-in_err-reader-clause-answers : goal.returns-in_err-reader-clause-answers
+returns-in_err-reader-clause-answers g c =
+    let p = err_from_is_err_and c.from_residual.result c.from_residual.ensures.1 in
+    let functions = g.D.Digests.functions c.args.d.now in
+    let asked : Asked = asked_for c.args.told.now functions (g.F.WrittenFold.text_behind c.args.folded.now) in
+    let left = g.S.Source.left c.args.source.now in
+    let faults = g.S.Source.faults c.args.source.now in
+    let held = g.O.Sink.held c.args.out.now in
+    let out_faults = g.O.Sink.faults c.args.out.now in
+    let read : ReadBy = record { left = left; left_after = left; faults = faults; faults_after = faults } in
+    let wrote : Writing = record { held = held; held_after = held; faults = out_faults; faults_after = out_faults } in
+    rw p.1
+    (subst (λ (failure : Failure). AnswersTo (asked_answer asked functions) reading_end c.args.limit (failure_status c.args.limit failure) read wrote) (sym p.2)
+    (answers-none (asked_answer asked functions) reading_end c.args.limit left held faults faults out_faults out_faults))
+
 pub returns-in_err-next-clause-answers : goal.returns-in_err-next-clause-answers
 returns-in_err-next-clause-answers g c =
     let p = err_from_is_err_and c.from_residual-in_err-next.result c.from_residual-in_err-next.ensures.1 in
     let functions = g.D.Digests.functions c.args.d.now in
+    let asked : Asked = asked_for c.args.told.now functions (g.F.WrittenFold.text_behind c.args.folded.now) in
     let limit = c.args.limit in
     let left = g.S.Source.left c.args.source.now in
     let left_then = g.S.Source.left c.next.new.source in
@@ -51,10 +69,10 @@ returns-in_err-next-clause-answers g c =
     let sum : new.taken ≡ old.taken + (new.taken - old.taken) = omega (arith, next.rises) in
     let sum' : limit + 1 ≡ old.taken + (new.limit + 1 - old.taken) = omega (arith, next.rises, next.within, same) in
     rw p.1
-    (subst (λ (failure : Failure). AnswersTo (check_answer c.args.receipts functions) reading_end limit (failure_status limit failure) read wrote) (sym p.2)
-    (cut_answers c.args.receipts functions limit left left_then faults (g.S.Source.faults c.next.new.source) new wrote c.in_err-next.field-0.0
+    (subst (λ (failure : Failure). AnswersTo (asked_answer asked functions) reading_end limit (failure_status limit failure) read wrote) (sym p.2)
+    (cut_answers asked functions limit left left_then faults (g.S.Source.faults c.next.new.source) new wrote c.in_err-next.field-0.0
     (took_first limit left left left_then faults faults _ old new come next.rises same next.within next.near (Err c.in_err-next.field-0.0) c.in_err-next.field-0.0 refl next.took next.limit next.full next.beyond)
-    (due_none c.args.receipts functions limit left left_then faults (g.S.Source.faults c.next.new.source) new
+    (due_none asked functions limit left left_then faults (g.S.Source.faults c.next.new.source) new
     (means_none limit left faults old new opening next.rises (Err c.in_err-next.field-0.0) (λ rest. refl) next.means next.header)
     (next.stopped.no_header ∙ next.header ∙ ap (λ (r : Reading). r.progress.header) opening) wrote refl)
     (λ is. next.fault (ap Err is))
@@ -66,6 +84,7 @@ returns-in_err-next-clause-answers g c =
 pub returns-in-Head-clause-answers : goal.returns-in-Head-clause-answers
 returns-in-Head-clause-answers g c =
     let functions = g.D.Digests.functions c.args.d.now in
+    let asked : Asked = asked_for c.args.told.now functions (g.F.WrittenFold.text_behind c.args.folded.now) in
     let limit = c.args.limit in
     let left = g.S.Source.left c.args.source.now in
     let faults = g.S.Source.faults c.args.source.now in
@@ -82,7 +101,7 @@ returns-in-Head-clause-answers g c =
       faults = g.O.Sink.faults c.args.out.now;
       faults_after = g.O.Sink.faults c.check_frames.new.out;
     } in
-    subst (λ (most : ℕ). AnswersTo (check_answer c.args.receipts functions) reading_end most (check_status most c.check_frames.result) read wrote) same
+    subst (λ (most : ℕ). AnswersTo (asked_answer asked functions) reading_end most (check_status most c.check_frames.result) read wrote) same
     (c.check_frames.ensures.answers left faults
     (come-more left left faults faults _ old new come next.rises (empty_logs c.in-Head.header.verifiers) _ _
     (next.took (λ is. true≢false (ap is_ok is)))
@@ -95,6 +114,7 @@ returns-in-Frame g c = absurd (no_frame _ _ (ap (λ (r : Reading). r.progress.he
 pub returns-clause-answers : goal.returns-clause-answers
 returns-clause-answers g c =
     let functions = g.D.Digests.functions c.args.d.now in
+    let asked : Asked = asked_for c.args.told.now functions (g.F.WrittenFold.text_behind c.args.folded.now) in
     let limit = c.args.limit in
     let left = g.S.Source.left c.args.source.now in
     let left_then = g.S.Source.left c.next.new.source in
@@ -115,7 +135,7 @@ returns-clause-answers g c =
       faults = g.O.Sink.faults c.args.out.now;
       faults_after = g.O.Sink.faults c.write_bad_header-in-End.new.out;
     } in
-    bad_answers c.args.receipts functions limit left left_then faults (g.S.Source.faults c.next.new.source) new
+    bad_answers asked functions limit left left_then faults (g.S.Source.faults c.next.new.source) new
     (means_none limit left faults old new opening next.rises (Ok c.in_ok-next.next) (λ rest. ap (λ (n : Next). next_then (Ok n) new.progress.body rest) c.in-End.is) next.means known)
     ((next.ended ends).no_header ∙ known ∙ ap (λ (r : Reading). r.progress.header) opening) wrote
     c.write_bad_header-in-End.result c.write_bad_header-in-End.ensures.so c.write_bad_header-in-End.ensures.whole c.write_bad_header-in-End.ensures.front

@@ -1,10 +1,11 @@
 use Rattle.std.proofs.Common.{◌^◌, ℕ, List, subst}
 use Rattle.record_hash.specs.ShaDigests.{sha_functions}
 use Rattle.program_words.specs.declared.words.Asked.{Asked}
-use Rattle.program_words.specs.declared.words.Asked.TheVariants.{Check, Audit, Run, Gen, Accept}
+use Rattle.program_words.specs.declared.words.Asked.TheVariants.{Check, Audit, Run, Gen, Accept, Follow}
 use Rattle.bundle_frames.specs.Extent.{reading_end}
 use Rattle.report_text.specs.Answer.{Reading, Writing, AnswersTo}
 use Rattle.bundle_report.specs.Answer.{check_answer}
+use Rattle.follower.specs.Answer.{follow_answer}
 use Rattle.fastver_top.specs.Auditing.{audit_answer}
 use Rattle.fastver_top.specs.Answers.{AnswersFor}
 use Rattle.fastver_top.specs.Running.{Keeping, RunsTo}
@@ -151,6 +152,33 @@ returns-in-Ok-Accept-clause-answers g c = λ asked known.
     subst (λ (a : Asked). AnswersFor a (2 ^ 40) c.accept_text.result read wrote kept) own
     (subst (λ (block : List ℕ). AnswersWhole (accept_answer (sha_functions block)) (2 ^ 40) c.accept_text.result read wrote)
     c.digests_under-in-Ok-Accept.ensures.value c.accept_text.ensures.answers)
+
+pub returns-in-Ok-Follow-clause-answers : goal.returns-in-Ok-Follow-clause-answers
+returns-in-Ok-Follow-clause-answers g c = λ asked known.
+    let read : Reading = record {
+      left = g.S.Source.left c.args.source.now;
+      left_after = g.S.Source.left c.follow.new.source;
+      faults = g.S.Source.faults c.args.source.now;
+      faults_after = g.S.Source.faults c.follow.new.source;
+    } in
+    let wrote : Writing = record {
+      held = g.O.Sink.held c.args.out.now;
+      held_after = g.O.Sink.held c.follow.new.out;
+      faults = g.O.Sink.faults c.args.out.now;
+      faults_after = g.O.Sink.faults c.follow.new.out;
+    } in
+    let kept : Keeping = record {
+      held = g.V.Sink.held c.args.vault.now;
+      held_after = g.V.Sink.held c.args.vault.now;
+      name = g.V.Sink.name c.args.vault.now;
+      name_after = g.V.Sink.name c.args.vault.now;
+      faults = g.V.Sink.faults c.args.vault.now;
+      faults_after = g.V.Sink.faults c.args.vault.now;
+    } in
+    let own = asked_is _ asked (Follow c.in-Ok-Follow.key) c.in-Ok-Follow.field-0 known c.in-Ok-Follow.ensures.asked c.in-Ok-Follow.field-0-is in
+    subst (λ (a : Asked). AnswersFor a (2 ^ 40) c.follow.result read wrote kept) own
+    (subst (λ (block : List ℕ). AnswersTo (follow_answer (sha_functions block)) reading_end (2 ^ 40) c.follow.result read wrote)
+    c.digests_under-in-Ok-Follow.ensures.value c.follow.ensures.answers)
 
 pub returns-in-Err-Memory-clause-answers : goal.returns-in-Err-Memory-clause-answers
 returns-in-Err-Memory-clause-answers g c = λ asked known.

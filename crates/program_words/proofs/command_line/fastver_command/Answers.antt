@@ -13,7 +13,9 @@ returns c =
     c.command_with_key.ensures.app check in
     let run = added c.run_command.result _ _ _ run_app c.in_ok-program-3.ensures.adds c.run_command.ensures.local c.run_command.ensures.app audit in
     let load = added c.gen_command.result _ _ _ gen_app c.in_ok-program-4.ensures.adds c.gen_command.ensures.local c.gen_command.ensures.app run in
+    let accept = added c.command_with_key-2.result _ _ _ (command_with_key (codes "accept")) c.in_ok-program-5.ensures.adds c.command_with_key-2.ensures.local
+    c.command_with_key-2.ensures.app load in
     record {
-      app = added_if_ok c.with_command-5.result c.command_with_key-2.result _ _ (command_with_key (codes "accept")) c.with_command-5.ensures.adds
-          c.command_with_key-2.ensures.local c.command_with_key-2.ensures.app load;
+      app = added_if_ok c.with_command-6.result c.command_with_key-3.result _ _ (command_with_key (codes "follow")) c.with_command-6.ensures.adds
+          c.command_with_key-3.ensures.local c.command_with_key-3.ensures.app accept;
     }

@@ -42,7 +42,7 @@ make-requires g c =
     let count = c.tables_can_be_made.ensures.workers functions old.settings (requests_of old) stands.0 (shown_world old) sized stands.1.behind in
     record {
       making =
-          subst (λ (settings : Settings). IsMaking settings.header settings.header.verifiers c.in_ok-contents.contents.items) (sym c.settings.ensures.value)
+          subst (λ (settings : Settings). IsMaking settings.header settings.header.verifiers c.in_ok-contents.contents.items) (sym c.settings-settings.ensures.value)
           (subst (λ (n : ℕ). IsMaking old.settings.header n c.in_ok-contents.contents.items) count
           (c.tables_can_be_made.ensures.making functions old.settings (requests_of old) stands.0 (shown_world old) c.in_ok-contents.contents.items sized
           stands.1.behind c.requires.counters c.requires.begins c.in_ok-contents.ensures.lent));
@@ -70,7 +70,7 @@ serve_at_table-requires-clause-shared g c κs within =
           (phase_places host (shown_world old) (requests_of old) made c.in_ok-places.places.items stands.1.behind.keys are
           (c.tables_are_of_their_worlds.ensures.places functions old.settings (requests_of old) stands.0 (shown_world old) made sized
           stands.1.behind c.requires.begins.phase lent)));
-      header = subst (λ (settings : Settings). IsHeader settings.header) (sym c.settings.ensures.value) stands.1.behind.settings_fit.header;
+      header = subst (λ (settings : Settings). IsHeader settings.header) (sym c.settings-settings.ensures.value) stands.1.behind.settings_fit.header;
     }
 
 pub serve_at_table-requires-clause-ready : goal.serve_at_table-requires-clause-ready
@@ -80,13 +80,13 @@ serve_at_table-requires-clause-ready g c κs within =
     let stands = c.requires.behind in
     let sized = subst (λ d. GivesDigests (g.D.Digests.functions d).digest) c.digests-d.ensures.value c.digests_have_32_bytes.ensures.sized in
     let made : Terms = terms g.D.Digests.functions c.in-Ok.records in
-    let header = ap (λ (settings : Settings). settings.header) c.settings.ensures.value in
+    let header = ap (λ (settings : Settings). settings.header) c.settings-settings.ensures.value in
     let lent : map shown_content made.contents ≡ all_contents (shown_world old).shards =
     ap (λ (t : Terms). map shown_content t.contents) c.in-Ok.ensures.terms ∙ c.in_ok-contents.ensures.lent in
     let count = c.tables_can_be_made.ensures.workers functions old.settings (requests_of old) stands.0 (shown_world old) sized stands.1.behind in
     let some : _ = (c.tables_can_be_made.ensures.making functions old.settings (requests_of old) stands.0 (shown_world old) made.contents sized
     stands.1.behind c.requires.counters c.requires.begins lent).places in
-    to_serve (host_of functions old) (shown_world old) made (table c.in-Ok.records) c.lend_workers-workers.result.items c.in-Ok.hands.items c.settings.result.header.verifiers
+    to_serve (host_of functions old) (shown_world old) made (table c.in-Ok.records) c.lend_workers-workers.result.items c.in-Ok.hands.items c.settings-settings.result.header.verifiers
     (c.lend_workers-workers.ensures.lent ∙ ap (λ (w : World Content). w.workers) c.in_ok-contents.ensures.left)
     (ap (λ (t : Terms). t.workers) c.in-Ok.ensures.terms)
     (count ∙ sym (ap (λ h. h.verifiers) header))
@@ -145,7 +145,7 @@ returns g c =
     let stands = c.requires.behind in
     let sized = subst (λ d. GivesDigests (g.D.Digests.functions d).digest) c.digests-d.ensures.value c.digests_have_32_bytes.ensures.sized in
     let made : Terms = terms g.D.Digests.functions c.in-Ok.records in
-    let header = ap (λ (settings : Settings). settings.header) c.settings.ensures.value in
+    let header = ap (λ (settings : Settings). settings.header) c.settings-settings.ensures.value in
     let lent : map shown_content made.contents ≡ all_contents (shown_world old).shards =
     ap (λ (t : Terms). map shown_content t.contents) c.in-Ok.ensures.terms ∙ c.in_ok-contents.ensures.lent in
     let count = c.tables_can_be_made.ensures.workers functions old.settings (requests_of old) stands.0 (shown_world old) sized stands.1.behind in
@@ -157,7 +157,7 @@ returns g c =
     c.requires.begins c.requires.running
     (c.tables_are_of_their_worlds.ensures.of_world functions old.settings (requests_of old) stands.0 (shown_world old) made sized stands.1.behind c.requires.begins.phase lent
     (ap (λ (t : Terms). t.digest) c.in-Ok.ensures.terms ∙ ap (λ d. (g.D.Digests.functions d).digest) c.digests-d.ensures.value)
-    (ap (λ (t : Terms). t.absent) c.in-Ok.ensures.terms ∙ ap (λ (s : Settings). s.absent) c.settings.ensures.value)
+    (ap (λ (t : Terms). t.absent) c.in-Ok.ensures.terms ∙ ap (λ (s : Settings). s.absent) c.settings-settings.ensures.value)
     (ap (λ (t : Terms). t.workers) c.in-Ok.ensures.terms ∙ ap (λ h. h.verifiers) header ∙ sym count))
     c.close.ensures.phase
     (c.lend_workers-workers.ensures.lent ∙ ap (λ (w : World Content). w.workers) c.in_ok-contents.ensures.left)
@@ -180,9 +180,9 @@ returns g c =
     let took : HaveReadLogs functions old.settings.header (shown_world new).workers c.args.runs.now.items c.in_ok-left.left.runs.items =
     subst (λ d. HaveReadLogs (g.D.Digests.functions d) old.settings.header (shown_world new).workers c.args.runs.now.items c.in_ok-left.left.runs.items) c.digests-d.ensures.value
     (subst (λ (h : Header). HaveReadLogs (g.D.Digests.functions c.digests-d.result.now) h (shown_world new).workers c.args.runs.now.items c.in_ok-left.left.runs.items) header
-    (subst (λ (runs : List FedRun). HaveReadLogs (g.D.Digests.functions c.digests-d.result.now) c.settings.result.header (shown_world new).workers runs c.in_ok-left.left.runs.items)
+    (subst (λ (runs : List FedRun). HaveReadLogs (g.D.Digests.functions c.digests-d.result.now) c.settings-settings.result.header (shown_world new).workers runs c.in_ok-left.left.runs.items)
     (ap (λ rs. rs.items) c.replace.ensures.value)
-    (subst (λ (workers : List Worker). HaveReadLogs (g.D.Digests.functions c.digests-d.result.now) c.settings.result.header workers c.replace.result.items c.in_ok-left.left.runs.items)
+    (subst (λ (workers : List Worker). HaveReadLogs (g.D.Digests.functions c.digests-d.result.now) c.settings-settings.result.header workers c.replace.result.items c.in_ok-left.left.runs.items)
     (sym workers_are) c.in_ok-left.ensures.taken))) in
     record {
       leads = leads;

@@ -1,11 +1,12 @@
-use Rattle.std.proofs.Common.{◌≡◌, ℕ, ◌+◌, ◌-◌, ◌++◌, List, [], Option, None, Some, IfSome, Bor, slice_get, rules, refl, sym, ◌∙◌, ap, subst, append-nil, append_assoc, arith}
+use Rattle.std.proofs.Common.{◌≡◌, ℕ, ◌+◌, ◌-◌, ◌++◌, List, [], Option, None, Some, IfSome, Bor, slice_get, rules, refl, sym, ◌∙◌, ap, subst, append-nil, arith}
+use Rattle.std.specs.List.{fold}
 use Rattle.std.specs.Slice.{IsItemAt}
 use Rattle.std.proofs.lemmas.Option.{slice_get-get_or}
+use Rattle.std.proofs.lemmas.List.Sums.{fold-append}
 use Rattle.std.proofs.lemmas.Result.{IfOk-from_err}
 use Rattle.fv_outside.specs.Written.{Grows}
 use Rattle.fv_outside.proofs.WrittenLaws.{Grows-nil}
 use Rattle.record_text.specs.declared.operation.Operation.{Operation}
-use Rattle.load_summary.specs.Counting.{counted_of}
 use Rattle.report_text.proofs.PassLaws.{Passes-then, Passes-flush, Passes-front, Passes-stop, on_err}
 use Rattle.epoch_gather.specs.declared.outcome.Verdict.{Verdict}
 use Rattle.bundle_report.specs.declared.judged.Judged.{Judged}
@@ -59,9 +60,9 @@ epochs-preserved g c =
           (turn-alike tell operations_told c.epochs.self (runs_of c.epochs.runs) c.in_ok-certify_next.field-0 now (runs_of c.certify_next.new.runs) text next.turned) c.if-not-branch.false in
           lines-step operations_told (courses_of scheme header logs) header.first c.args.self.now.count c.epochs.self.count now.count inv.operations operations inv.counted more.count
           (inv.operations_are scheme header logs taken) more.text;
-      summed = λ workers before summary_is.
-          next.counted workers (before ++ inv.operations) (inv.summed workers before summary_is)
-          ∙ ap (counted_of workers) (append_assoc before inv.operations operations);
+      folded =
+          next.folded ∙ ap (λ (s : g.T.OperationFold.State). fold g.T.OperationFold.step s operations) inv.folded
+          ∙ sym (fold-append g.T.OperationFold.step (g.T.OperationFold.state c.args.folded.now) inv.operations operations);
       counted = omega (arith, inv.counted, own.count);
       fed_before = inv.fed_before;
       fed = next.fed inv.fed;
@@ -105,21 +106,22 @@ returns-in-Err-clause-front g c = λ scheme header logs taken.
     Passes-stop _ _ _ [] _ (inv.text ++ (turn tell c.epochs.self (runs_of c.epochs.runs)).text) rest.0 _
     (Passes-then _ _ _ _ _ _ _ _ inv.passes c.in_ok-certify_next.ensures.text) c.in-Err.ensures.front rest.1
 
-pub returns-in-Ok-clause-counted : goal.returns-in-Ok-clause-counted
-returns-in-Ok-clause-counted g c = λ scheme header logs workers before taken summary_is.
+pub returns-in-Ok-clause-folded : goal.returns-in-Ok-clause-folded
+returns-in-Ok-clause-folded g c = λ scheme header logs taken.
     let tell = text_by g.D.Digests.functions c.args.telling.now in
     let inv = c.epochs.invariant in
+    let before = g.T.OperationFold.state c.args.folded.now in
     let operations : List Operation = (turn operations_told c.epochs.self (runs_of c.epochs.runs)).text in
     let done = done-turn operations_told scheme header logs c.epochs.self c.certify_next.new.self (runs_of c.epochs.runs) (runs_of c.certify_next.new.runs) c.in_ok-certify_next.field-0
     operations (inv.taken scheme header logs taken) inv.even
     (turn-alike tell operations_told c.epochs.self (runs_of c.epochs.runs) c.in_ok-certify_next.field-0 c.certify_next.new.self (runs_of c.certify_next.new.runs)
     (turn tell c.epochs.self (runs_of c.epochs.runs)).text c.in_ok-certify_next.ensures.turned) c.if-not-branch.true in
-    c.in_ok-certify_next.ensures.counted workers (before ++ inv.operations) (inv.summed workers before summary_is)
-    ∙ ap (counted_of workers)
-    (append_assoc before inv.operations operations
-    ∙ ap (λ (ops : List Operation). before ++ ops)
+    c.in_ok-certify_next.ensures.folded
+    ∙ ap (λ (s : g.T.OperationFold.State). fold g.T.OperationFold.step s operations) inv.folded
+    ∙ sym (fold-append g.T.OperationFold.step before inv.operations operations)
+    ∙ ap (fold g.T.OperationFold.step before)
     (ap (λ (ops : List Operation). inv.operations ++ ops) done.text ∙ append-nil inv.operations ∙ inv.operations_are scheme header logs taken
-    ∙ ap (λ (n : ℕ). lines_from operations_told (courses_of scheme header logs) (header.first + c.args.self.now.count) (n - c.args.self.now.count)) (sym done.count)))
+    ∙ ap (λ (n : ℕ). lines_from operations_told (courses_of scheme header logs) (header.first + c.args.self.now.count) (n - c.args.self.now.count)) (sym done.count))
 
 -- what is known of each verdict that is there is known of one that was looked up
 found_told : (P : Verdict → Type 0) (verdicts : List Verdict) (index : ℕ) (found : Option (Bor Verdict)) → IsItemAt verdicts index found
@@ -128,7 +130,7 @@ found_told P verdicts index None at told = tt
 found_told P verdicts index (Some v) at told = told v.now (slice_get-get_or verdicts index v.now at.3.0 ∙ ap Some (sym at.1))
 
 pub certify_next-requires-clause-handed : goal.certify_next-requires-clause-handed
-certify_next-requires-clause-handed g c =
+certify_next-requires-clause-handed g c κs bounds =
     let inv = c.epochs.invariant in
     let have = c.requires.logs inv.fed_before in
     let now = c.epochs.self in
@@ -151,8 +153,8 @@ returns-in_err-certify_next-clause-taken g c = λ scheme header logs taken. IfOk
 pub returns-in_err-certify_next-clause-lines : goal.returns-in_err-certify_next-clause-lines
 returns-in_err-certify_next-clause-lines g c = λ scheme header logs taken. IfOk-from_err _ _ c.from_residual.ensures.0
 
-pub returns-in_err-certify_next-clause-counted : goal.returns-in_err-certify_next-clause-counted
-returns-in_err-certify_next-clause-counted g c = λ scheme header logs workers before taken summary_is. IfOk-from_err _ _ c.from_residual.ensures.0
+pub returns-in_err-certify_next-clause-folded : goal.returns-in_err-certify_next-clause-folded
+returns-in_err-certify_next-clause-folded g c = λ scheme header logs taken. IfOk-from_err _ _ c.from_residual.ensures.0
 
 pub returns-in_err-certify_next-clause-fed : goal.returns-in_err-certify_next-clause-fed
 returns-in_err-certify_next-clause-fed g c = IfOk-from_err _ _ c.from_residual.ensures.0
@@ -178,13 +180,10 @@ returns-in-Some-clause-lines g c = λ scheme header logs taken.
     (no-lines (text_by g.D.Digests.functions c.args.telling.now) (courses_of scheme header logs) (header.first + c.args.self.now.count) c.args.self.now.count)
     (Grows-nil (g.O.Sink.held c.args.out.now))
 
-pub returns-in-Some-clause-counted : goal.returns-in-Some-clause-counted
-returns-in-Some-clause-counted g c = λ scheme header logs workers before taken summary_is.
-    summary_is
-    ∙ ap (counted_of workers)
-    (sym (append-nil before)
-    ∙ ap (λ (ops : List Operation). before ++ ops)
-    (no-lines operations_told (courses_of scheme header logs) (header.first + c.args.self.now.count) c.args.self.now.count))
+pub returns-in-Some-clause-folded : goal.returns-in-Some-clause-folded
+returns-in-Some-clause-folded g c = λ scheme header logs taken.
+    ap (fold g.T.OperationFold.step (g.T.OperationFold.state c.args.folded.now))
+    (no-lines operations_told (courses_of scheme header logs) (header.first + c.args.self.now.count) c.args.self.now.count)
 
 pub epochs-init : goal.epochs-init
 epochs-init g c =
@@ -200,7 +199,7 @@ epochs-init g c =
       operations = [];
       operations_are = λ scheme header logs taken.
           no-lines operations_told (courses_of scheme header logs) (header.first + c.args.self.now.count) c.args.self.now.count;
-      summed = λ workers before summary_is. summary_is ∙ ap (counted_of workers) (sym (append-nil before));
+      folded = refl;
       counted = omega arith;
       fed_before = fed;
       fed = fed;

@@ -1,8 +1,8 @@
-use Rattle.std.proofs.Common.{◌≡◌, ℕ, ◌+◌, ◌-◌, ◌≤◌, List, [], ◌++◌, length, map, None}
+use Rattle.std.proofs.Common.{◌≡◌, ℕ, ◌+◌, ◌-◌, ◌≤◌, List, [], length, map, None}
+use Rattle.std.specs.List.{fold}
 use Rattle.lamport_clocks.specs.declared.header.Header.{Header}
 use Rattle.merkle_records.specs.Scheme.{Scheme}
 use Rattle.record_text.specs.declared.operation.Operation.{Operation}
-use Rattle.load_summary.specs.Counting.{counted_of}
 use Rattle.report_text.specs.Page.{Passes}
 use Rattle.bundle_report.specs.Report.{operations_told}
 use Rattle.bundle_report.specs.RunReport.{courses_of}
@@ -11,7 +11,7 @@ use Rattle.certified_epochs.specs.Telling.{text_by}
 use Rattle.certified_epochs.specs.Turn.{AreFed, parts_left}
 use Rattle.certified_epochs.proofs.certifier.Certifier.certify.Given as goal
 
--- so many epochs are certified, their lines are written or wait on the page, and their operations are counted
+-- so many epochs are certified, their lines are written or wait on the page, and their operations are added
 abbrev pub invariant-epochs : goal.invariant-epochs
 invariant-epochs g l = record {
   text : List ℕ;
@@ -28,8 +28,7 @@ invariant-epochs g l = record {
   operations_are : (scheme : Scheme) (header : Header) (logs : List (List ℕ))
       → HaveRead scheme header logs l.fn.self (map (λ fed. fed.run) l.fn.runs)
       → operations ≡ lines_from operations_told (courses_of scheme header logs) (header.first + l.fn.self.count) (l.self.count - l.fn.self.count);
-  summed : (workers : ℕ) (before : List Operation)
-      → l.fn.summary ≡ counted_of workers before → l.summary ≡ counted_of workers (before ++ operations);
+  folded : g.T.OperationFold.state l.folded ≡ fold g.T.OperationFold.step (g.T.OperationFold.state l.fn.folded) operations;
   counted : l.fn.self.count ≤ l.self.count;
   fed_before : AreFed l.fn.runs;
   fed : AreFed l.runs;

@@ -1,9 +1,8 @@
-use Rattle.std.proofs.Common.{ℕ, ◌++◌, List, Bor, add-one, sym, ◌∙◌, ap, subst, append-nil, arith}
+use Rattle.std.proofs.Common.{ℕ, ◌++◌, List, map, Bor, add-one, refl, sym, ◌∙◌, ap, subst, arith}
+use Rattle.std.specs.List.{fold}
 use Rattle.std.proofs.lemmas.Result.{IfOk-from_err}
 use Rattle.fv_outside.specs.Written.{GrowsByFront}
 use Rattle.fv_outside.proofs.WrittenLaws.{GrowsByFront-none}
-use Rattle.record_text.specs.declared.operation.Operation.{Operation}
-use Rattle.load_summary.specs.Counting.{counted_of}
 use Rattle.report_text.specs.Page.{Passes}
 use Rattle.report_text.proofs.PassLaws.{Passes-start, on_err}
 use Rattle.epoch_gather.specs.declared.outcome.Verdict.{Verdict}
@@ -11,7 +10,12 @@ use Rattle.bundle_report.specs.declared.judged.Judged.{Judged}
 use Rattle.bundle_report.specs.Report.{operations_told}
 use Rattle.certified_epochs.specs.Telling.{text_by}
 use Rattle.certified_epochs.specs.Turn.{Turned, IsVerdictAt, next_epoch}
-use Rattle.certified_epochs.proofs.TurnLemmas.{runs_of, fed-judged, handed-at, with_text, turn-none, turn-other, turn-balanced, less-left, count-small, err_holds, ok_holds}
+use Rattle.certified_epochs.proofs.TurnLemmas.{runs_of, fed-judged, handed-at, with_text, turn-none, turn-other, turn-balanced, less-left, count-small, fed_courses}
+use Rattle.certified_epochs.proofs.OrderLemmas.{fed-in_order}
+use Rattle.stamp_order.specs.Operations.{merged_up_to}
+use Rattle.verifier_run.specs.Taken.{left_of}
+use Rattle.bundle_report.specs.RunReport.{operations_among}
+use Rattle.certified_epochs.specs.declared.fed_run.FedRun.{FedRun}
 use Rattle.certified_epochs.proofs.certifier.Certifier.certify_next.Goals as goal
 
 -- the text of a turn
@@ -30,12 +34,11 @@ returns-in_default-clause-text g c =
     (turn-none (text_by g.D.Digests.functions c.args.telling.now) c.args.self.now (runs_of c.args.runs.now) c.next_epoch.result c.in_default.is c.next_epoch.ensures.value)))
     (Passes-start (g.O.Sink.held c.args.out.now) c.args.page.now)
 
-pub returns-in_default-clause-counted : goal.returns-in_default-clause-counted
-returns-in_default-clause-counted g c = λ workers before summary_is.
-    summary_is
-    ∙ ap (counted_of workers) (sym (append-nil before))
-    ∙ ap (λ (ops : List Operation). counted_of workers (before ++ ops))
-    (sym (ap text_of (turn-none operations_told c.args.self.now (runs_of c.args.runs.now) c.next_epoch.result c.in_default.is c.next_epoch.ensures.value)))
+pub returns-in_default-clause-folded : goal.returns-in_default-clause-folded
+returns-in_default-clause-folded g c =
+    ap (fold g.T.OperationFold.step (g.T.OperationFold.state c.args.folded.now))
+    (sym (ap text_of
+    (turn-none operations_told c.args.self.now (runs_of c.args.runs.now) c.next_epoch.result c.in_default.is c.next_epoch.ensures.value)))
 
 pub verdict_on-requires : goal.verdict_on-requires
 verdict_on-requires g c = record {
@@ -74,14 +77,18 @@ returns-in-Missing-clause-text g c =
     c.in_ok-verdict_on.ensures.verdict c.self.inside.judged _ (sym c.self.view_is) c.in-Missing.is)))
     (Passes-start (g.O.Sink.held c.args.out.now) c.args.page.now)
 
-pub returns-then-is_err-clause-front : goal.returns-then-is_err-clause-front
-returns-then-is_err-clause-front g c =
-    subst (λ (text : List ℕ). GrowsByFront (g.O.Sink.held c.args.out.now) (g.O.Sink.held c.write_epoch_lines.new.out) (c.args.page.now ++ text))
+pub tell_epoch-requires-clause-in_order : goal.tell_epoch-requires-clause-in_order
+tell_epoch-requires-clause-in_order g c κs within = fed-in_order c.args.self.now c.args.runs.now c.requires.logs
+
+pub returns-in_err-tell_epoch-clause-front : goal.returns-in_err-tell_epoch-clause-front
+returns-in_err-tell_epoch-clause-front g c =
+    on_err _
+    (subst (λ (text : List ℕ). GrowsByFront (g.O.Sink.held c.args.out.now) (g.O.Sink.held c.tell_epoch.new.out) (c.args.page.now ++ text))
     (sym (ap text_of
     (turn-balanced (text_by g.D.Digests.functions c.args.telling.now) c.args.self.now c.args.runs.now c.next_epoch.result c.in-Some.epoch c.in_ok-verdict_on.field-0 c.in-Some.is c.next_epoch.ensures.value
     c.in_ok-verdict_on.ensures.verdict c.self.inside.judged _
-    (runs_of c.take.new.runs) c.deref-2.result.now (sym c.self.view_is) (add-one c.self.inside.judged.count) c.in-Balanced.is c.in_ok-take.ensures.left (c.deref-2.ensures.value ∙ c.in_ok-take.ensures.operations))))
-    (err_holds _ c.write_epoch_lines.result (sym c.is_err.ensures.value ∙ c.if-is_err.true) c.write_epoch_lines.ensures.front)
+    (map (λ (fed : FedRun). left_of c.in-Some.epoch fed.run) c.args.runs.now) (merged_up_to c.in-Some.epoch (operations_among (fed_courses c.args.runs.now))) (sym c.self.view_is) refl c.in-Balanced.is refl refl)))
+    c.in_err-tell_epoch.ensures.front)
 
 pub one_more-self-inside-requires : goal.one_more-self-inside-requires
 one_more-self-inside-requires g c = record {
@@ -96,53 +103,43 @@ returns-clause-turned g c =
     with_text _ _ _ _ _
     (turn-balanced (text_by g.D.Digests.functions c.args.telling.now) c.args.self.now c.args.runs.now c.next_epoch.result c.in-Some.epoch c.in_ok-verdict_on.field-0 c.in-Some.is c.next_epoch.ensures.value
     c.in_ok-verdict_on.ensures.verdict c.self.inside.judged _
-    (runs_of c.take.new.runs) c.deref.result.now (sym c.self.view_is) (c.one_more-self-inside.ensures.value ∙ add-one c.self.inside.judged.count) c.in-Balanced.is c.in_ok-take.ensures.left (c.deref.ensures.value ∙ c.in_ok-take.ensures.operations))
+    (runs_of c.pass_all.new.runs) (merged_up_to c.in-Some.epoch (operations_among (fed_courses c.args.runs.now))) (sym c.self.view_is) (c.one_more-self-inside.ensures.value ∙ add-one c.self.inside.judged.count) c.in-Balanced.is c.pass_all.ensures.left refl)
 
 pub returns-clause-text : goal.returns-clause-text
 returns-clause-text g c =
-    subst (λ (text : List ℕ). Passes (g.O.Sink.held c.args.out.now) c.args.page.now text (g.O.Sink.held c.write_epoch_lines.new.out) c.write_epoch_lines.new.page)
+    subst (λ (text : List ℕ). Passes (g.O.Sink.held c.args.out.now) c.args.page.now text (g.O.Sink.held c.tell_epoch.new.out) c.tell_epoch.new.page)
     (sym (ap text_of
     (turn-balanced (text_by g.D.Digests.functions c.args.telling.now) c.args.self.now c.args.runs.now c.next_epoch.result c.in-Some.epoch c.in_ok-verdict_on.field-0 c.in-Some.is c.next_epoch.ensures.value
     c.in_ok-verdict_on.ensures.verdict c.self.inside.judged _
-    (runs_of c.take.new.runs) c.deref-2.result.now (sym c.self.view_is) (add-one c.self.inside.judged.count) c.in-Balanced.is c.in_ok-take.ensures.left (c.deref-2.ensures.value ∙ c.in_ok-take.ensures.operations))))
-    (ok_holds _ c.write_epoch_lines.result (sym c.is_err.ensures.value ∙ c.if-is_err.false) c.write_epoch_lines.ensures.whole)
+    (runs_of c.pass_all.new.runs) (merged_up_to c.in-Some.epoch (operations_among (fed_courses c.args.runs.now))) (sym c.self.view_is) (c.one_more-self-inside.ensures.value ∙ add-one c.self.inside.judged.count) c.in-Balanced.is c.pass_all.ensures.left refl)))
+    c.in_ok-tell_epoch.ensures.whole
 
 pub returns-clause-less : goal.returns-clause-less
 returns-clause-less g c = λ done.
-    less-left c.in-Some.epoch c.args.runs.now c.take.new.runs c.next_epoch.result c.in-Some.is c.next_epoch.ensures.value c.in_ok-take.ensures.left
+    less-left c.in-Some.epoch c.args.runs.now c.pass_all.new.runs c.next_epoch.result c.in-Some.is c.next_epoch.ensures.value c.pass_all.ensures.left
 
-pub returns-in-Unbalanced-clause-counted : goal.returns-in-Unbalanced-clause-counted
-returns-in-Unbalanced-clause-counted g c = λ workers before summary_is.
-    summary_is
-    ∙ ap (counted_of workers) (sym (append-nil before))
-    ∙ ap (λ (ops : List Operation). counted_of workers (before ++ ops))
+pub returns-in-Unbalanced-clause-folded : goal.returns-in-Unbalanced-clause-folded
+returns-in-Unbalanced-clause-folded g c =
+    ap (fold g.T.OperationFold.step (g.T.OperationFold.state c.args.folded.now))
     (sym (ap text_of
     (turn-other operations_told c.args.self.now c.args.runs.now c.next_epoch.result c.in-Some.epoch c.in_ok-verdict_on.field-0 c.in-Some.is c.next_epoch.ensures.value
     c.in_ok-verdict_on.ensures.verdict c.self.inside.judged _ (sym c.self.view_is) c.in-Unbalanced.is)))
 
-pub returns-in-Missing-clause-counted : goal.returns-in-Missing-clause-counted
-returns-in-Missing-clause-counted g c = λ workers before summary_is.
-    summary_is
-    ∙ ap (counted_of workers) (sym (append-nil before))
-    ∙ ap (λ (ops : List Operation). counted_of workers (before ++ ops))
+pub returns-in-Missing-clause-folded : goal.returns-in-Missing-clause-folded
+returns-in-Missing-clause-folded g c =
+    ap (fold g.T.OperationFold.step (g.T.OperationFold.state c.args.folded.now))
     (sym (ap text_of
     (turn-other operations_told c.args.self.now c.args.runs.now c.next_epoch.result c.in-Some.epoch c.in_ok-verdict_on.field-0 c.in-Some.is c.next_epoch.ensures.value
     c.in_ok-verdict_on.ensures.verdict c.self.inside.judged _ (sym c.self.view_is) c.in-Missing.is)))
 
-pub returns-clause-counted : goal.returns-clause-counted
-returns-clause-counted g c = λ workers before summary_is.
-    c.in_ok-count.ensures.counted workers before summary_is
-    ∙ ap (λ (ops : List Operation). counted_of workers (before ++ ops))
+pub returns-clause-folded : goal.returns-clause-folded
+returns-clause-folded g c =
+    c.in_ok-tell_epoch.ensures.folded
+    ∙ ap (fold g.T.OperationFold.step (g.T.OperationFold.state c.args.folded.now))
     (sym (ap text_of
     (turn-balanced operations_told c.args.self.now c.args.runs.now c.next_epoch.result c.in-Some.epoch c.in_ok-verdict_on.field-0 c.in-Some.is c.next_epoch.ensures.value
     c.in_ok-verdict_on.ensures.verdict c.self.inside.judged _
-    (runs_of c.take.new.runs) c.deref.result.now (sym c.self.view_is) (add-one c.self.inside.judged.count) c.in-Balanced.is c.in_ok-take.ensures.left (c.deref.ensures.value ∙ c.in_ok-take.ensures.operations))))
-
-pub returns-in_err-take-clause-front : goal.returns-in_err-take-clause-front
-returns-in_err-take-clause-front g c = on_err _ (GrowsByFront-none (g.O.Sink.held c.args.out.now) _)
-
-pub returns-in_err-count-clause-front : goal.returns-in_err-count-clause-front
-returns-in_err-count-clause-front g c = on_err _ (GrowsByFront-none (g.O.Sink.held c.args.out.now) _)
+    (runs_of c.pass_all.new.runs) (merged_up_to c.in-Some.epoch (operations_among (fed_courses c.args.runs.now))) (sym c.self.view_is) (c.one_more-self-inside.ensures.value ∙ add-one c.self.inside.judged.count) c.in-Balanced.is c.pass_all.ensures.left refl)))
 
 pub returns-in_err-verdict_on-clause-front : goal.returns-in_err-verdict_on-clause-front
 returns-in_err-verdict_on-clause-front g c = on_err _ (GrowsByFront-none (g.O.Sink.held c.args.out.now) _)
@@ -153,23 +150,14 @@ returns-in_err-verdict_on-clause-turned g c = IfOk-from_err _ _ c.from_residual.
 pub returns-in_err-verdict_on-clause-text : goal.returns-in_err-verdict_on-clause-text
 returns-in_err-verdict_on-clause-text g c = IfOk-from_err _ _ c.from_residual.ensures.0
 
-pub returns-in_err-verdict_on-clause-counted : goal.returns-in_err-verdict_on-clause-counted
-returns-in_err-verdict_on-clause-counted g c = λ workers before summary_is. IfOk-from_err _ _ c.from_residual.ensures.0
+pub returns-in_err-verdict_on-clause-folded : goal.returns-in_err-verdict_on-clause-folded
+returns-in_err-verdict_on-clause-folded g c = IfOk-from_err _ _ c.from_residual.ensures.0
 
-pub returns-in_err-take-clause-turned : goal.returns-in_err-take-clause-turned
-returns-in_err-take-clause-turned g c = IfOk-from_err _ _ c.from_residual-in_err-take.ensures.0
+pub returns-in_err-tell_epoch-clause-turned : goal.returns-in_err-tell_epoch-clause-turned
+returns-in_err-tell_epoch-clause-turned g c = IfOk-from_err _ _ c.from_residual-in_err-tell_epoch.ensures.0
 
-pub returns-in_err-take-clause-text : goal.returns-in_err-take-clause-text
-returns-in_err-take-clause-text g c = IfOk-from_err _ _ c.from_residual-in_err-take.ensures.0
+pub returns-in_err-tell_epoch-clause-text : goal.returns-in_err-tell_epoch-clause-text
+returns-in_err-tell_epoch-clause-text g c = IfOk-from_err _ _ c.from_residual-in_err-tell_epoch.ensures.0
 
-pub returns-in_err-take-clause-counted : goal.returns-in_err-take-clause-counted
-returns-in_err-take-clause-counted g c = λ workers before summary_is. IfOk-from_err _ _ c.from_residual-in_err-take.ensures.0
-
-pub returns-in_err-count-clause-turned : goal.returns-in_err-count-clause-turned
-returns-in_err-count-clause-turned g c = IfOk-from_err _ _ c.from_residual-in_err-count.ensures.0
-
-pub returns-in_err-count-clause-text : goal.returns-in_err-count-clause-text
-returns-in_err-count-clause-text g c = IfOk-from_err _ _ c.from_residual-in_err-count.ensures.0
-
-pub returns-in_err-count-clause-counted : goal.returns-in_err-count-clause-counted
-returns-in_err-count-clause-counted g c = λ workers before summary_is. IfOk-from_err _ _ c.from_residual-in_err-count.ensures.0
+pub returns-in_err-tell_epoch-clause-folded : goal.returns-in_err-tell_epoch-clause-folded
+returns-in_err-tell_epoch-clause-folded g c = IfOk-from_err _ _ c.from_residual-in_err-tell_epoch.ensures.0

@@ -18,7 +18,7 @@ as_lent now judged items lent bytes summary same is =
     sym is ∙ ap (λ (runs : List FedRun). let s : RunsSoFar = record { judged = judged; runs = runs; bytes = bytes; summary = summary } in s) (sym same)
 
 pub certify-requires-clause-few : goal.certify-requires-clause-few
-certify-requires-clause-few g c =
+certify-requires-clause-few g c κs within =
     omega (arith, ap length c.as_mut_slice-runs.ensures.value, ap (λ (s : RunsSoFar). length s.runs) c.self.view_is, runs-few c.args.self.now c.requires.runs)
 
 pub returns-in_err-certify-clause-front : goal.returns-in_err-certify-clause-front
@@ -40,12 +40,12 @@ returns-clause-runs g c = λ functions header logs have.
     let lent : RunsSoFar = record { judged = inside.certifier; runs = c.as_mut_slice-runs.result.now; bytes = inside.bytes; summary = inside.summary } in
     let is : c.args.self.now ≡ lent = as_lent c.args.self.now inside.certifier inside.runs.items c.as_mut_slice-runs.result.now inside.bytes inside.summary c.as_mut_slice-runs.ensures.value c.self.view_is in
     let run = subst (HaveRun functions header logs) is have in
-    let now : RunsSoFar = record { judged = c.certify.new.self; runs = c.certify.new.runs; bytes = inside.bytes; summary = c.certify.new.summary } in
+    let now : RunsSoFar = record { judged = c.certify.new.self; runs = c.certify.new.runs; bytes = inside.bytes; summary = c.certify.new.folded } in
     let back = lent_back inside.runs.len c.certify.new.runs inside.runs.items inside.runs.ok.0 (c.certify.ensures.len ∙ ap length c.as_mut_slice-runs.ensures.value) in
-    subst (λ (runs : List FedRun). HaveRun functions header logs (record { judged = c.certify.new.self; runs = runs; bytes = inside.bytes; summary = c.certify.new.summary })) (sym back)
+    subst (λ (runs : List FedRun). HaveRun functions header logs (record { judged = c.certify.new.self; runs = runs; bytes = inside.bytes; summary = c.certify.new.folded })) (sym back)
     (certified-run functions header logs lent run now (c.in_ok-certify.ensures.taken (scheme_of functions header) header logs run.taken)
     c.in_ok-certify.ensures.fed.1 refl (c.in_ok-certify.ensures.judged (scheme_of functions header) header logs run.taken)
-    (λ workers before counted. c.in_ok-certify.ensures.counted (scheme_of functions header) header logs workers before run.taken counted))
+    (c.in_ok-certify.ensures.folded (scheme_of functions header) header logs run.taken))
 
 pub returns-clause-due : goal.returns-clause-due
 returns-clause-due g c = λ functions header logs held have written.
@@ -55,7 +55,7 @@ returns-clause-due g c = λ functions header logs held have written.
     let run = subst (HaveRun functions header logs) is have in
     let scheme = scheme_of functions header in
     let before = g.O.Sink.held c.args.out.now in
-    let now : RunsSoFar = record { judged = c.certify.new.self; runs = c.certify.new.runs; bytes = inside.bytes; summary = c.certify.new.summary } in
+    let now : RunsSoFar = record { judged = c.certify.new.self; runs = c.certify.new.runs; bytes = inside.bytes; summary = c.certify.new.folded } in
     all-due functions header logs lent run now (c.in_ok-certify.ensures.taken scheme header logs run.taken) (text_by g.D.Digests.functions c.args.telling.now) held before (g.O.Sink.held c.certify.new.out)
     (c.in_ok-certify.ensures.judged scheme header logs run.taken)
     (subst (λ (s : RunsSoFar). Grows held before (lines_counted (text_by g.D.Digests.functions c.args.telling.now) functions header logs s)) is written)
@@ -68,6 +68,6 @@ returns-clause-counted g c = λ tell functions header logs have.
     let is : c.args.self.now ≡ lent = as_lent c.args.self.now inside.certifier inside.runs.items c.as_mut_slice-runs.result.now inside.bytes inside.summary c.as_mut_slice-runs.ensures.value c.self.view_is in
     let run = subst (HaveRun functions header logs) is have in
     let scheme = scheme_of functions header in
-    let now : RunsSoFar = record { judged = c.certify.new.self; runs = c.certify.new.runs; bytes = inside.bytes; summary = c.certify.new.summary } in
+    let now : RunsSoFar = record { judged = c.certify.new.self; runs = c.certify.new.runs; bytes = inside.bytes; summary = c.certify.new.folded } in
     counted-due functions header logs lent run now (c.in_ok-certify.ensures.taken scheme header logs run.taken) tell
     (c.in_ok-certify.ensures.judged scheme header logs run.taken)

@@ -46,8 +46,8 @@ pass_to_seal-requires-clause-runs g c κs within = (
   c.requires.runs.3,
 )
 
-pub certify-requires : goal.certify-requires
-certify-requires g c =
+pub certify-requires-clause-runs : goal.certify-requires-clause-runs
+certify-requires-clause-runs g c κs within =
     let functions = g.D.Digests.functions in
     let old = c.args.self.now.world in
     let phase = (shown_world old).phase in
@@ -61,10 +61,11 @@ certify-requires g c =
     (behind-close (host_of (functions (digests_of old)) old) (shown_world old) (shown_world middle) c.args.last c.args.self.now.end c.in_ok-end.end c.requires.served c.requires.last
     (λ is last. says.rests (ap (λ (e : Option ClockEnd). Ok e) is) last) says.ended (λ is going. says.opened (ap (λ (e : Option ClockEnd). Ok e) is) going))) in
     let next = c.in_ok-settled.ensures.runs c.requires.runs.0 c.requires.runs.1 led.past led.runs stands c.requires.runs.3 in
-    record {
-      runs = (_, _, _, next.running.keeps.runs);
-      settled = subst (AreVerdictsOn c.pass_to_seal.new.self.rounds.judged (map (λ fed. fed.run) c.pass_to_seal.new.self.rounds.runs)) (sym c.deref.ensures.value) c.in_ok-settled.ensures.settled;
-    }
+    (_, _, _, next.running.keeps.runs)
+
+pub certify-requires-clause-settled : goal.certify-requires-clause-settled
+certify-requires-clause-settled g c κs within =
+    subst (AreVerdictsOn c.pass_to_seal.new.self.rounds.judged (map (λ fed. fed.run) c.pass_to_seal.new.self.rounds.runs)) (sym c.deref.ensures.value) c.in_ok-settled.ensures.settled
 
 pub returns-in_err-end-clause-cut : goal.returns-in_err-end-clause-cut
 returns-in_err-end-clause-cut g c = λ outputs runs held written.

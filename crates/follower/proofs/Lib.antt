@@ -1,0 +1,2 @@
+-- The lines of entries, as those of all keys.
+mod KeyLemmas
