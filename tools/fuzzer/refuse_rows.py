@@ -107,7 +107,7 @@ def evidence(epoch=0, flipped=0):
 
 
 def reader_rows():
-    """Checks, audits and acceptances."""
+    """Checks, audits, follows and acceptances."""
     with open(BUNDLE, "rb") as file:
         bundle = file.read()
     hot = run_row("", TOGETHER, "--hot", "2", workers=2)
@@ -123,6 +123,9 @@ def reader_rows():
         Row("audit", ["audit", *KEY], bundle),
         Row("audit of two workers", ["audit", *KEY], vault),
         Row("audit of two workers, slots", ["audit", *KEY], by_slots),
+        Row("follow", ["follow", *KEY], bundle),
+        Row("follow of two workers", ["follow", *KEY], vault),
+        Row("follow of what is unbalanced", ["follow", *KEY], unbalanced()),
         Row("accept", ["accept", *KEY], evidence()),
         Row("accept, not tagged", ["accept", *KEY], evidence(flipped=1)),
         Row("accept, not certified", ["accept", *KEY], evidence(epoch=1)),
@@ -138,6 +141,7 @@ def host_rows():
         run_row("run", SCRIPT),
         run_row("run of nothing", b""),
         run_row("run, receipts", SCRIPT, "--receipts"),
+        run_row("run, absent", SCRIPT + b"0 get 7\n", "--absent"),
         run_row("run, slots", SCRIPT, "--format", "2"),
         run_row("run of a clock that ends", SCRIPT, "--counter", "4"),
         run_row("run of a bad line", SCRIPT + b"0 put 05 61\n"),
