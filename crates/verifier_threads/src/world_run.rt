@@ -38,7 +38,8 @@ use merkle_records::digests_have_32_bytes;
 use record_hash::Digests;
 use report_text::BundleEnd;
 use run_reports::{
-    a_check_of_the_logs_ends_as_the_host_promises, logs_come_to_rest, logs_of_no_bytes_certify_nothing, the_contents_hold_what_a_check_certifies,
+    a_check_of_the_logs_ends_as_the_host_promises, logs_come_to_rest,
+    logs_of_no_bytes_certify_nothing, the_contents_hold_what_a_check_certifies,
 };
 use std::alloc::Global;
 use std::sync::Wait;

@@ -8,7 +8,7 @@ use Rattle.verifier_threads.specs.declared.runner.NextCall.TheVariants as calls
 use Rattle.verifier_threads.specs.declared.runner.State.TheVariants as states
 use Rattle.verifier_threads.specs.declared.ending.RunEnd.TheVariants as ends
 use Rattle.verifier_threads.specs.Serving.{Outputs, IfDone, HoldsWhatIsCertified, IsServed, IsCutAtEnd}
-use Rattle.verifier_threads.specs.Runners.{StandsFor, KeepsWhatIsCertified}
+use Rattle.verifier_threads.specs.Runners.{StandsFor}
 use Rattle.verifier_threads.proofs.CallLemmas.{run_of-these, stands-of, finish-needs, finish-runs, if_ok-then}
 use Rattle.verifier_threads.proofs.runner.Runner.finish.Goals as goal
 
@@ -85,5 +85,5 @@ returns-in-Served-clause-holds g c = λ account own settings script outputs stan
 
 pub returns-in-Unserved-clause-holds : goal.returns-in-Unserved-clause-holds
 returns-in-Unserved-clause-holds g c = λ account own settings script outputs stands.
-    if_ok-then (λ end. end ≡ ends.ClockEnd c.in-Unserved.end) (λ end. IfDone end (KeepsWhatIsCertified own settings c.args.self.now outputs)) c.end_unserved.result c.end_unserved.ensures.ended
-    (λ end is. subst (λ e. IfDone e (KeepsWhatIsCertified own settings c.args.self.now outputs)) (sym is) tt)
+    if_ok-then (λ end. end ≡ ends.ClockEnd c.in-Unserved.end) (λ end. IfDone end ⊥) c.end_unserved.result c.end_unserved.ensures.ended
+    (λ end is. subst (λ e. IfDone e ⊥) (sym is) tt)
