@@ -132,8 +132,8 @@ all_after stamp lasts (x ∷ xs) early late = (
 )
 
 module _ {X C : Type 0} (followed : Followed X C) (Told : X → List Event → Type 0) (Kept : X → ℕ → List Event → List C → Type 0) where
-  -- Of a thing: what holds of the events about it, and of these with the contents of its shard; and all of them were up to the stamp since
-  -- which it waits.
+  -- Of a thing: what holds of the events about it, and of these with the contents of its shard; and all of them were up to the
+  -- stamp since which it waits.
   pub record IsFollowed (x : X) (events : List Event) (contents : ℕ → List C) : Type 0 where
     pub told_so : Told x (followed_in followed x events)
     pub kept : (s : ℕ) → followed.home x ≡ Some s → Kept x s (followed_in followed x events) (contents s)

@@ -5,7 +5,7 @@
 //! the laws take that each such deed fits: a verifier at rest accepts it, it adds the elements that waited at its places,
 //! evicts those that wait there then, and leaves the verifier at rest (`IsFit`). From this it follows of every list of
 //! enabled events that each log is accepted, answers what the script asks, and that each epoch that all have sealed is
-//! certified.
+//! certified. Where each operation is done where its key's value is held (`IsStoring`), the contents hold the plain map.
 //!
 //! The crate stands on `soundness`, whose histories it speaks of; it has no code to run. Begin with `laws.rt`, then read
 //! `specs/` in the order of its `Lib.antt`.

@@ -143,8 +143,8 @@ own_shard setting s contents key places mirrors own = go (nat_lt (suc (bits_in s
 
 module _ (setting : Setting) (worker : ℕ) (from last : State) (commands : List Command) (told : Told) (s : ℕ) (old new : List Content)
     (request : Request) (answer : Option (List ℕ)) where
-  -- What is known of it: it does the request's access; its key is the shard's, and what is held then is what the request leaves; and it is
-  -- done behind the stamp since which the key waits, and up to the one since which it waits then.
+  -- What is known of it: it does the request's access; its key is the shard's, and what is held then is what the request leaves; and
+  -- it is done behind the stamp since which the key waits, and up to the one since which it waits then.
   pub record OneAccess : Type 0 where
     pub runs_so : run (rules_under (scheme (ranged setting)) setting.settings.header worker) from commands ≡ Ok (told, last)
     pub access : accesses_told told ≡ access_for request answer ∷ []

@@ -1,5 +1,5 @@
 -- How it is proved that the host fits the machine, in reading order: what it keeps, what is told of a run as events, a
--- request, a close, the setup, and the whole.
+-- request, a close, the setup, and the whole; and that the contents hold the plain map.
 mod Keeping
 mod EventLemmas
 mod DeedLemmas

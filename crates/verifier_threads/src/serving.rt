@@ -20,9 +20,10 @@ use std::thread::Threads;
 /// of their logs, and the sink what is to be written of it: the report of what these certify, with receipts or without, or the
 /// summary of a load. The gate is passed before each request.
 ///
-/// At `Ok` all of it is written, and the answer says how it ends: where no clock ended the script is served and each of its phases
-/// certified. At an error the vault has a front of the bundle of the script's logs, as far as it was served, and the sink a front of the
-/// lines that these bytes certify, and of a summary nothing; or, where the sink failed at the end, a front of the report or summary.
+/// At `Ok` all of it is written, and the answer says how it ends: where no clock ended the script is served, each of its phases is
+/// certified, and the host's contents hold the plain map that the bundle certifies. At an error the vault has a front of the bundle of
+/// the script's logs, as far as it was served, and the sink a front of the lines that these bytes certify, and of a summary nothing; or,
+/// where the sink failed at the end, a front of the report or summary.
 pub fn serve<R: Threads + Wait + Sync, D: Digests + Sync, V: Sink, O: Sink, G: Gate + Sync>(
     rt: &R,
     alloc: Global,
