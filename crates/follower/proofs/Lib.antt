@@ -1,2 +1,3 @@
--- The lines of entries, as those of all keys.
+-- The lines of entries, as those of all keys, and the map as the plain map.
 mod KeyLemmas
+mod MapLemmas
