@@ -25,6 +25,7 @@ fn told(answer: &Result<Asked, WordsFault>) -> (&str, &[u8]) {
         Ok(Asked::Run(run)) => ("run", run.key.as_slice()),
         Ok(Asked::Gen(load)) => ("gen", load.key.as_slice()),
         Ok(Asked::Accept(key)) => ("accept", key.as_slice()),
+        Ok(Asked::Follow(key)) => ("follow", key.as_slice()),
         Err(WordsFault::Usage) => ("usage", b""),
         Err(WordsFault::Memory) => ("memory", b""),
     }
@@ -52,6 +53,8 @@ fastver gen --ops=0 --seed=0 --shards=2 --verifiers=1 --key=00112233445566778899
 fastver accept --key 00112233445566778899aabbccddeeff | accept | 00112233445566778899aabbccddeeff
 fastver accept --key=00112233445566778899AABBCCDDEEFF | accept | 00112233445566778899aabbccddeeff
 fastver accept --key 303132333435363738393a3b3c3d3e3f404142434445464748494a4b4c4d4e4f505152535455565758595a5b5c5d5e5f606162636465666768696a6b6c6d6e6f | accept | most
+fastver follow --key 00112233445566778899aabbccddeeff | follow | 00112233445566778899aabbccddeeff
+fastver follow --key=00112233445566778899AABBCCDDEEFF | follow | 00112233445566778899aabbccddeeff
 ";
 
 const MOST_BYTES: &str = "0123456789:;<=>?@ABCDEFGHIJKLMNOPQRSTUVWXYZ[\\]^_`abcdefghijklmno";
@@ -115,6 +118,9 @@ fastver accept --key 00112233445566778899aabbccddeeff --key 00112233445566778899
 fastver accept --key 00112233445566778899aabbccddeeff more | a word more for an accept
 fastver accept --key 00112233445566778899aabbccddeeff --shards 2 | an option of a run for an accept
 fastver accept --key 00112233445566778899aabbccddeeff --seed 0 | an option of a load for an accept
+fastver follow | no key to follow under
+fastver follow --key 00112233445566778899aabbccddeeff --receipts | receipts of a follower
+fastver follow --key 00112233445566778899aabbccddeeff --shards 2 | an option of a run for a follower
 fastver Accept --key 00112233445566778899aabbccddeeff | a capital letter
 check --key 00112233445566778899aabbccddeeff | no name
 fastver check --key 00112233445566778899aabbccddeeff --shards 2 | an option of a run
