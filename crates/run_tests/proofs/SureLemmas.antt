@@ -3,7 +3,7 @@ use Rattle.std.proofs.Common.{◌≡◌, ℕ, ◌<◌, ◌⊎◌, List, Option, 
 use Rattle.std.specs.Prelude.{◌≢◌, ◌^◌, ◌-◌}
 use Rattle.fv_outside.specs.Faults.{Rose}
 use Rattle.program_words.specs.declared.words.Asked.{Asked}
-use Rattle.program_words.specs.declared.words.Asked.TheVariants.{Check, Audit, Run, Gen, Accept}
+use Rattle.program_words.specs.declared.words.Asked.TheVariants.{Check, Audit, Run, Gen, Accept, Follow}
 use Rattle.report_text.specs.declared.status.Status.{Status}
 use Rattle.report_text.specs.declared.status.Status.TheVariants as statuses
 use Rattle.report_text.specs.Answer.{Reading, Writing}
@@ -23,6 +23,7 @@ read (Audit key) most reading writing keeping of answers = answers.read_fault re
 read (Run run) most reading writing keeping of answers = answers.read_fault refl
 read (Gen load) most reading writing keeping of answers = absurd of
 read (Accept key) most reading writing keeping of answers = answers.read_fault refl
+read (Follow key) most reading writing keeping of answers = answers.read_fault refl
 
 -- a write fault only where the sink's did
 write : (asked : Asked) (most : ℕ) (reading : Reading) (writing : Writing) (keeping : Keeping)
@@ -32,6 +33,7 @@ write (Audit key) most reading writing keeping answers = answers.write_fault ref
 write (Run run) most reading writing keeping answers = answers.write_fault refl
 write (Gen load) most reading writing keeping answers = answers.write_fault refl
 write (Accept key) most reading writing keeping answers = answers.write_fault refl
+write (Follow key) most reading writing keeping answers = answers.write_fault refl
 
 -- a vault fault only where the vault's did
 vault : (asked : Asked) (most : ℕ) (reading : Reading) (writing : Writing) (keeping : Keeping)
@@ -41,6 +43,7 @@ vault (Audit key) most reading writing keeping of answers = absurd of
 vault (Run run) most reading writing keeping of answers = answers.vault_fault refl
 vault (Gen load) most reading writing keeping of answers = answers.vault_fault refl
 vault (Accept key) most reading writing keeping of answers = absurd of
+vault (Follow key) most reading writing keeping of answers = absurd of
 
 module _ (o : Option Asked) (status : Status) (reading : Reading) (writing : Writing) (keeping : Keeping)
     (can : CanEndWith (rules_for o) status)
