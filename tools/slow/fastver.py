@@ -252,7 +252,8 @@ def fastver(words, data, device=0):
     """The answer to these words with this input and device, and where its vault goes, if anywhere."""
     try:
         options = options_of(words)
-        return obeyed(words[0], options, data, device), options.get("--logs") or options.get("--seal")
+        path = options.get("--logs")
+        return obeyed(words[0], options, data, device), options.get("--seal") if path is None else path
     except Usage:
         return Answer(b"", 1, "fastver: usage\n"), None
     except BadScript as bad:
