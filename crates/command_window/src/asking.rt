@@ -181,7 +181,7 @@ fn push_told(text: &mut ArrayVec<u8, LONGEST_ELEMENT_TEXT>, value: &Told<'_>)
 {
     match value {
         Told::Value(value) => push_value(text, value),
-        Told::Data(blob) => push_blob(text, blob),
+        Told::Data(blob) => push_blob(text, &blob.by_ref()),
     }
 }
 

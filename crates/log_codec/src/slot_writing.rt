@@ -123,6 +123,6 @@ fn with_blob(tag: u8, slot: u16, value: &Blob) -> ArrayVec<u8, LONGEST_SLOT_COMM
     ensures text { result.items ≡ tag ∷ slot_text slot ++ blob_text value.now }
 {
     let mut text = tagged(tag, slot);
-    push_blob(&mut text, value);
+    push_blob(&mut text, &value.by_ref());
     text
 }

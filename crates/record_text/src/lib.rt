@@ -5,10 +5,11 @@
 //! The crate stands on `tree_keys`, `lamport_clocks` and the kit's `arrayvec`. Begin with the types in
 //! `value.rt`, then `Reader` in `reader.rt` and the writers in `writing.rt`; `laws.rt` says that no text
 //! begins another, and what a text that is cut short is read as. What a get or put reports stands in
-//! `operation.rt`, what an audit shows in `exhibit.rt`, and the names of the refusals in `refusal.rt`.
+//! `operation.rt`, and with its value elsewhere in `blob_ref.rt`, what an audit shows in `exhibit.rt`, and the names of the refusals in `refusal.rt`.
 //! What is asked of a store stands in `request.rt`, and why a line of a script is refused in `cause.rt`.
 #![tactic(auto)]
 
+mod blob_ref;
 mod cause;
 mod element;
 mod exhibit;
@@ -21,6 +22,7 @@ mod request;
 mod value;
 mod writing;
 
+pub use blob_ref::{BlobRef, OperationRef};
 pub use cause::Cause;
 pub use element::Element;
 pub use exhibit::{Elements, Exhibit, ValueText};
@@ -35,6 +37,6 @@ pub use refusal::Refusal;
 pub use request::Request;
 pub use value::{Blob, LONGEST_BLOB, Node, Pointer, Value, initial};
 pub use writing::{
-    LONGEST_ELEMENT_TEXT, LONGEST_VALUE_TEXT, PATH_TEXT_LEN, element_text, push_blob, push_path,
-    push_stamp, push_u16, push_value, value_text,
+    LONGEST_ELEMENT_TEXT, LONGEST_VALUE_TEXT, PATH_TEXT_LEN, element_text, push_blob, push_element,
+    push_path, push_stamp, push_u16, push_value, value_text,
 };

@@ -1,6 +1,7 @@
 //! Gets and puts that were accepted.
 ghost use Rattle.std.specs.Prelude.{◌≡◌};
 
+use crate::blob_ref::OperationRef;
 use crate::value::Blob;
 use lamport_clocks::Stamp;
 
@@ -41,17 +42,24 @@ impl Operation {
         }
     }
 
-    /// The same once more.
-    pub fn copy(&self) -> Self
+    /// The same, by a reference to its value.
+    pub fn by_ref(&self) -> OperationRef<'_>
         ensures value { result ≡ self.now }
     {
-        Operation::new(
+        OperationRef::new(
             self.stamp,
             self.verifier,
             self.index,
             self.put,
             self.key,
-            self.value.copy(),
+            self.value.by_ref(),
         )
+    }
+
+    /// The same once more.
+    pub fn copy(&self) -> Self
+        ensures value { result ≡ self.now }
+    {
+        self.by_ref().to_operation()
     }
 }

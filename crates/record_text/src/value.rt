@@ -4,6 +4,7 @@ ghost use Rattle.std.specs.Option.{option_map};
 ghost use Rattle.record_text.specs.Value.{IsOf, node_side, with_side, empty_node, initial_value};
 ghost use Rattle.record_text.specs.Longest.{longest_blob};
 
+use crate::blob_ref::BlobRef;
 use arrayvec::ArrayVec;
 use std::marker::Model;
 use tree_keys::{KEY_BITS, Path};
@@ -61,13 +62,31 @@ impl Blob {
         }
     }
 
+    /// The same, by a reference to its bytes.
+    pub fn by_ref(&self) -> BlobRef<'_>
+        ensures value { result ≡ self.now }
+    {
+        BlobRef::new(self.bytes())
+    }
+
     /// The same once more.
     pub fn copy(&self) -> Self
         ensures value { result ≡ self.now }
     {
-        match self.bytes() {
-            Some(bytes) => Blob::of_bytes(bytes).unwrap(),
-            None => Blob::none(),
+        self.by_ref().to_blob()
+    }
+
+    /// Becomes this data value.
+    pub fn assign(&mut self, other: &Blob)
+        ensures value { self.new ≡ other.now }
+    {
+        match (&mut self.bytes, other.bytes()) {
+            (Some(items), Some(bytes)) => {
+                items.clear();
+                items.try_extend_from_slice(bytes).unwrap();
+            }
+            (_, Some(bytes)) => *self = Blob::of_bytes(bytes).unwrap(),
+            (_, None) => self.bytes = None,
         }
     }
 
@@ -200,6 +219,17 @@ impl Value {
             Value::Blob(blob) => Value::Blob(blob.copy()),
             Value::Node(node) => Value::Node(*node),
         }
+    }
+
+    /// Becomes this value: data over data where it stands.
+    pub fn assign(&mut self, other: &Value)
+        ensures value { self.new ≡ other.now }
+    {
+        if let (Value::Blob(blob), Value::Blob(others)) = (&mut *self, other) {
+            blob.assign(others);
+            return;
+        }
+        *self = other.copy();
     }
 
     /// Whether both are the same value.

@@ -4,8 +4,9 @@ ghost use Rattle.std.specs.Int.{w16, w32, w64, to_be_bytes};
 ghost use Rattle.arrayvec.specs.ArrayVec.{array_vec_len};
 ghost use Rattle.record_text.specs.Texts.{path_text, blob_text, deferred_tag, pointer_text, value_text, stamp_text, element_text};
 
+use crate::blob_ref::BlobRef;
 use crate::element::Element;
-use crate::value::{Blob, Pointer, Value};
+use crate::value::{Pointer, Value};
 use arrayvec::ArrayVec;
 use lamport_clocks::Stamp;
 use tree_keys::Path;
@@ -33,11 +34,32 @@ pub fn element_text(element: &Element) -> ArrayVec<u8, LONGEST_ELEMENT_TEXT>
     ensures text { result.items ≡ element_text element.now }
 {
     let mut text = ArrayVec::new();
-    push_path(&mut text, &element.path);
-    push_value(&mut text, &element.value);
-    push_stamp(&mut text, element.stamp);
-    push_u16(&mut text, element.verifier);
+    push_element(
+        &mut text,
+        &element.path,
+        &element.value,
+        element.stamp,
+        element.verifier,
+    );
     text
+}
+
+/// Appends the text of the element with these parts, of at most 103 bytes.
+pub fn push_element<const CAP: usize>(
+    items: &mut ArrayVec<u8, CAP>,
+    path: &Path,
+    value: &Value,
+    stamp: Stamp,
+    verifier: u16,
+)
+    requires room { array_vec_len items.old + LONGEST_ELEMENT_TEXT ≤ CAP }
+    ensures text { items.new.items ≡ items.old.items
+        ++ element_text (record { path = path.now; value = value.now; stamp = stamp; verifier = verifier }) }
+{
+    push_path(items, path);
+    push_value(items, value);
+    push_stamp(items, stamp);
+    push_u16(items, verifier);
 }
 
 /// Appends the text of a path, of 9 bytes.
@@ -57,7 +79,7 @@ pub fn push_value<const CAP: usize>(items: &mut ArrayVec<u8, CAP>, value: &Value
     ensures len { array_vec_len items.new ≤ array_vec_len items.old + LONGEST_VALUE_TEXT }
 {
     match value {
-        Value::Blob(blob) => push_blob(items, blob),
+        Value::Blob(blob) => push_blob(items, &blob.by_ref()),
         Value::Node(node) => {
             push_pointer(items, &node.side0);
             push_pointer(items, &node.side1);
@@ -103,7 +125,7 @@ fn push_u64<const CAP: usize>(items: &mut ArrayVec<u8, CAP>, number: u64)
 }
 
 /// Appends the text of a data value, of at most 66 bytes.
-pub fn push_blob<const CAP: usize>(items: &mut ArrayVec<u8, CAP>, blob: &Blob)
+pub fn push_blob<const CAP: usize>(items: &mut ArrayVec<u8, CAP>, blob: &BlobRef)
     requires room { array_vec_len items.old + 66 ≤ CAP }
     ensures text { items.new.items ≡ items.old.items ++ blob_text blob.now }
     ensures len { array_vec_len items.new ≤ array_vec_len items.old + 66 }
