@@ -5,11 +5,12 @@
 //! at once and hashes what they will ask for eight at a time, side by side. What it thinks of a text may be wrong, as where
 //! a log is an enemy's; that costs time and changes no answer, since `KnownDigests` of `record_hash` compares each text with
 //! the one that it knows. The crate stands on `log_codec`, `record_text` and `record_hash`. Begin with `CommandWindow` in
-//! `window.rt`, beside `specs/Window.antt`; `asking.rt` has what a command will ask for, by an index in
+//! `window.rt`, beside `specs/Window.antt`; `commands.rt` has the commands that were read, `asking.rt` has what a command will ask for, by an index in
 //! `places.rt` of the records that commands name, and `hashing.rt` the hashing.
 #![tactic(auto)]
 
 mod asking;
+mod commands;
 mod hashing;
 mod places;
 mod read_command;

@@ -1,6 +1,6 @@
 //! A command that was read ahead, and what it will ask for.
 use arrayvec::ArrayVec;
-use log_codec::LogCommand;
+use log_codec::{Command, LogCommand};
 use record_text::LONGEST_ELEMENT_TEXT;
 
 /// A command, and how many bytes of the log it takes.
@@ -8,6 +8,16 @@ use record_text::LONGEST_ELEMENT_TEXT;
 pub struct ReadCommand {
     pub command: LogCommand,
     pub len: usize,
+}
+
+impl ReadCommand {
+    /// What stands in a place before a command is read into it.
+    pub(crate) fn nothing() -> Self {
+        ReadCommand {
+            command: LogCommand::ByPath(Command::NextEpoch),
+            len: 0,
+        }
+    }
 }
 
 /// What a command will ask for, as far as the log tells.

@@ -6,12 +6,12 @@ ghost use Rattle.record_text.specs.Format.{LogFormat, format_of};
 ghost use Rattle.command_window.specs.Window.{AreReadOf, AreRight, IsRight, AreForgotten};
 
 use crate::asking::ask;
+use crate::commands::Commands;
 use crate::hashing::hash_all;
 use crate::places::{MOST_COMMANDS, Places};
 use crate::read_command::{Asked, AskedKind, ReadCommand};
 use base_words::Memory;
 use lamport_clocks::Header;
-use log_codec::{Decoded, read_command};
 use record_hash::{Digests, KnownDigests};
 use std::alloc::Global;
 use std::marker::Model;
@@ -22,7 +22,7 @@ use std::marker::Model;
 #[derive(Drop)]
 pub struct CommandWindow {
     number: u16,
-    reads: Vec<ReadCommand>,
+    reads: Commands,
     // What the command at each place asks for: as many as there is room for commands, used again by each reading.
     asked: Vec<Asked>,
     // where the commands name which records
@@ -34,7 +34,7 @@ impl Model for CommandWindow {
 
     ghost Value = { Window };
 
-    ghost view = { λ w. record { commands = w.reads.items; asked = w.asked.items } };
+    ghost view = { λ w. record { commands = w.reads; asked = w.asked.items } };
 }
 
 impl CommandWindow {
@@ -42,17 +42,13 @@ impl CommandWindow {
     pub fn new(alloc: Global, number: u16) -> Self
         ensures empty { result.commands ≡ [] }
     {
-        let reads = match Vec::with_capacity(alloc, MOST_COMMANDS) {
-            Ok(reads) => reads,
-            Err(_) => Vec::new(alloc),
-        };
         let asked = match nothing_asked(alloc) {
             Ok(asked) => asked,
             Err(_) => Vec::new(alloc),
         };
         CommandWindow {
             number,
-            reads,
+            reads: Commands::new(alloc),
             asked,
             places: Places::none(),
         }
@@ -76,27 +72,23 @@ impl CommandWindow {
         self.reads.clear();
         self.places.forget();
         forget_all(self.asked.as_mut_slice());
-        let room = self.reads.capacity().min(self.asked.len());
         let mut taken = 0;
-        while self.reads.len() < room {
-            match read_command(header, behind(bytes, taken)) {
-                Decoded::Read(command, len) => {
-                    // Pushed at once, so that it is moved once.
-                    let place = self.reads.len();
-                    self.reads.push_reserved(ReadCommand { command, len });
-                    let command = &self.reads[place].command;
-                    ask(
-                        &mut self.asked[place],
-                        self.reads.as_slice(),
-                        &self.places,
-                        command,
-                        self.number,
-                    );
-                    self.places.note(place, command);
-                    taken += len;
-                }
-                Decoded::Malformed | Decoded::Truncated => return,
-            }
+        while self.reads.len() < self.asked.len() {
+            let place = self.reads.len();
+            let Some(len) = self.reads.read_next(header, behind(bytes, taken)) else {
+                return;
+            };
+            let reads = self.reads.as_slice();
+            let command = &reads[place].command;
+            ask(
+                &mut self.asked[place],
+                reads,
+                &self.places,
+                command,
+                self.number,
+            );
+            self.places.note(place, command);
+            taken += len;
         }
     }
 

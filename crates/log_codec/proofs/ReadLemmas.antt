@@ -1,6 +1,6 @@
 -- What a reader of commands answers, from what the bytes begin with, whatever the commands.
 use Rattle.std.proofs.Common.{◌≡◌, ℕ, ◌-◌, ◌<◌, ◌≤◌, List, ◌++◌, length, take, drop, Result, Ok, Err, sym, ap, ◌∙◌, length-append, arith}
-use Rattle.std.proofs.lemmas.List.{drop_at}
+use Rattle.std.proofs.lemmas.List.{drop_at, length-drop}
 use Rattle.record_text.specs.declared.reader.TextFault.{TextFault}
 use Rattle.record_text.specs.declared.reader.TextFault.TheVariants as faults
 use Rattle.record_text.specs.Fields.{Parsed}
@@ -49,6 +49,12 @@ answer (Err faults.Truncated) = Truncated
 pub only_read : {C : Type 0} (grammar : Grammar C) → IsExact grammar → (bytes : List ℕ) (found command : C) (left_bytes rest : List ℕ) (left : ℕ) → grammar.Is command → bytes ≡ grammar.text command ++ rest → grammar.read bytes ≡ Ok (found, left_bytes) → left ≡ length left_bytes → Read found (length bytes - left) ≡ Read command (length (grammar.text command))
 only_read grammar exact bytes found command left_bytes rest left is spelled read count =
     ap answer (only_from_read grammar.read bytes (grammar.text command) rest command found left_bytes left (exact.again command rest is) spelled read count)
+
+-- the same, where what is left is what stands behind so many bytes
+pub only_taken : {C : Type 0} (grammar : Grammar C) → IsExact grammar → (bytes : List ℕ) (found command : C) (rest : List ℕ) (count : ℕ) → grammar.Is command → bytes ≡ grammar.text command ++ rest → grammar.read bytes ≡ Ok (found, drop count bytes) → count ≤ length bytes → Read found count ≡ Read command (length (grammar.text command))
+only_taken grammar exact bytes found command rest count is spelled read within =
+    let same : count ≡ length bytes - (length bytes - count) = omega arith in
+    ap (Read found) same ∙ only_read grammar exact bytes found command (drop count bytes) rest (length bytes - count) is spelled read (sym (length-drop count bytes))
 
 -- there is no fault where a command is spelled in front
 pub never_fails : {C : Type 0} (grammar : Grammar C) → IsExact grammar → (bytes : List ℕ) (command : C) (rest : List ℕ) (fault : TextFault) → grammar.Is command → bytes ≡ grammar.text command ++ rest → grammar.read bytes ≡ Err fault → ⊥

@@ -36,7 +36,7 @@ pub use path_laws::{
     path_commands_have_at_most_104_bytes, path_commands_keep_on,
 };
 pub use path_writing::{LONGEST_PATH_COMMAND_TEXT, write_path_command};
-pub use reading::{LONGEST_COMMAND_TEXT, read_command};
+pub use reading::{LONGEST_COMMAND_TEXT, read_command, read_command_into};
 pub use slot_command::SlotCommand;
 pub use slot_laws::{
     no_slot_command_begins_another, slot_commands_are_read_as_spelled,

@@ -1,120 +1,139 @@
 //! Reads a command that names paths, field by field.
 ghost use Rattle.std.specs.Prelude.{false};
-ghost use Rattle.record_text.specs.Fields.{Takes};
+ghost use Rattle.record_text.specs.Fields.{TakesInto};
 ghost use Rattle.record_text.specs.Longest.{longest_blob};
 ghost use Rattle.log_codec.specs.Command.{add_m_at, evict_m_at, add_b_at, evict_b_at, evict_bm_at, get_at, put_at, absent_at, path_command_behind, path_command_at};
 ghost use Rattle.log_codec.specs.LogCommand.{naming_paths};
 
 use crate::command::Command;
 use crate::log_command::LogCommand;
-use record_text::{Reader, TextFault};
+use record_text::{Blob, Reader, TextFault, Value};
 
-// The fields of each command, behind its tag.
+// The fields of each command, behind its tag: the command goes into a place, once.
 
-fn add_m(reader: &mut Reader<'_>) -> Result<LogCommand, TextFault>
-    ensures takes { Takes result reader.new (naming_paths (add_m_at false longest_blob reader.old)) }
+fn add_m(reader: &mut Reader<'_>, place: &mut LogCommand) -> Result<(), TextFault>
+    ensures takes { TakesInto result place.new reader.new (naming_paths (add_m_at false longest_blob reader.old)) }
 {
     let path = reader.path()?;
-    let value = reader.value(&path)?;
+    let mut value = Value::Blob(Blob::none());
+    reader.value_into(&path, &mut value)?;
     let parent = reader.path()?;
-    Ok(LogCommand::ByPath(Command::AddM {
+    *place = LogCommand::ByPath(Command::AddM {
         path,
         value,
         parent,
-    }))
+    });
+    Ok(())
 }
 
-fn evict_m(reader: &mut Reader<'_>) -> Result<LogCommand, TextFault>
-    ensures takes { Takes result reader.new (naming_paths (evict_m_at false reader.old)) }
+fn evict_m(reader: &mut Reader<'_>, place: &mut LogCommand) -> Result<(), TextFault>
+    ensures takes { TakesInto result place.new reader.new (naming_paths (evict_m_at false reader.old)) }
 {
     let path = reader.path()?;
     let parent = reader.path()?;
-    Ok(LogCommand::ByPath(Command::EvictM { path, parent }))
+    *place = LogCommand::ByPath(Command::EvictM { path, parent });
+    Ok(())
 }
 
-fn add_b(reader: &mut Reader<'_>) -> Result<LogCommand, TextFault>
-    ensures takes { Takes result reader.new (naming_paths (add_b_at false longest_blob reader.old)) }
+fn add_b(reader: &mut Reader<'_>, place: &mut LogCommand) -> Result<(), TextFault>
+    ensures takes { TakesInto result place.new reader.new (naming_paths (add_b_at false longest_blob reader.old)) }
 {
     let path = reader.path()?;
-    let value = reader.value(&path)?;
+    let mut value = Value::Blob(Blob::none());
+    reader.value_into(&path, &mut value)?;
     let stamp = reader.stamp()?;
     let verifier = reader.u16()?;
-    Ok(LogCommand::ByPath(Command::AddB {
+    *place = LogCommand::ByPath(Command::AddB {
         path,
         value,
         stamp,
         verifier,
-    }))
+    });
+    Ok(())
 }
 
-fn evict_b(reader: &mut Reader<'_>) -> Result<LogCommand, TextFault>
-    ensures takes { Takes result reader.new (naming_paths (evict_b_at false reader.old)) }
+fn evict_b(reader: &mut Reader<'_>, place: &mut LogCommand) -> Result<(), TextFault>
+    ensures takes { TakesInto result place.new reader.new (naming_paths (evict_b_at false reader.old)) }
 {
     let path = reader.path()?;
     let stamp = reader.stamp()?;
-    Ok(LogCommand::ByPath(Command::EvictB { path, stamp }))
+    *place = LogCommand::ByPath(Command::EvictB { path, stamp });
+    Ok(())
 }
 
-fn evict_bm(reader: &mut Reader<'_>) -> Result<LogCommand, TextFault>
-    ensures takes { Takes result reader.new (naming_paths (evict_bm_at false reader.old)) }
+fn evict_bm(reader: &mut Reader<'_>, place: &mut LogCommand) -> Result<(), TextFault>
+    ensures takes { TakesInto result place.new reader.new (naming_paths (evict_bm_at false reader.old)) }
 {
     let path = reader.path()?;
     let parent = reader.path()?;
     let stamp = reader.stamp()?;
-    Ok(LogCommand::ByPath(Command::EvictBM {
+    *place = LogCommand::ByPath(Command::EvictBM {
         path,
         parent,
         stamp,
-    }))
+    });
+    Ok(())
 }
 
-fn get(reader: &mut Reader<'_>) -> Result<LogCommand, TextFault>
-    ensures takes { Takes result reader.new (naming_paths (get_at false longest_blob reader.old)) }
+fn get(reader: &mut Reader<'_>, place: &mut LogCommand) -> Result<(), TextFault>
+    ensures takes { TakesInto result place.new reader.new (naming_paths (get_at false longest_blob reader.old)) }
 {
     let path = reader.path()?;
-    let value = reader.value(&path)?;
-    Ok(LogCommand::ByPath(Command::Get { path, value }))
+    let mut value = Value::Blob(Blob::none());
+    reader.value_into(&path, &mut value)?;
+    *place = LogCommand::ByPath(Command::Get { path, value });
+    Ok(())
 }
 
-fn put(reader: &mut Reader<'_>) -> Result<LogCommand, TextFault>
-    ensures takes { Takes result reader.new (naming_paths (put_at false longest_blob reader.old)) }
+fn put(reader: &mut Reader<'_>, place: &mut LogCommand) -> Result<(), TextFault>
+    ensures takes { TakesInto result place.new reader.new (naming_paths (put_at false longest_blob reader.old)) }
 {
     let path = reader.path()?;
-    let value = reader.value(&path)?;
-    Ok(LogCommand::ByPath(Command::Put { path, value }))
+    let mut value = Value::Blob(Blob::none());
+    reader.value_into(&path, &mut value)?;
+    *place = LogCommand::ByPath(Command::Put { path, value });
+    Ok(())
 }
 
-fn absent(reader: &mut Reader<'_>) -> Result<LogCommand, TextFault>
-    ensures takes { Takes result reader.new (naming_paths (absent_at false reader.old)) }
+fn absent(reader: &mut Reader<'_>, place: &mut LogCommand) -> Result<(), TextFault>
+    ensures takes { TakesInto result place.new reader.new (naming_paths (absent_at false reader.old)) }
 {
     let path = reader.path()?;
     let parent = reader.path()?;
-    Ok(LogCommand::ByPath(Command::Absent { path, parent }))
+    *place = LogCommand::ByPath(Command::Absent { path, parent });
+    Ok(())
 }
 
 // The command of this tag.
-fn behind(reader: &mut Reader<'_>, tag: u8) -> Result<LogCommand, TextFault>
-    ensures takes { Takes result reader.new (naming_paths (path_command_behind false longest_blob tag reader.old)) }
+fn behind(
+    reader: &mut Reader<'_>,
+    tag: u8,
+    place: &mut LogCommand,
+) -> Result<(), TextFault>
+    ensures takes { TakesInto result place.new reader.new (naming_paths (path_command_behind false longest_blob tag reader.old)) }
 {
     match tag {
-        1 => add_m(reader),
-        2 => evict_m(reader),
-        3 => add_b(reader),
-        4 => evict_b(reader),
-        5 => evict_bm(reader),
-        6 => get(reader),
-        7 => put(reader),
-        8 => Ok(LogCommand::ByPath(Command::NextEpoch)),
-        9 => absent(reader),
+        1 => add_m(reader, place),
+        2 => evict_m(reader, place),
+        3 => add_b(reader, place),
+        4 => evict_b(reader, place),
+        5 => evict_bm(reader, place),
+        6 => get(reader, place),
+        7 => put(reader, place),
+        8 => {
+            *place = LogCommand::ByPath(Command::NextEpoch);
+            Ok(())
+        }
+        9 => absent(reader, place),
         _ => Err(TextFault::Malformed),
     }
 }
 
-/// A command.
+/// A command, into a place. After a fault nothing is said of the place.
 #[tactic(auto, unfolding(crate::specs::Command::path_command_at))]
-pub(crate) fn path_command(reader: &mut Reader<'_>) -> Result<LogCommand, TextFault>
-    ensures takes { Takes result reader.new (naming_paths (path_command_at false longest_blob reader.old)) }
+pub(crate) fn path_command(reader: &mut Reader<'_>, place: &mut LogCommand) -> Result<(), TextFault>
+    ensures takes { TakesInto result place.new reader.new (naming_paths (path_command_at false longest_blob reader.old)) }
 {
     let tag = reader.byte()?;
-    behind(reader, tag)
+    behind(reader, tag, place)
 }

@@ -1,11 +1,12 @@
 //! Reads the command at the front of a log.
-ghost use Rattle.std.specs.Prelude.{◌≡◌, ℕ, ◌<◌, ◌≤◌, List, ◌++◌, length, take, Ok};
-ghost use Rattle.record_text.specs.Fields.{Takes};
+ghost use Rattle.std.specs.Prelude.{◌≡◌, ℕ, ◌<◌, ◌≤◌, List, ◌++◌, length, take, drop, Ok, Err, IfOk, IfErr, OnOk};
+ghost use Rattle.record_text.specs.Fields.{TakesInto};
 ghost use Rattle.record_text.specs.Format.{format_of};
 ghost use Rattle.log_codec.specs.declared.log_command.LogCommand.{LogCommand};
 ghost use Rattle.log_codec.specs.LogCommand.{command_at, command_text, IsCommand};
 ghost use Rattle.log_codec.specs.Decoded.{Decodes, IfRead};
 
+use crate::command::Command;
 use crate::decoded::Decoded;
 use crate::log_command::LogCommand;
 use crate::path_reading::path_command;
@@ -36,22 +37,51 @@ pub fn read_command(header: &Header, bytes: &[u8]) -> Decoded<LogCommand>
         → bytes.now ≡ command_text command ++ rest
         → result ≡ Decoded.Read command (length (command_text command)) }
 {
-    let mut reader = Reader::new(bytes);
-    match command(header, &mut reader) {
-        Ok(command) => Decoded::Read(command, bytes.len() - reader.left()),
+    let mut command = LogCommand::ByPath(Command::NextEpoch);
+    match read_command_into(header, bytes, &mut command) {
+        Ok(taken) => Decoded::Read(command, taken),
         Err(TextFault::Malformed) => Decoded::Malformed,
         Err(TextFault::Truncated) => Decoded::Truncated,
     }
 }
 
+/// Reads the same command into a place, and answers the length of its text. After a fault nothing is said of the place.
+pub fn read_command_into(
+    header: &Header,
+    bytes: &[u8],
+    place: &mut LogCommand,
+) -> Result<usize, TextFault>
+    // Which command or fault it is.
+    ensures read { IfOk result (λ taken. command_at (format_of header.now) bytes.now ≡ Ok (place.new, drop taken bytes.now)) }
+    ensures fault { IfErr result (λ fault. command_at (format_of header.now) bytes.now ≡ Err fault) }
+
+    // A command takes some of the bytes.
+    ensures some { IfOk result (λ taken. 0 < taken) }
+    ensures within { IfOk result (λ taken. taken ≤ length bytes.now) }
+
+    // What is read is spelled so, and in its ranges.
+    ensures found { IfOk result (λ taken. take taken bytes.now ≡ command_text place.new) }
+    ensures kind { OnOk result (IsCommand (format_of header.now) place.new) }
+{
+    let mut reader = Reader::new(bytes);
+    match command_into(header, &mut reader, place) {
+        Ok(()) => Ok(bytes.len() - reader.left()),
+        Err(fault) => Err(fault),
+    }
+}
+
 // A command of the header's version.
 #[tactic(auto, unfolding(crate::specs::LogCommand::command_at))]
-fn command(header: &Header, reader: &mut Reader<'_>) -> Result<LogCommand, TextFault>
-    ensures takes { Takes result reader.new (command_at (format_of header.now) reader.old) }
+fn command_into(
+    header: &Header,
+    reader: &mut Reader<'_>,
+    place: &mut LogCommand,
+) -> Result<(), TextFault>
+    ensures takes { TakesInto result place.new reader.new (command_at (format_of header.now) reader.old) }
 {
     if header.names_paths() {
-        path_command(reader)
+        path_command(reader, place)
     } else {
-        slot_command(reader)
+        slot_command(reader, place)
     }
 }

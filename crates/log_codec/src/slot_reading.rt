@@ -1,124 +1,141 @@
 //! Reads a command that names slots, field by field.
 ghost use Rattle.std.specs.Prelude.{false};
-ghost use Rattle.record_text.specs.Fields.{Takes};
+ghost use Rattle.record_text.specs.Fields.{TakesInto};
 ghost use Rattle.record_text.specs.Longest.{longest_blob};
 ghost use Rattle.log_codec.specs.SlotCommand.{add_m_at, evict_m_at, add_b_at, evict_b_at, evict_bm_at, get_at, put_at, absent_at, slot_command_behind, slot_command_at};
 ghost use Rattle.log_codec.specs.LogCommand.{naming_slots};
 
 use crate::log_command::LogCommand;
 use crate::slot_command::SlotCommand;
-use record_text::{Reader, TextFault};
+use record_text::{Blob, Reader, TextFault, Value};
 
-// The fields of each command, behind its tag.
+// The fields of each command, behind its tag: the command goes into a place, once.
 
-fn add_m(reader: &mut Reader<'_>) -> Result<LogCommand, TextFault>
-    ensures takes { Takes result reader.new (naming_slots (add_m_at false longest_blob reader.old)) }
+fn add_m(reader: &mut Reader<'_>, place: &mut LogCommand) -> Result<(), TextFault>
+    ensures takes { TakesInto result place.new reader.new (naming_slots (add_m_at false longest_blob reader.old)) }
 {
     let slot = reader.u16()?;
     let path = reader.path()?;
-    let value = reader.value(&path)?;
+    let mut value = Value::Blob(Blob::none());
+    reader.value_into(&path, &mut value)?;
     let parent = reader.u16()?;
-    Ok(LogCommand::BySlot(SlotCommand::AddM {
+    *place = LogCommand::BySlot(SlotCommand::AddM {
         slot,
         path,
         value,
         parent,
-    }))
+    });
+    Ok(())
 }
 
-fn evict_m(reader: &mut Reader<'_>) -> Result<LogCommand, TextFault>
-    ensures takes { Takes result reader.new (naming_slots (evict_m_at reader.old)) }
+fn evict_m(reader: &mut Reader<'_>, place: &mut LogCommand) -> Result<(), TextFault>
+    ensures takes { TakesInto result place.new reader.new (naming_slots (evict_m_at reader.old)) }
 {
     let slot = reader.u16()?;
     let parent = reader.u16()?;
-    Ok(LogCommand::BySlot(SlotCommand::EvictM { slot, parent }))
+    *place = LogCommand::BySlot(SlotCommand::EvictM { slot, parent });
+    Ok(())
 }
 
-fn add_b(reader: &mut Reader<'_>) -> Result<LogCommand, TextFault>
-    ensures takes { Takes result reader.new (naming_slots (add_b_at false longest_blob reader.old)) }
+fn add_b(reader: &mut Reader<'_>, place: &mut LogCommand) -> Result<(), TextFault>
+    ensures takes { TakesInto result place.new reader.new (naming_slots (add_b_at false longest_blob reader.old)) }
 {
     let slot = reader.u16()?;
     let path = reader.path()?;
-    let value = reader.value(&path)?;
+    let mut value = Value::Blob(Blob::none());
+    reader.value_into(&path, &mut value)?;
     let stamp = reader.stamp()?;
     let verifier = reader.u16()?;
-    Ok(LogCommand::BySlot(SlotCommand::AddB {
+    *place = LogCommand::BySlot(SlotCommand::AddB {
         slot,
         path,
         value,
         stamp,
         verifier,
-    }))
+    });
+    Ok(())
 }
 
-fn evict_b(reader: &mut Reader<'_>) -> Result<LogCommand, TextFault>
-    ensures takes { Takes result reader.new (naming_slots (evict_b_at reader.old)) }
+fn evict_b(reader: &mut Reader<'_>, place: &mut LogCommand) -> Result<(), TextFault>
+    ensures takes { TakesInto result place.new reader.new (naming_slots (evict_b_at reader.old)) }
 {
     let slot = reader.u16()?;
     let stamp = reader.stamp()?;
-    Ok(LogCommand::BySlot(SlotCommand::EvictB { slot, stamp }))
+    *place = LogCommand::BySlot(SlotCommand::EvictB { slot, stamp });
+    Ok(())
 }
 
-fn evict_bm(reader: &mut Reader<'_>) -> Result<LogCommand, TextFault>
-    ensures takes { Takes result reader.new (naming_slots (evict_bm_at reader.old)) }
+fn evict_bm(reader: &mut Reader<'_>, place: &mut LogCommand) -> Result<(), TextFault>
+    ensures takes { TakesInto result place.new reader.new (naming_slots (evict_bm_at reader.old)) }
 {
     let slot = reader.u16()?;
     let parent = reader.u16()?;
     let stamp = reader.stamp()?;
-    Ok(LogCommand::BySlot(SlotCommand::EvictBM {
+    *place = LogCommand::BySlot(SlotCommand::EvictBM {
         slot,
         parent,
         stamp,
-    }))
+    });
+    Ok(())
 }
 
-fn get(reader: &mut Reader<'_>) -> Result<LogCommand, TextFault>
-    ensures takes { Takes result reader.new (naming_slots (get_at longest_blob reader.old)) }
+fn get(reader: &mut Reader<'_>, place: &mut LogCommand) -> Result<(), TextFault>
+    ensures takes { TakesInto result place.new reader.new (naming_slots (get_at longest_blob reader.old)) }
 {
     let slot = reader.u16()?;
-    let value = reader.blob()?;
-    Ok(LogCommand::BySlot(SlotCommand::Get { slot, value }))
+    let value = reader.blob()?.to_blob();
+    *place = LogCommand::BySlot(SlotCommand::Get { slot, value });
+    Ok(())
 }
 
-fn put(reader: &mut Reader<'_>) -> Result<LogCommand, TextFault>
-    ensures takes { Takes result reader.new (naming_slots (put_at longest_blob reader.old)) }
+fn put(reader: &mut Reader<'_>, place: &mut LogCommand) -> Result<(), TextFault>
+    ensures takes { TakesInto result place.new reader.new (naming_slots (put_at longest_blob reader.old)) }
 {
     let slot = reader.u16()?;
-    let value = reader.blob()?;
-    Ok(LogCommand::BySlot(SlotCommand::Put { slot, value }))
+    let value = reader.blob()?.to_blob();
+    *place = LogCommand::BySlot(SlotCommand::Put { slot, value });
+    Ok(())
 }
 
-fn absent(reader: &mut Reader<'_>) -> Result<LogCommand, TextFault>
-    ensures takes { Takes result reader.new (naming_slots (absent_at false reader.old)) }
+fn absent(reader: &mut Reader<'_>, place: &mut LogCommand) -> Result<(), TextFault>
+    ensures takes { TakesInto result place.new reader.new (naming_slots (absent_at false reader.old)) }
 {
     let path = reader.path()?;
     let parent = reader.u16()?;
-    Ok(LogCommand::BySlot(SlotCommand::Absent { path, parent }))
+    *place = LogCommand::BySlot(SlotCommand::Absent { path, parent });
+    Ok(())
 }
 
 // The command of this tag.
-fn behind(reader: &mut Reader<'_>, tag: u8) -> Result<LogCommand, TextFault>
-    ensures takes { Takes result reader.new (naming_slots (slot_command_behind false longest_blob tag reader.old)) }
+fn behind(
+    reader: &mut Reader<'_>,
+    tag: u8,
+    place: &mut LogCommand,
+) -> Result<(), TextFault>
+    ensures takes { TakesInto result place.new reader.new (naming_slots (slot_command_behind false longest_blob tag reader.old)) }
 {
     match tag {
-        1 => add_m(reader),
-        2 => evict_m(reader),
-        3 => add_b(reader),
-        4 => evict_b(reader),
-        5 => evict_bm(reader),
-        6 => get(reader),
-        7 => put(reader),
-        8 => Ok(LogCommand::BySlot(SlotCommand::NextEpoch)),
-        9 => absent(reader),
+        1 => add_m(reader, place),
+        2 => evict_m(reader, place),
+        3 => add_b(reader, place),
+        4 => evict_b(reader, place),
+        5 => evict_bm(reader, place),
+        6 => get(reader, place),
+        7 => put(reader, place),
+        8 => {
+            *place = LogCommand::BySlot(SlotCommand::NextEpoch);
+            Ok(())
+        }
+        9 => absent(reader, place),
         _ => Err(TextFault::Malformed),
     }
 }
 
-/// A command.
+/// A command, into a place. After a fault nothing is said of the place.
 #[tactic(auto, unfolding(crate::specs::SlotCommand::slot_command_at))]
-pub(crate) fn slot_command(reader: &mut Reader<'_>) -> Result<LogCommand, TextFault>
-    ensures takes { Takes result reader.new (naming_slots (slot_command_at false longest_blob reader.old)) }
+pub(crate) fn slot_command(reader: &mut Reader<'_>, place: &mut LogCommand) -> Result<(), TextFault>
+    ensures takes { TakesInto result place.new reader.new (naming_slots (slot_command_at false longest_blob reader.old)) }
 {
     let tag = reader.byte()?;
-    behind(reader, tag)
+    behind(reader, tag, place)
 }

@@ -27,6 +27,11 @@ abbrev pub Takes : {A : Type 0} → Result A TextFault → List ℕ → Parsed A
 Takes (Ok value) left parsed = parsed ≡ Ok (value, left)
 Takes (Err fault) left parsed = parsed ≡ Err fault
 
+-- what a reader leaves in a place, and the bytes that it leaves, are what reading gives
+abbrev pub TakesInto : {A : Type 0} → Result (Unit {0}) TextFault → A → List ℕ → Parsed A → Type 0
+TakesInto (Ok done) place left parsed = parsed ≡ Ok (place, left)
+TakesInto (Err fault) place left parsed = parsed ≡ Err fault
+
 -- what was read, and of how many bytes
 abbrev pub counted : {A : Type 0} → List ℕ → Parsed A → Result (A × ℕ) TextFault
 counted bytes (Ok found) = Ok (found.0, length bytes - length found.1)

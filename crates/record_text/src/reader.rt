@@ -1,12 +1,13 @@
 //! A reader over bytes, field by field.
-ghost use Rattle.std.specs.Prelude.{◌≡◌, ℕ, ◌<◌, ◌≤◌, ◌∷◌, [], ◌++◌, length, false, Ok, Err, IfOk, IfErr, IfSome, IsTrue};
+ghost use Rattle.std.specs.Prelude.{◌≡◌, ℕ, ◌<◌, ◌≤◌, ◌∷◌, [], ◌++◌, length, false, None, Ok, Err, IfOk, IfErr, OnOk, IfSome, IsTrue};
 ghost use Rattle.std.specs.Int.{w64, from_be_bytes};
 ghost use Rattle.tree_keys.specs.Path.{IsIn, IsPath, IsNodePath, is_prefix};
 ghost use Rattle.record_text.specs.Value.{IsBlob, IsSide, IsOf};
-ghost use Rattle.record_text.specs.Fields.{Takes, field};
+ghost use Rattle.record_text.specs.Fields.{Takes, TakesInto, field};
 ghost use Rattle.record_text.specs.Reading.{run_at, byte_at, flag_in, count_in, path_at, path_below_at, blob_at, path_in, pointer_tag_in, pointer_at, node_at, value_at, u16_at, u32_at, stamp_at, element_at};
 ghost use Rattle.record_text.specs.Longest.{longest_blob};
 
+use crate::blob_ref::BlobRef;
 use crate::element::Element;
 use crate::value::{Blob, LONGEST_BLOB, Node, Pointer, Value};
 use crate::writing::PATH_TEXT_LEN;
@@ -123,18 +124,18 @@ impl<'a> Reader<'a> {
         }
     }
 
-    /// A data value: none, or its bytes, at most 64.
+    /// A data value, where its bytes stand: none, or at most 64 of them.
     #[tactic(auto, unfolding(crate::specs::Reading::blob_at))]
-    pub fn blob(&mut self) -> Result<Blob, TextFault>
+    pub fn blob(&mut self) -> Result<BlobRef<'a>, TextFault>
         ensures takes { Takes result self.new (blob_at longest_blob self.old) }
         ensures kind { IfOk result (IsBlob longest_blob) }
     {
         if !self.flag()? {
-            return Ok(Blob::none());
+            return Ok(BlobRef::new(None));
         }
         let count = self.count()?;
         let bytes = self.run(count)?;
-        Ok(Blob::of_bytes(bytes).unwrap())
+        Ok(BlobRef::new(Some(bytes)))
     }
 
     // The pointer of a node's side: empty, or to a path below the node on that side.
@@ -171,18 +172,28 @@ impl<'a> Reader<'a> {
         Ok(Node { side0, side1 })
     }
 
-    /// The value of this path: a data value at a key, and a node at a shorter path.
+    /// The value of this path, into a place: a data value at a key, and a node at a shorter path. After a fault nothing is
+    /// said of the place.
+    pub fn value_into(&mut self, path: &Path, place: &mut Value) -> Result<(), TextFault>
+        ensures takes { TakesInto result place.new self.new (value_at longest_blob path.now self.old) }
+        ensures kind { OnOk result (IsOf longest_blob path.now place.new) }
+    {
+        if path.len() == KEY_BITS {
+            *place = Value::Blob(self.blob()?.to_blob());
+        } else {
+            *place = Value::Node(self.node(path)?);
+        }
+        Ok(())
+    }
+
+    /// The same, as a value.
     pub fn value(&mut self, path: &Path) -> Result<Value, TextFault>
         ensures takes { Takes result self.new (value_at longest_blob path.now self.old) }
         ensures kind { IfOk result (IsOf longest_blob path.now) }
     {
-        if path.len() == KEY_BITS {
-            let blob = self.blob()?;
-            Ok(Value::Blob(blob))
-        } else {
-            let node = self.node(path)?;
-            Ok(Value::Node(node))
-        }
+        let mut value = Value::Blob(Blob::none());
+        self.value_into(path, &mut value)?;
+        Ok(value)
     }
 
     /// An element: its path, its value, its stamp, and the verifier that evicted it.
