@@ -1,10 +1,10 @@
 -- What a request and a move make of the data values that are held.
-use Rattle.std.proofs.Common.{◌≡◌, ◌≢◌, ◌⊎◌, ℕ, ◌^◌, ◌<◌, Bool, true, false, List, [], ◌∷◌, get_or, set, Option, Some, None, IfSome, not, refl, sym, ◌∙◌, ap, subst, inl, inr, if◌then◌else◌}
+use Rattle.std.proofs.Common.{◌≡◌, ◌≢◌, ◌⊎◌, ℕ, ◌^◌, ◌<◌, Bool, true, false, List, [], ◌∷◌, get_or, set, Option, Some, None, IsSome, IfSome, not, refl, sym, ◌∙◌, ap, subst, inl, inr, if◌then◌else◌}
 use Rattle.std.specs.Prelude.{nat_eq, ◌&&◌}
 use Rattle.std.specs.List.{IsAmong}
 use Rattle.std.specs.Map.{update}
 use Rattle.std.proofs.lemmas.Bool.{cases_eq, eq-eqb, ne_eqb, false≢true, true≢false}
-use Rattle.tree_keys.specs.Path.{key_bits, key_path}
+use Rattle.tree_keys.specs.Path.{key_bits, key_path, IsBelow}
 use Rattle.tree_keys.proofs.PathLaws.{same_path-apart}
 use Rattle.tree_keys.proofs.TreeLaws.{key_path-data, key_path-injective}
 use Rattle.lamport_clocks.specs.Reading.{Reading}
@@ -21,7 +21,8 @@ use Rattle.host_shard.specs.Tree.{Tree}
 use Rattle.host_shard.specs.Chain.{IsChain, last_value, closed_records}
 use Rattle.host_shard.specs.Shard.{Shard, tree_of}
 use Rattle.host_shard.specs.Content.{Content, cold, hot, vacant}
-use Rattle.host_plan.specs.Request.{is_missed, value_after, served, served_hot}
+use Rattle.host_plan.specs.Plan.{IsServable}
+use Rattle.host_plan.specs.Request.{is_missed, value_after, gone_along, served, served_hot}
 use Rattle.protection_moves.proofs.TouchedLaws.{all-filter, all-order}
 use Rattle.protection_moves.specs.Stage.{Stage, hot_records, hot_paths, touched_in, is_touched, replaced, placed}
 use Rattle.protection_moves.specs.Transfer.{Transfer, demotes, promotes}
@@ -34,6 +35,7 @@ use Rattle.move_laws.proofs.PlaceLaws.{HasNone, AreApart, all-are, apart-filter,
 use Rattle.move_laws.proofs.TransferLaws.{transfer_mirrors}
 use Rattle.move_laws.proofs.DescentLaws.{AreFit, apart_by_number}
 use Rattle.move_laws.proofs.FitLaws.{begun_mirrors, move_fits}
+use Rattle.host_laws.proofs.StayLaws.{found_gone}
 use Rattle.host_holds.specs.Holding.{hot_record_of, value_or, held_value, stored_after}
 use Rattle.host_holds.proofs.ChainLemmas.{others_stay, ends_with, some_link, finds}
 use Rattle.host_holds.proofs.HotLaws.{none_hot, hot-none, hot-found, others-replaced, vacant-none, hot-placed, others-placed, own-set, others-set, renewed-values}
@@ -120,13 +122,23 @@ module _ (longest : ℕ) (digest : Digest) (worker : ℕ) (stage : Stage) (mirro
         blob_get true is = absurd (true≢false is)
         blob_get false is = refl
 
-        go : (b : Bool) → is_missed absent shard links request ≡ b → (key ≡ request.key) ⊎ (key ≡ request.key → ⊥)
-            → value_or (hot_record_of key places) ((if b then shard.records else closed_records digest false shard.records links last) (key_path false key))
+        below : IsBelow shard.frontier path
+        below = some_link longest shard (tree_of shard) path shard.value links (λ all. IsBelow shard.frontier path) mirrors.shard.fits (key_path-data false request.key) chain
+            (λ link rest way. subst IsSome (sym way.0.on_side) refl)
+
+        can : IsServable longest digest shard path
+        can = record {
+          hot = hot_paths places;
+          fits = mirrors.shard.fits;
+          mirrors = mirrors.shard.mirrors;
+          own = record { whole = key_path-data false request.key; below = below };
+          cold = cold_there;
+        }
+
+        closed : (key ≡ request.key) ⊎ (key ≡ request.key → ⊥)
+            → value_or (hot_record_of key places) (closed_records digest false shard.records links last (key_path false key))
             ≡ stored_after request (held_value (cold shard ∷ places)) key
-        go true missed same =
-            sym (ap (λ (b : Bool). (if b then update nat_eq (held_value (cold shard ∷ places)) request.key request.value else held_value (cold shard ∷ places)) key)
-            (missed_get absent request.put _ missed))
-        go false gone (inl same) =
+        closed (inl same) =
             subst (λ (k : ℕ). value_or (hot_record_of k places) (closed_records digest false shard.records links last (key_path false k)) ≡ stored_after request (held_value (cold shard ∷ places)) k) (sym same)
             (ap (λ (o : Option HotRecord). value_or o (closed_records digest false shard.records links last path)) none
             ∙ (ap blob_in ended
@@ -134,11 +146,21 @@ module _ (longest : ℕ) (digest : Digest) (worker : ℕ) (stage : Stage) (mirro
             (blob_put request.put)
             (λ get. blob_get request.put get
             ∙ (finds longest shard path links mirrors.shard.fits (key_path-data false request.key) mirrors.shard.mirrors.reached chain ∙ sym held_there))))
-        go false gone (inr other) =
+        closed (inr other) =
             ap (value_or (hot_record_of key places))
             (others_stay (tree_of shard) path digest false shard.records shard.frontier shard.value links last (key_path false key)
             (key_path-data false request.key) (key_path-data false key) (paths_apart key request.key in_range small other) chain)
             ∙ set_other request (held_value (cold shard ∷ places)) key other
+
+        go : (b : Bool) → is_missed absent shard links request ≡ b → (key ≡ request.key) ⊎ (key ≡ request.key → ⊥)
+            → value_or (hot_record_of key places) ((gone_along digest shard links request b).records (key_path false key))
+            ≡ stored_after request (held_value (cold shard ∷ places)) key
+        go true missed same =
+            sym (ap (λ (b : Bool). (if b then update nat_eq (held_value (cold shard ∷ places)) request.key request.value else held_value (cold shard ∷ places)) key)
+            (missed_get absent request.put _ missed))
+        go false gone same =
+            ap (λ (left : Shard). value_or (hot_record_of key places) (left.records (key_path false key))) (found_gone longest digest shard links request can chain)
+            ∙ closed same
 
   module _ (request : Request) (clock : Reading) where
     -- at a hot place

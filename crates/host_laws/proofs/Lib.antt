@@ -12,9 +12,11 @@ pub mod ForkLaws
 mod ChainLaws
 mod EndLemmas
 mod VisitLemmas
+pub mod FrontierLaws
+pub mod ReachedLaws
+pub mod StayLaws
 mod MissLemmas
 pub mod BetweenLaws
-pub mod FrontierLaws
 pub mod RequestLaws
 pub mod NumberLaws
 mod ContentsLaws

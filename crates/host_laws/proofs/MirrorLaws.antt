@@ -23,13 +23,15 @@ use Rattle.host_shard.specs.Content.{Content, cold, hot, vacant}
 use Rattle.host_shard.specs.Mirrors.{IsKeyOf}
 use Rattle.host_plan.specs.Request.{command_of, value_after, is_missed, links_known, links_gone, end_command, served}
 use Rattle.host_plan.specs.Visit.{visit}
-use Rattle.host_plan.specs.Plan.{Owns, CanServe, IsPlan}
+use Rattle.host_plan.specs.Moments.{renewing}
+use Rattle.host_plan.specs.Plan.{Owns, IsServable, CanServe, IsPlan}
 use Rattle.host_plan.specs.declared.plans.Plan.{Plan}
 use Rattle.host_laws.specs.Mirroring.{IsMirrored, ContentMirrors, IsCold}
 use Rattle.host_laws.proofs.ChainLaws.{LeadTo, AreOf, next_fits}
 use Rattle.host_laws.proofs.ToldLaws.{all-append}
 use Rattle.host_laws.proofs.FrontierLaws.{leads, frontier_in, frontier_there, frontier_of}
 use Rattle.host_laws.proofs.DepthLaws.{whole_none}
+use Rattle.host_laws.proofs.StayLaws.{found_gone}
 use Rattle.host_laws.proofs.PartLemmas.{kept_after, waits_after, hot_waits_after, reached_after, kinds_after, keeps_record, key_record}
 
 -- the value at a chain's end is of its path's kind
@@ -71,23 +73,26 @@ served_mirrors longest digest worker shard hot_keys links request clock true dig
     touched = mirrored.mirrors.touched;
   };
 }
-served_mirrors longest digest worker shard hot_keys links request clock false digests fits_blob mirrored own not_hot chain = record {
-  fits = record {
-    below_root = mirrored.fits.below_root;
-    no_data = mirrored.fits.no_data;
-    kinds = kinds_after longest digest tree shard.records shard.frontier shard.value key last lead links chain kind is_top digests kind_last;
-  };
-  mirrors = record {
-    kept = kept_after longest digest tree shard.records shard.frontier shard.value key last lead links chain kind is_top mirrored.mirrors.reached bare mirrored.mirrors.kept;
-    waits = waits_after longest digest tree shard.records shard.frontier shard.value key last lead links chain kind is_top hot_keys mirrored.mirrors.reached bare mirrored.mirrors.waits;
-    reached = reached_after longest digest tree shard.records shard.frontier shard.value key last lead links chain kind is_top mirrored.mirrors.reached;
-    hot_waits = λ h among.
-        hot_waits_after longest digest tree shard.records shard.frontier shard.value key last lead links chain kind is_top mirrored.mirrors.reached h
-        (mirrored.mirrors.hot_keys.whole h among) (λ same. not_hot (subst (IsAmong hot_keys) same among)) (mirrored.mirrors.hot_waits h among);
-    hot_keys = mirrored.mirrors.hot_keys;
-    touched = touched_after;
-  };
-}
+served_mirrors longest digest worker shard hot_keys links request clock false digests fits_blob mirrored own not_hot chain =
+    subst (λ (s : Shard). IsMirrored longest digest (record s { stamp = (renewing clock shard.stamp).at; evictor = worker }) hot_keys)
+    (sym (found_gone longest digest shard links request can chain))
+    (record {
+      fits = record {
+        below_root = mirrored.fits.below_root;
+        no_data = mirrored.fits.no_data;
+        kinds = kinds_after longest digest tree shard.records shard.frontier shard.value key last lead links chain kind is_top digests kind_last;
+      };
+      mirrors = record {
+        kept = kept_after longest digest tree shard.records shard.frontier shard.value key last lead links chain kind is_top mirrored.mirrors.reached bare mirrored.mirrors.kept;
+        waits = waits_after longest digest tree shard.records shard.frontier shard.value key last lead links chain kind is_top hot_keys mirrored.mirrors.reached bare mirrored.mirrors.waits;
+        reached = reached_after longest digest tree shard.records shard.frontier shard.value key last lead links chain kind is_top mirrored.mirrors.reached;
+        hot_waits = λ h among.
+            hot_waits_after longest digest tree shard.records shard.frontier shard.value key last lead links chain kind is_top mirrored.mirrors.reached h
+            (mirrored.mirrors.hot_keys.whole h among) (λ same. not_hot (subst (IsAmong hot_keys) same among)) (mirrored.mirrors.hot_waits h among);
+        hot_keys = mirrored.mirrors.hot_keys;
+        touched = touched_after;
+      };
+    })
   where
     key : List Bool
     key = key_path false request.key
@@ -95,8 +100,11 @@ served_mirrors longest digest worker shard hot_keys links request clock false di
     tree : Tree
     tree = tree_of shard
 
+    can : IsServable longest digest shard key
+    can = record { hot = hot_keys; fits = mirrored.fits; mirrors = mirrored.mirrors; own = own; cold = not_hot }
+
     lead : LeadTo longest digest tree key
-    lead = leads longest digest shard key (record { hot = hot_keys; fits = mirrored.fits; mirrors = mirrored.mirrors; own = own; cold = not_hot })
+    lead = leads longest digest shard key can
 
     kind : IsOf longest shard.frontier shard.value
     kind = mirrored.fits.kinds shard.frontier shard.value (frontier_there shard)

@@ -1,10 +1,8 @@
 -- A get that misses its key along the records on the way to it: the paths come in and go again with their values, and under
 -- the last of them the key is absent.
-use Rattle.std.proofs.Common.{ℕ, ◌≡◌, suc, ◌<◌, ◌≤◌, Bool, true, false, not, List, [], ◌∷◌, ◌++◌, length, Option, Some, None, if◌then◌else◌, refl, sym, ◌∙◌, ap, subst, inl, arith}
+use Rattle.std.proofs.Common.{ℕ, ◌≡◌, suc, ◌<◌, ◌≤◌, Bool, true, false, not, List, [], ◌∷◌, ◌++◌, length, Option, Some, if◌then◌else◌, refl, sym, ◌∙◌, ap, subst, inl, arith}
 use Rattle.std.proofs.lemmas.Bool.{false≢true}
-use Rattle.std.proofs.lemmas.Option.{same_Some}
-use Rattle.tree_keys.specs.Path.{side, same_path, IsData, is_data}
-use Rattle.tree_keys.proofs.PathLaws.{same_path-true}
+use Rattle.tree_keys.specs.Path.{side, IsData, is_data}
 use Rattle.tree_keys.proofs.SideLaws.{is_prefix-self}
 use Rattle.tree_keys.proofs.TreeLaws.{data-is}
 use Rattle.lamport_clocks.specs.Reading.{Reading}
@@ -13,10 +11,9 @@ use Rattle.record_text.specs.declared.value.Node.{Node}
 use Rattle.record_text.specs.declared.value.Value.{Value}
 use Rattle.record_text.specs.declared.value.Value.TheVariants as values
 use Rattle.record_text.specs.declared.refusal.Refusal.TheVariants as refusals
-use Rattle.record_text.specs.Texts.{value_text}
-use Rattle.record_text.specs.Value.{IsOf, node_side, with_side}
+use Rattle.record_text.specs.Value.{IsOf, node_side}
 use Rattle.log_codec.specs.declared.command.Command.TheVariants.{Absent}
-use Rattle.merkle_records.specs.Merkle.{Digest, leads_over, pointer_to}
+use Rattle.merkle_records.specs.Merkle.{Digest, leads_over}
 use Rattle.verifier_cache.specs.declared.entry.Entry.{Entry}
 use Rattle.verifier_cache.specs.declared.entry.Hold.{Hold}
 use Rattle.verifier_cache.specs.declared.entry.Hold.TheVariants.{M}
@@ -26,15 +23,15 @@ use Rattle.verifier_commands.specs.Change.{did_get}
 use Rattle.verifier_commands.specs.Changes.{above, above_on, unset, absent_under}
 use Rattle.verifier_commands.specs.Transition.{Rules}
 use Rattle.host_shard.specs.declared.link.Link.{Link}
-use Rattle.host_shard.specs.Tree.{Tree, pointer_of}
-use Rattle.host_shard.specs.Chain.{IsChain, pointer_toward, last_value, end_path, known_links, ends_new, aimed, aimed_on, closed_value, closed_records}
-use Rattle.host_shard.specs.Mirrors.{IsKept}
+use Rattle.host_shard.specs.Tree.{Tree}
+use Rattle.host_shard.specs.Chain.{IsChain, pointer_toward, last_value, end_path, known_links, ends_new}
 use Rattle.host_laws.specs.Running.{Access, access_of}
 use Rattle.host_laws.proofs.StepLemmas.{test-passed, need-there, and_then-there}
 use Rattle.host_laws.proofs.RunLaws.{run-one}
 use Rattle.host_laws.proofs.StandingLemmas.{entry_of-last}
 use Rattle.host_laws.proofs.WorksLaws.{standing, Works}
 use Rattle.host_laws.proofs.ChainLaws.{LeadTo, AreOf, IsNext, next_fits}
+use Rattle.host_laws.proofs.StayLaws.{toward_key}
 use Rattle.host_laws.proofs.VisitLemmas.{Visited, IsBased, at_next, visited_link}
 
 -- there are no more of them than links
@@ -69,17 +66,7 @@ works_absent rules at key hold node on clock whole below past front room clear r
     holder : Entry
     holder = new_entry at (values.Node node) hold
 
--- ---- a link that has a record
-
--- a pointer is what its three parts say
-pointer_is : (digest : Digest) (path : List Bool) (value : Value) (pointer : Pointer)
-    → pointer.path ≡ path → pointer.digest ≡ digest (value_text value) → pointer.deferred ≡ false → pointer ≡ pointer_to digest path value
-pointer_is digest path value pointer to kept fresh = λ i. record { path = to i; digest = kept i; deferred = fresh i }
-
--- a node with the pointer that it has is as it was
-side_again : (node : Node) (on : Bool) (pointer : Pointer) → node_side node on ≡ Some pointer → with_side node on (Some pointer) ≡ node
-side_again node true pointer is = λ i. record node { side1 = sym is i }
-side_again node false pointer is = λ i. record node { side0 = sym is i }
+-- ---- along the records
 
 module _ (rules : Rules) (tree base : Tree) (clock : Reading) (key : List Bool) (lead : LeadTo rules.scheme.format.longest rules.scheme.digest tree key) where
   abbrev longest : ℕ
@@ -88,93 +75,6 @@ module _ (rules : Rules) (tree base : Tree) (clock : Reading) (key : List Bool) 
   abbrev digest : Digest
   digest = rules.scheme.digest
 
-  -- where a pointer leads to the key or above it
-  record IsStraight (at : List Bool) (node : Node) (on : Bool) (link : Link) : Type 0 where
-    pub again : with_side node on (Some (pointer_to digest link.path link.taken)) ≡ node
-    pub there : tree link.path ≡ Some link.taken
-
-  straight_link : (at : List Bool) (value : Value) (link : Link) → AreOf tree value → (next : IsNext longest digest tree key at value link)
-      → leads_over (node_side next.node next.on) key ≡ true → IsStraight at next.node next.on link
-  straight_link at value link known next over = go (node_side next.node next.on) refl over
-    where
-      of_node : (on : Bool) (pointer : Pointer) → node_side next.node on ≡ Some pointer → pointer_of value on ≡ Some pointer
-      of_node on pointer is = ap (λ (v : Value). pointer_of v on) next.is_node ∙ is
-
-      go : (o : Option Pointer) → node_side next.node next.on ≡ o → leads_over o key ≡ true → IsStraight at next.node next.on link
-      go None none leads = absurd (false≢true leads)
-      go (Some pointer) is leads =
-          let straight = next.straight pointer is leads in
-          let origin = known next.on pointer (of_node next.on pointer is) in
-          let kept : IsKept digest tree pointer = lead.kept origin.0 origin.1 pointer origin.2 leads in
-          let value_is : kept.value ≡ link.taken = same_Some kept.value link.taken (sym kept.there ∙ (ap tree straight.0 ∙ straight.1)) in
-          record {
-            again = ap (λ (p : Pointer). with_side next.node next.on (Some p))
-                (sym (pointer_is digest link.path link.taken pointer straight.0 (kept.digest_of ∙ ap (λ (v : Value). digest (value_text v)) value_is) (lead.fresh origin.0 origin.1 pointer origin.2 leads)))
-                ∙ side_again next.node next.on pointer is;
-            there = straight.1;
-          }
-
-  -- where the pointer of a value leads on the key's side
-  toward_key : (at : List Bool) (value : Value) (link : Link) (next : IsNext longest digest tree key at value link)
-      → pointer_toward value (side at key) ≡ node_side next.node next.on
-  toward_key at value link next =
-      ap (λ (s : Option Bool). pointer_toward value s) next.on_side ∙ ap (λ (v : Value). pointer_of v next.on) next.is_node
-
-  -- The paths that have records keep their values, where the last of them keeps its own.
-  pub known_stay : (at : List Bool) (value : Value) (links : List Link) → IsOf longest at value → AreOf tree value → IsBased rules tree base clock key lead at → 0 < length at
-      → IsChain tree key at value links
-      → let known = known_links key at value links in
-      (closed_value digest false at value known (last_value value known) ≡ value)
-      × ((k : List Bool) → closed_records digest false base known (last_value value known) k ≡ base k)
-  known_stay at value [] kind known based some chain = (refl, λ k. refl)
-  known_stay at value (link ∷ links) kind known based some chain =
-      let next = next_fits longest digest tree key lead at value link kind known chain.0 in
-      let below = at_next rules tree base clock key lead at value link next some based in
-      go next (known_stay link.path link.taken links next.kind next.known below.1 below.0 chain.1) (leads_over (pointer_toward value (side at key)) key) refl
-    where
-      more : List Link
-      more = known_links key link.path link.taken links
-
-      go : (next : IsNext longest digest tree key at value link)
-          → (closed_value digest false link.path link.taken more (last_value link.taken more) ≡ link.taken)
-          × ((k : List Bool) → closed_records digest false base more (last_value link.taken more) k ≡ base k)
-          → (b : Bool) → leads_over (pointer_toward value (side at key)) key ≡ b
-          → let gone = if b then link ∷ more else [] in
-          (closed_value digest false at value gone (last_value value gone) ≡ value)
-          × ((k : List Bool) → closed_records digest false base gone (last_value value gone) k ≡ base k)
-      go next stay false past = (refl, λ k. refl)
-      go next stay true over = (same_value', same_record)
-        where
-          straight : IsStraight at next.node next.on link
-          straight = straight_link at value link known next (ap (λ (o : Option Pointer). leads_over o key) (sym (toward_key at value link next)) ∙ over)
-
-          same_value' : closed_value digest false at value (link ∷ more) (last_value link.taken more) ≡ value
-          same_value' =
-              ap (λ (became : Value). aimed at value (pointer_to digest link.path became)) stay.0
-              ∙ (ap (λ (v : Value). aimed at v (pointer_to digest link.path link.taken)) next.is_node
-              ∙ (ap (λ (s : Option Bool). aimed_on next.node (pointer_to digest link.path link.taken) s) next.fits.below
-              ∙ (ap (λ (n : Node). values.Node n) straight.again ∙ sym next.is_node)))
-
-          same_record : (k : List Bool) → closed_records digest false base (link ∷ more) (last_value link.taken more) k ≡ base k
-          same_record k = tested (same_path k link.path) refl
-            where
-              became : Value
-              became = closed_value digest false link.path link.taken more (last_value link.taken more)
-
-              picked : (b : Bool) → same_path k link.path ≡ b
-                  → closed_records digest false base (link ∷ more) (last_value link.taken more) k
-                  ≡ (if b then Some became else closed_records digest false base more (last_value link.taken more) k)
-              picked b is = ap (λ (c : Bool). if c then Some became else closed_records digest false base more (last_value link.taken more) k) is
-
-              tested : (b : Bool) → same_path k link.path ≡ b → closed_records digest false base (link ∷ more) (last_value link.taken more) k ≡ base k
-              tested true is =
-                  picked true is
-                  ∙ (ap (λ (v : Value). Some v) stay.0
-                  ∙ (sym straight.there ∙ (based link.path next.on next.fits.below ∙ ap base (sym (same_path-true k link.path is)))))
-              tested false is = picked false is ∙ stay.1 k
-
-  -- ---- along the records
-
   absent_end : (at : List Bool) (hold : Hold) (value : Value) (link : Link) (next : IsNext longest digest tree key at value link)
       → leads_over (pointer_toward value (side at key)) key ≡ false
       → Visited rules base at hold value [] clock (Absent key at) (missed_access key) value
@@ -182,7 +82,7 @@ module _ (rules : Rules) (tree base : Tree) (clock : Reading) (key : List Bool) 
     told = (clock.at, did_get (unset key)) ∷ [];
     works = subst (λ (v : Value). Works rules 0 at hold v clock (Absent key at ∷ []) ((clock.at, did_get (unset key)) ∷ []) v clock) (sym next.is_node)
         (works_absent rules at key hold next.node next.on clock lead.whole next.on_side
-        (ap (λ (o : Option Pointer). leads_over o key) (sym (toward_key at value link next)) ∙ past));
+        (ap (λ (o : Option Pointer). leads_over o key) (sym (toward_key longest digest tree base key lead at value link next)) ∙ past));
     added = refl;
     evicted = refl;
     accesses = refl;

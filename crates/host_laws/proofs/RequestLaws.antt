@@ -24,7 +24,7 @@ use Rattle.soundness.specs.Certified.{evicted_by}
 use Rattle.host_shard.specs.declared.link.Link.{Link}
 use Rattle.host_shard.specs.declared.content.HotRecord.{HotRecord}
 use Rattle.host_shard.specs.Chain.{IsChain, last_value, end_path, ends_new}
-use Rattle.host_shard.specs.Shard.{Shard, tree_of, pending_shard}
+use Rattle.host_shard.specs.Shard.{Shard, tree_of, pending_shard, rehashed, touched}
 use Rattle.host_shard.specs.Content.{Content, cold, hot, vacant, pending, pending_hot}
 use Rattle.host_plan.specs.Moments.{taking, renewing}
 use Rattle.host_plan.specs.Request.{command_of, value_after, is_missed, links_known, links_gone, value_before, end_command, gone_along, served, served_hot}
@@ -40,7 +40,8 @@ use Rattle.host_laws.proofs.EndLemmas.{IsEnd, access_by, change_by, told_request
 use Rattle.host_laws.proofs.WorksLaws.{Works}
 use Rattle.host_laws.proofs.ChainLaws.{LeadTo}
 use Rattle.host_laws.proofs.VisitLemmas.{Visited, visited}
-use Rattle.host_laws.proofs.MissLemmas.{known_few, known_stay, missed_access, missed_visit}
+use Rattle.host_laws.proofs.MissLemmas.{known_few, missed_access, missed_visit}
+use Rattle.host_laws.proofs.StayLaws.{known_stay, found_gone}
 use Rattle.host_laws.proofs.MomentLaws.{received-taken, sent-given}
 use Rattle.host_laws.proofs.FrontierLaws.{leads, frontier_there, frontier_of, frontier_based, chain_length}
 use Rattle.host_laws.proofs.BetweenLaws.{clear-bare, length-bare, told_between, between_runs, between_ends}
@@ -125,15 +126,18 @@ module _ (rules : Rules) (clock : Reading) (shard : Shard) (request : Request) (
       let found = last_value shard.value links in
       let did : Visited rules shard.records shard.frontier B shard.value links clock (command_of request found) (access_by request found) (value_after request found) =
       visited rules (tree_of shard) shard.records clock request lead shard.frontier B shard.value links some kind (frontier_of shard) (frontier_based shard) chain in
+      let left : Shard = record (rehashed rules.scheme.digest shard links (value_after request found)) { touches = touched shard.touches asked } in
+      let is : gone_along rules.scheme.digest shard links request false ≡ left = found_gone rules.scheme.format.longest rules.scheme.digest shard links request servable chain in
       record {
         told = did.told;
-        works = did.works;
+        works = subst (λ (s : Shard). Works rules (length links) shard.frontier B shard.value clock (visit shard.frontier links (command_of request found ∷ [])) did.told s.value clock)
+            (sym is) did.works;
         added = did.added;
         evicted = did.evicted;
         accesses = did.accesses;
         at_clock = did.at_clock;
         outside = did.outside;
-        once = did.once;
+        once = λ path. subst (λ (s : Shard). IsCarried path (shard.records path) (s.records path) (carried path did.told)) (sym is) (did.once path);
       }
 
   -- a get's answer, where its key was missed
@@ -149,7 +153,7 @@ module _ (rules : Rules) (clock : Reading) (shard : Shard) (request : Request) (
       let known = links_known shard links request in
       let did : Visited rules shard.records shard.frontier B shard.value known clock (Absent asked (end_path shard.frontier known)) (missed_access asked) (last_value shard.value known) =
       missed_visit rules (tree_of shard) shard.records clock asked lead shard.frontier B shard.value links some kind (frontier_of shard) (frontier_based shard) chain new in
-      let stay = known_stay rules (tree_of shard) shard.records clock asked lead shard.frontier shard.value links kind (frontier_of shard) (frontier_based shard) some chain in
+      let stay = known_stay rules.scheme.format.longest rules.scheme.digest (tree_of shard) shard.records asked lead shard.frontier shard.value links kind (frontier_of shard) (frontier_based shard) chain in
       record {
         told = did.told;
         works = subst (λ (v : Value). Works rules (length known) shard.frontier B shard.value clock (visit shard.frontier known (Absent asked (end_path shard.frontier known) ∷ [])) did.told v clock)

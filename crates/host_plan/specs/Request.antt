@@ -1,5 +1,5 @@
 -- What one request does to a record, to a shard and to a hot record, and its commands.
-use Rattle.std.specs.Prelude.{ℕ, Bool, false, not, ◌&&◌, List, [], ◌∷◌, None, if◌then◌else◌}
+use Rattle.std.specs.Prelude.{ℕ, Bool, false, not, ◌&&◌, ◌||◌, List, [], ◌∷◌, None, is_some, if◌then◌else◌}
 use Rattle.tree_keys.specs.Path.{key_path}
 use Rattle.lamport_clocks.specs.Reading.{Reading}
 use Rattle.record_text.specs.declared.request.Request.{Request}
@@ -55,14 +55,22 @@ cold_commands shard links request clock missed =
     between (pending_shard shard) (renewing clock shard.stamp).at
     (visit shard.frontier (links_gone shard links request missed) (end_command shard links request missed ∷ []))
 
--- The shard behind these commands: the values that they leave, and one touch more of the key. Where that was missed, all
--- stays as it was.
+-- a get of a key that has a record
+abbrev pub is_read : Shard → Request → Bool
+is_read shard request = not request.put && is_some (shard.records (key_path false request.key))
+
+-- no record changes: the request misses its key, or reads its record
+abbrev pub stays : Shard → Request → Bool → Bool
+stays shard request missed = missed || is_read shard request
+
+-- The shard behind these commands: the values that they leave, and one touch more of the key, but where that was missed.
 abbrev pub gone_along : Digest → Shard → List Link → Request → Bool → Shard
 gone_along digest shard links request missed =
+    let same = stays shard request missed in
     let last = value_after request (last_value shard.value links) in
     record shard {
-      value = if missed then shard.value else closed_value digest false shard.frontier shard.value links last;
-      records = if missed then shard.records else closed_records digest false shard.records links last;
+      value = if same then shard.value else closed_value digest false shard.frontier shard.value links last;
+      records = if same then shard.records else closed_records digest false shard.records links last;
       touches = if missed then shard.touches else touched shard.touches (key_path false request.key);
     }
 

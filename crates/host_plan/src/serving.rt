@@ -18,7 +18,7 @@ ghost use Rattle.host_shard.specs.Shard.{tree_of, pending_shard};
 ghost use Rattle.host_shard.specs.Shown.{shown, shown_content};
 ghost use Rattle.host_plan.specs.declared.fault.PlanFault.TheVariants.{ClockEnd};
 ghost use Rattle.host_plan.specs.Plan.{Owns, IsOpenAt, IsPastEnd, IsPlan};
-ghost use Rattle.host_plan.specs.Request.{command_of, value_after, is_missed, links_gone, value_before, end_command, gone_along};
+ghost use Rattle.host_plan.specs.Request.{command_of, value_after, is_missed, links_gone, value_before, end_command, is_read, gone_along};
 ghost use Rattle.host_plan.specs.Visit.{visit, between};
 
 use crate::commands::Commands;
@@ -178,7 +178,7 @@ fn miss(
     })
 }
 
-// Goes along a chain to its key, does there what is asked, and rehashes the shard behind it.
+// Goes along a chain to its key, does there what is asked, and leaves the shard so.
 fn find<D: Digests>(
     alloc: Global,
     d: &D,
@@ -204,9 +204,41 @@ fn find<D: Digests>(
     let answer = answer_of(request, last_value(&shard.value, links));
     let command = command_of(request, &answer);
     let commands = Commands::between(alloc, shard.pending(), links, command, stamp)?;
-    shard.rehash(d, links, Value::Blob(answer.copy()))?;
-    shard.touch(request.key);
+    leave(d, shard, request, links, &answer)?;
     Ok(Plan { commands, answer })
+}
+
+// Leaves the shard as a request does that went along a chain to its key and answers this. Where it read the key's record,
+// each record stays, and no digest is made; else the shard is rehashed. The key has one touch more.
+fn leave<D: Digests>(
+    d: &D,
+    shard: &mut Shard,
+    request: &Request,
+    links: &[Link],
+    answer: &Blob,
+) -> Result<(), Memory>
+    requires own { Owns longest_blob (cold (shown shard.old)) request.now.key }
+    requires chain { IsChain (tree_of (shown shard.old)) (key_path false request.now.key)
+        shard.old.frontier shard.old.value links.now }
+    requires answer { values.Blob answer.now ≡ value_after request.now (last_value shard.old.value links.now) }
+    requires kind { IsOf longest_blob (key_path false request.now.key) (values.Blob answer.now) }
+    ensures gone { OnOk result (shown shard.new ≡ gone_along (D.functions d.now).digest
+        (shown shard.old) links.now request.now false) }
+    ensures fits { OnOk result (IsShard longest_blob (shown shard.new)) }
+    ensures as_before { OnErr result (shown shard.new ≡ shown shard.old) }
+{
+    if !reads(shard, request) {
+        shard.rehash(d, links, Value::Blob(answer.copy()))?;
+    }
+    shard.touch(request.key);
+    Ok(())
+}
+
+// A get of a key that has a record.
+fn reads(shard: &Shard, request: &Request) -> bool
+    ensures read { result ≡ is_read (shown shard.now) request.now }
+{
+    !request.put && shard.records.get(&Path::of_key(request.key)).is_some()
 }
 
 // Serves a request for a hot key.

@@ -17,7 +17,7 @@ use Rattle.merkle_records.specs.Merkle.{Digest, GivesDigests}
 use Rattle.host_shard.specs.declared.content.Content as code
 use Rattle.host_shard.specs.declared.link.Link.{Link}
 use Rattle.host_shard.specs.Tree.{Tree, pointer_of}
-use Rattle.host_shard.specs.Chain.{IsChain, IsNextLink, next_link, last_value}
+use Rattle.host_shard.specs.Chain.{IsChain, IsNextLink, next_link, last_value, closed_value, closed_records}
 use Rattle.host_shard.specs.Shard.{Shard, tree_of}
 use Rattle.host_shard.specs.Content.{Content, cold, hot, vacant}
 use Rattle.host_shard.specs.Mirrors.{IsShard, IsKeyOf}
@@ -25,7 +25,7 @@ use Rattle.host_shard.specs.Shown.{shown_content}
 use Rattle.host_shard.proofs.ChainLaws.{frontier_kind, last_kind}
 use Rattle.host_shard.proofs.ShardLaws.{rehashed_is}
 use Rattle.host_plan.specs.declared.plans.Plan.{Plan}
-use Rattle.host_plan.specs.Request.{is_missed, value_after, served}
+use Rattle.host_plan.specs.Request.{is_missed, value_after, stays, served}
 use Rattle.host_plan.specs.Plan.{Owns, IsOpenAt, IsPastEnd, AreLinks, IsPlan, clock_after, commands_of, value_found}
 use Rattle.host_table.specs.declared.told.Service.{Service}
 use Rattle.host_table.specs.Terms.{Terms, IsStampOf, IsStamped, first_at, phase_epoch}
@@ -45,13 +45,24 @@ after_kind longest request found fits whole kind = go request.put
 shard_owns : (longest : ℕ) (digest : Digest) (worker : ℕ) (shard : Shard) (request : Request) (clock : Reading) (links : List Link) (missed : Bool)
     → GivesDigests digest → IsBlob longest request.value → IsShard longest shard → IsKeyOf shard (key_path false request.key)
     → IsChain (tree_of shard) (key_path false request.key) shard.frontier shard.value links → IsShard longest (served digest worker shard links request clock missed)
-shard_owns longest digest worker shard request clock links true digests fits is own chain = record { below_root = is.below_root; no_data = is.no_data; kinds = is.kinds }
-shard_owns longest digest worker shard request clock links false digests fits is own chain =
-    let last = value_after request (last_value shard.value links) in
-    let rehashed = rehashed_is longest digest shard (key_path false request.key) links last digests is own
-    (after_kind longest request (last_value shard.value links) fits own.whole
-    (last_kind longest (tree_of shard) (key_path false request.key) shard.frontier shard.value links own.whole is.kinds (frontier_kind longest shard is.kinds) chain)) chain in
-    record { below_root = rehashed.below_root; no_data = rehashed.no_data; kinds = rehashed.kinds }
+shard_owns longest digest worker shard request clock links missed digests fits is own chain = go (stays shard request missed)
+  where
+    last : Value
+    last = value_after request (last_value shard.value links)
+
+    left : Bool → Shard
+    left same = record (served digest worker shard links request clock missed) {
+      value = if same then shard.value else closed_value digest false shard.frontier shard.value links last;
+      records = if same then shard.records else closed_records digest false shard.records links last;
+    }
+
+    go : (b : Bool) → IsShard longest (left b)
+    go true = record { below_root = is.below_root; no_data = is.no_data; kinds = is.kinds }
+    go false =
+        let rehashed = rehashed_is longest digest shard (key_path false request.key) links last digests is own
+        (after_kind longest request (last_value shard.value links) fits own.whole
+        (last_kind longest (tree_of shard) (key_path false request.key) shard.frontier shard.value links own.whole is.kinds (frontier_kind longest shard is.kinds) chain)) chain in
+        record { below_root = rehashed.below_root; no_data = rehashed.no_data; kinds = rehashed.kinds }
 
 -- what a content owned before a request it owns after it
 pub plan_owns : (absent : Bool) (longest : ℕ) (digest : Digest) (worker : ℕ) (content after : Content) (request : Request) (clock later : Reading) (plan : Plan)
