@@ -9,8 +9,8 @@ use Rattle.verifier_commands.specs.declared.state.State.{State}
 use Rattle.verifier_commands.specs.declared.slot_state.SlotState.{SlotState}
 use Rattle.verifier_commands.specs.declared.either_state.EitherState.{EitherState}
 use Rattle.verifier_commands.specs.declared.either_state.EitherState.TheVariants as states
-use Rattle.verifier_commands.specs.declared.outcome.Outcome.{Outcome}
-use Rattle.verifier_commands.specs.Outcome.{told}
+use Rattle.verifier_commands.specs.declared.answer.Answer.{Answer}
+use Rattle.verifier_commands.specs.Answer.{answered}
 use Rattle.verifier_commands.specs.Transition.{Rules, Step, transition}
 use Rattle.verifier_commands.specs.SlotTransition.{SlotStep, slot_transition}
 use Rattle.verifier_commands.specs.VerifierState.{path_state, slot_state, state_of, path_step, slot_step, perform}
