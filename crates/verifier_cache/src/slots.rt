@@ -94,15 +94,6 @@ impl SlotCache {
     {
         self.slots[usize::from(slot)] = None;
     }
-
-    /// Takes the entry out of a slot, which is empty then.
-    pub fn take_at(&mut self, slot: u16) -> Entry
-        requires there { IsSome (entry_at self.old slot) }
-        ensures entry { entry_at self.old slot ≡ Some result }
-        ensures slots { self.new ≡ with_slot self.old slot None }
-    {
-        self.slots[usize::from(slot)].take().unwrap()
-    }
 }
 
 // Becomes this data value: data over data where it stands.
