@@ -1,10 +1,10 @@
 //! What is kept of an operation beside its value's bytes.
-ghost use Rattle.std.specs.Prelude.{◌≡◌, ◌<◌, ◌≤◌, ◌^◌, length, take_while, nat_le};
+ghost use Rattle.std.specs.Prelude.{◌≡◌, ◌≤◌, length, take_while, nat_le};
 ghost use Rattle.std.specs.Option.{option_map};
-ghost use Rattle.operation_queue.specs.Heads.{FitsBlob, bytes_of, bytes_of_len, head_of, operation_of};
+ghost use Rattle.operation_queue.specs.Heads.{FitsBlob, bytes_in, bytes_of, bytes_of_len, head_of, operation_of};
 
 use lamport_clocks::Stamp;
-use record_text::{BlobRef, OperationRef};
+use record_text::{BlobRef, LONGEST_BLOB, OperationRef};
 
 /// An operation without its value's bytes: 32 bytes.
 #[derive(Clone, Copy, Debug)]
@@ -76,6 +76,17 @@ fn len_of(value: &BlobRef) -> Option<u8>
     }
 }
 
+/// The bytes of a data value: none of no value.
+pub(crate) fn value_bytes<'a>(value: &BlobRef<'a>) -> &'a [u8]
+    ensures value { result.now ≡ bytes_in value.now }
+    ensures fits { length result.now ≤ LONGEST_BLOB }
+{
+    match value.bytes() {
+        Some(bytes) => bytes,
+        None => &[],
+    }
+}
+
 /// How many heads at the front are of epochs up to this one.
 pub(crate) fn heads_through(heads: &[Head], through: u32) -> usize
     ensures value { result ≡ length (take_while (λ head. nat_le head.stamp.epoch through) heads.now) }
@@ -87,14 +98,14 @@ pub(crate) fn heads_through(heads: &[Head], through: u32) -> usize
         .count()
 }
 
-/// How many bytes the values of heads have.
-pub(crate) fn bytes_of(heads: &[Head]) -> usize
-    requires within { bytes_of heads.now < 2 ^ 64 }
+/// How many of the bytes are the values of these heads, which stand at their front.
+pub(crate) fn values_len(heads: &[Head], bytes: &[u8]) -> usize
+    requires within { bytes_of heads.now ≤ length bytes.now }
     ensures value { result ≡ bytes_of heads.now }
 {
-    let mut len = 0;
+    let mut rest = bytes;
     for head in heads {
-        len += head.value_len();
+        rest = &rest[head.value_len()..];
     }
-    len
+    bytes.len() - rest.len()
 }

@@ -1,7 +1,7 @@
 //! Operations that wait.
 ghost use Rattle.std.specs.Prelude.{◌≡◌, ◌+◌, ◌<◌, ◌≤◌, ◌++◌, ◌∷◌, [], length, drop, nat_le, take_while, IsOk, OnOk};
 
-use crate::head::{Head, bytes_of, heads_through};
+use crate::head::{Head, heads_through, value_bytes, values_len};
 use crate::lent::Operations;
 use base_words::Memory;
 use record_text::{LONGEST_BLOB, OperationRef};
@@ -63,9 +63,7 @@ impl OperationQueue {
         ensures room { self.old.room ≤ self.new.room + 1 }
     {
         self.heads.push_reserved(Head::of(operation));
-        if let Some(bytes) = operation.value().bytes() {
-            self.bytes.extend_reserved(bytes);
-        }
+        self.bytes.extend_reserved(value_bytes(operation.value()));
     }
 
     /// The operations that wait.
@@ -91,7 +89,7 @@ impl OperationQueue {
     {
         let heads = self.heads.as_slice();
         let count = heads_through(heads, through);
-        let len = bytes_of(&heads[..count]);
+        let len = values_len(&heads[..count], self.bytes.as_slice());
         self.heads.pass(count);
         self.bytes.pass(len);
     }
