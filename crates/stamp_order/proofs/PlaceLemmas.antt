@@ -1,24 +1,24 @@
 -- Lists merged by the places in the order of their starts: the first of all, where a place goes, and what is left.
-use Rattle.std.proofs.Common.{◌≡◌, ◌≢◌, ◌⊎◌, ℕ, zero, suc, ◌+◌, ◌<◌, ◌≤◌, Bool, true, false, cond, List, [], ◌∷◌, ◌++◌, length, map, take, drop, set, get_or, true≢false, inl, inr, refl, sym, ◌∙◌, ap, subst, Option, Some, None, Bor, slice_get, append_assoc, append-nil, length-append, get_or-set_same, get_or-set_other, arith}
+use Rattle.std.proofs.Common.{◌≡◌, ◌≢◌, ◌⊎◌, ℕ, zero, suc, ◌+◌, ◌<◌, ◌≤◌, Bool, true, false, cond, List, [], ◌∷◌, ◌++◌, length, map, take, drop, set, get_or, true≢false, inl, inr, refl, sym, ◌∙◌, ap, subst, Option, Some, None, Bor, slice_get, get_or-set_same, get_or-set_other, arith}
 use Rattle.std.specs.declared.cmp.Ordering.{Ordering}
 use Rattle.std.specs.declared.cmp.Ordering.TheVariants.{Less, Equal, Greater}
 use Rattle.std.specs.Cmp.{IsTotalOrder, IsStrictWeakOrder}
 use Rattle.std.specs.Ordering.{nat_cmp, ordering_then, ordering_reverse, is_lt}
-use Rattle.std.specs.List.{AllByRecursion, flat_map, insert}
-use Rattle.std.proofs.lemmas.Bool.{cond-true, cond-false, cases_eq}
+use Rattle.std.specs.List.{AllByRecursion, insert}
+use Rattle.std.proofs.lemmas.Bool.{cond-true, cond-false}
 use Rattle.std.proofs.lemmas.Bool.Decides.{nat_tests}
 use Rattle.std.specs.Prelude.{⊤, IfSome, is_some, option_copied}
 use Rattle.std.proofs.lemmas.Cmp.{on_total, then_total, nat_cmp_total}
-use Rattle.std.proofs.lemmas.List.{length-map, drop_all, drop_more, get_or_default}
+use Rattle.std.proofs.lemmas.List.{drop_all, drop_more, get_or_default}
 use Rattle.std.proofs.lemmas.List.Edits.{insert_end}
 use Rattle.std.proofs.lemmas.List.Sorted.{ranks_by}
 use Rattle.record_text.specs.declared.operation.Operation.{Operation}
-use Rattle.stamp_order.specs.InOrder.{put_in_order, in_order, IsInOrder}
+use Rattle.stamp_order.specs.InOrder.{put_in_order, in_order}
 use Rattle.stamp_order.specs.Moment.{moment_cmp}
 use Rattle.stamp_order.specs.Merged.{comes_before, merged, IsMerged}
 use Rattle.stamp_order.specs.Operations.{moment_of}
 use Rattle.stamp_order.specs.Lists.{all_of, AreMerged}
-use Rattle.stamp_order.specs.Places.{placed_cmp, is_sooner, list_at, placed, all_at, all_from, left_at, heads_sooner, begins_sooner, StandByStart, GoesTo, IsPutIn, IsStanding}
+use Rattle.stamp_order.specs.Places.{placed_cmp, is_sooner, list_at, placed, all_at, all_from, left_at, heads_sooner, begins_sooner, StandByStart, IsPutIn}
 use Rattle.stamp_order.proofs.InOrderLaws.{every-weaker, every-append, every-in_order, put-front}
 use Rattle.stamp_order.proofs.MomentLaws.{moment_cmp-total}
 use Rattle.stamp_order.proofs.MapLaws.{merged-map}

@@ -1,4 +1,4 @@
-use Rattle.std.proofs.Common.{◌<◌, List, [], length, get_or, sym, ◌∙◌, subst}
+use Rattle.std.proofs.Common.{◌<◌, List, [], length, sym, ◌∙◌, subst}
 use Rattle.std.proofs.lemmas.List.{get_or_default}
 use Rattle.record_text.specs.declared.operation.Operation.{Operation}
 use Rattle.stamp_order.proofs.PlaceLemmas.{some-first, none-first}
