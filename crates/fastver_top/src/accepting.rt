@@ -92,7 +92,7 @@ fn write_accepted<O: Sink>(operation: &Operation, out: &mut O) -> Result<(), Fai
     ensures counts { Counts (O.faults out.old) (O.faults out.new) result }
 {
     write_all(out, b"accepted ")?;
-    write_operation(operation, out)
+    write_operation(&operation.by_ref(), out)
 }
 
 // The status of what they come to.

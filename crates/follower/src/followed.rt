@@ -13,7 +13,7 @@ use base_words::Memory;
 use check_core::WrittenFold;
 use fv_outside::{Failed, Sink};
 use operation_folds::OperationFold;
-use record_text::Operation;
+use record_text::OperationRef;
 use report_text::{Page, key_line};
 use stamp_order::PlainMap;
 use std::alloc::Global;
@@ -43,9 +43,9 @@ impl OperationFold for Followed {
 
     ghost step = { followed };
 
-    fn add(&mut self, operation: &Operation) -> Result<(), Memory> {
-        if operation.put {
-            self.map.put(operation.key, operation.value.copy())?;
+    fn add(&mut self, operation: &OperationRef) -> Result<(), Memory> {
+        if operation.is_put() {
+            self.map.put(operation.key(), operation.value().to_blob())?;
         }
         Ok(())
     }

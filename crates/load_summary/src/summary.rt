@@ -1,8 +1,7 @@
 //! Tallies as they grow, and their text.
-ghost use Rattle.std.specs.Prelude.{◌≡◌, ◌↔◌, ◌+◌, ◌≤◌, ◌<◌, ◌^◌, [], ◌∷◌, ◌++◌, List, ℕ, length, IfOk, OnOk, OnErr, IsErr};
+ghost use Rattle.std.specs.Prelude.{◌≡◌, ◌↔◌, ◌+◌, ◌≤◌, ◌<◌, ◌^◌, [], ◌++◌, IfOk, OnOk, OnErr, IsErr};
 ghost use Rattle.fv_outside.specs.Faults.{Counts};
 ghost use Rattle.fv_outside.specs.Written.{Grows, GrowsByFront};
-ghost use Rattle.record_text.specs.declared.operation.Operation.{Operation};
 ghost use Rattle.report_text.specs.Page.{Passes};
 ghost use Rattle.load_summary.specs.Counting.{counted_of, with_operation};
 ghost use Rattle.load_summary.specs.Summary.{summary_with_end, worker_lines};
@@ -12,7 +11,7 @@ use crate::tally::Tally;
 use base_words::Memory;
 use fv_outside::{Failed, Sink};
 use operation_folds::OperationFold;
-use record_text::Operation;
+use record_text::OperationRef;
 use report_text::{Page, Status};
 use std::alloc::Global;
 use std::marker::Model;
@@ -49,30 +48,12 @@ impl Summary {
         })
     }
 
-    /// Counts these operations; one of a worker that is none of these is in no tally. Where there were more in all than 64
-    /// bits count it is want of memory, and none of them is counted.
-    pub fn count(&mut self, operations: &[Operation]) -> Result<(), Memory>
-        ensures counted { (workers : ℕ) (before : List Operation)
-            → self.old ≡ counted_of workers before
-            → OnOk result (self.new ≡ counted_of workers (before ++ operations.now)) }
-        ensures full { IsErr result ↔ (2 ^ 64 ≤ self.old.operations + length operations.now) }
-        ensures kept { OnErr result (self.new ≡ self.old) }
-    {
-        if operations.len() as u64 > u64::MAX - self.operations {
-            return Err(Memory);
-        }
-        for operation in operations {
-            self.count_one(operation);
-        }
-        Ok(())
-    }
-
     // Counts one operation.
-    fn count_one(&mut self, operation: &Operation)
+    fn count_one(&mut self, operation: &OperationRef)
         requires room { self.old.operations + 1 < 2 ^ 64 }
         ensures counted { self.new ≡ with_operation self.old operation.now }
     {
-        if let Some(tally) = self.tallies.get_mut(usize::from(operation.verifier)) {
+        if let Some(tally) = self.tallies.get_mut(usize::from(operation.verifier())) {
             tally.count(operation);
         }
         self.operations += 1;
@@ -101,7 +82,8 @@ impl Summary {
     }
 }
 
-// One operation after another is counted, as far as 64 bits count them.
+// One operation after another is counted; one of a worker that is none of these is in no tally. Where there are more in all
+// than 64 bits count it is want of memory, and that one isn't counted.
 impl OperationFold for Summary {
     ghost use Rattle.load_summary.specs.Counting.{Counted};
 
@@ -111,9 +93,10 @@ impl OperationFold for Summary {
 
     ghost step = { with_operation };
 
-    fn add(&mut self, operation: &Operation) -> Result<(), Memory>
+    fn add(&mut self, operation: &OperationRef) -> Result<(), Memory>
         ensures added { OnOk result (self.new ≡ with_operation self.old operation.now) }
         ensures full { IsErr result ↔ (2 ^ 64 ≤ self.old.operations + 1) }
+        ensures kept { OnErr result (self.new ≡ self.old) }
     {
         if self.operations == u64::MAX {
             return Err(Memory);

@@ -1,6 +1,6 @@
 //! What is counted of one worker.
 
-use record_text::Operation;
+use record_text::OperationRef;
 
 /// How often a worker got, put and deleted.
 #[derive(Clone, Copy, Debug, PartialEq, Eq)]
@@ -32,11 +32,11 @@ impl Tally {
     }
 
     /// Counts one operation more.
-    pub(crate) fn count(&mut self, operation: &Operation)
+    pub(crate) fn count(&mut self, operation: &OperationRef)
         requires room { IsWithin (2 ^ 64 - 2) self.old }
         ensures one { self.new ≡ with_one operation.now.put operation.now.value self.old }
     {
-        match (operation.put, operation.value.bytes()) {
+        match (operation.is_put(), operation.value().bytes()) {
             (false, Some(_)) => self.gets += 1,
             (false, None) => {
                 self.gets += 1;

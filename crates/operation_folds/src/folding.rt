@@ -3,7 +3,7 @@ ghost use Rattle.std.specs.Prelude.{◌≡◌, OnOk};
 ghost use Rattle.record_text.specs.declared.operation.Operation.{Operation};
 
 use base_words::Memory;
-use record_text::Operation;
+use record_text::OperationRef;
 
 /// What is made of operations as they come: a state, and a step from it by each operation.
 pub trait OperationFold: Drop {
@@ -17,6 +17,6 @@ pub trait OperationFold: Drop {
     ghost step: { State → Operation → State };
 
     /// Takes in the next operation. For want of memory it is of no more use.
-    fn add(&mut self, operation: &Operation) -> Result<(), Memory>
+    fn add(&mut self, operation: &OperationRef) -> Result<(), Memory>
         ensures added { OnOk result (state self.new ≡ step (state self.old) operation.now) };
 }

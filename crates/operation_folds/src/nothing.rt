@@ -2,7 +2,7 @@
 
 use crate::folding::OperationFold;
 use base_words::Memory;
-use record_text::Operation;
+use record_text::OperationRef;
 
 /// Makes nothing of operations, for whoever only wants their lines.
 #[derive(Drop)]
@@ -17,7 +17,7 @@ impl OperationFold for NothingMade {
 
     ghost step = { λ _ _. tt };
 
-    fn add(&mut self, _operation: &Operation) -> Result<(), Memory>
+    fn add(&mut self, _operation: &OperationRef) -> Result<(), Memory>
         ensures fine { result ≡ Ok tt }
     {
         Ok(())

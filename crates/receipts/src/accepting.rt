@@ -24,7 +24,7 @@ pub fn accept<D: Digests>(digests: &D, receipt: &Receipt, certificate: &Certific
     ensures answer { IsAnswer (D.functions digests.now) receipt.now certificate.now result }
 {
     let operation = &receipt.operation;
-    let text = receipt_text(operation);
+    let text = receipt_text(&operation.by_ref());
     let receipt_holds = is_same_tag(&digests.tag(text.as_slice()), &receipt.tag);
     let text = certificate_text(certificate.first, certificate.last);
     let certificate_holds = is_same_tag(&digests.tag(text.as_slice()), &certificate.tag);

@@ -1,13 +1,12 @@
 //! Receipts and certificates are issued: each is its text and the tag of the text.
 ghost use Rattle.std.specs.Prelude.{◌≡◌, ◌+◌, ◌≤◌, ◌++◌, length};
 ghost use Rattle.arrayvec.specs.ArrayVec.{array_vec_len};
-ghost use Rattle.record_text.specs.Texts.{blob_text};
 ghost use Rattle.receipts.specs.Receipts.{kind_tag, receipt_text, certificate_text, tagged};
 
 use crate::tagged_texts::TAG_LEN;
 use arrayvec::ArrayVec;
 use record_hash::Digests;
-use record_text::{Blob, Operation, push_stamp, push_u16};
+use record_text::{OperationRef, push_blob, push_stamp, push_u16};
 
 /// The first byte of a receipt.
 pub(crate) const RECEIPT: u8 = 1;
@@ -27,7 +26,7 @@ pub const LONGEST_RECEIPT: usize = 126;
 pub const CERTIFICATE_LEN: usize = 41;
 
 /// The receipt of an operation: its text and the text's tag.
-pub fn issue<D: Digests>(digests: &D, operation: &Operation) -> ArrayVec<u8, LONGEST_RECEIPT>
+pub fn issue<D: Digests>(digests: &D, operation: &OperationRef) -> ArrayVec<u8, LONGEST_RECEIPT>
     ensures text { result.items ≡ tagged (D.functions digests.now) (receipt_text operation.now) }
 {
     let mut receipt = receipt_text(operation);
@@ -48,18 +47,18 @@ pub fn certificate<D: Digests>(digests: &D, first: u32, last: u32) -> ArrayVec<u
 
 // The text of a receipt, with room for a tag.
 #[tactic(auto, unfolding(crate::specs::Receipts::receipt_text))]
-pub(crate) fn receipt_text(operation: &Operation) -> ArrayVec<u8, LONGEST_RECEIPT>
+pub(crate) fn receipt_text(operation: &OperationRef) -> ArrayVec<u8, LONGEST_RECEIPT>
     ensures text { result.items ≡ receipt_text operation.now }
     ensures room { array_vec_len result + TAG_LEN ≤ LONGEST_RECEIPT }
 {
     let mut text = ArrayVec::new();
     text.push(RECEIPT);
-    push_stamp(&mut text, operation.stamp);
-    push_u16(&mut text, operation.verifier);
-    push_all(&mut text, &operation.index.to_be_bytes());
-    text.push(kind_tag(operation.put));
-    push_all(&mut text, &operation.key.to_be_bytes());
-    push_blob(&mut text, &operation.value);
+    push_stamp(&mut text, operation.stamp());
+    push_u16(&mut text, operation.verifier());
+    push_all(&mut text, &operation.index().to_be_bytes());
+    text.push(kind_tag(operation.is_put()));
+    push_all(&mut text, &operation.key().to_be_bytes());
+    push_blob(&mut text, operation.value());
     text
 }
 
@@ -81,22 +80,6 @@ fn kind_tag(put: bool) -> u8
     ensures value { result ≡ kind_tag put }
 {
     if put { PUT } else { GET }
-}
-
-// Appends the text of a data value, of at most 66 bytes.
-fn push_blob<const CAP: usize>(items: &mut ArrayVec<u8, CAP>, blob: &Blob)
-    requires room { array_vec_len items.old + 66 ≤ CAP }
-    ensures text { items.new.items ≡ items.old.items ++ blob_text blob.now }
-    ensures len { array_vec_len items.new ≤ array_vec_len items.old + 66 }
-{
-    match blob.bytes() {
-        None => items.push(0),
-        Some(bytes) => {
-            items.push(1);
-            items.push(bytes.len() as u8);
-            push_all(items, bytes);
-        }
-    }
 }
 
 // Appends bytes that there is room for.

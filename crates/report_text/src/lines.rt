@@ -14,7 +14,7 @@ use fv_outside::{Failed, Sink, write_all};
 use lamport_clocks::Stamp;
 use receipts::{certificate, issue};
 use record_hash::Digests;
-use record_text::{Blob, Operation};
+use record_text::{BlobRef, OperationRef};
 
 /// Room for the longest line but that of a receipt, and a little more.
 pub const LONGEST_LINE: usize = 224;
@@ -36,23 +36,23 @@ pub fn epoch_line(epoch: u32, count: u64) -> ArrayVec<u8, LONGEST_LINE>
 }
 
 /// The line of a certified operation.
-pub fn operation_line(op: &Operation) -> ArrayVec<u8, LONGEST_LINE>
+pub fn operation_line(op: &OperationRef) -> ArrayVec<u8, LONGEST_LINE>
     ensures text { result.items ≡ words.operation_line op.now }
 {
     let mut line = ArrayVec::new();
-    push_stamp(&mut line, &op.stamp);
+    push_stamp(&mut line, &op.stamp());
     push_text(&mut line, b" v");
-    push_decimal(&mut line, u64::from(op.verifier));
-    push_command(&mut line, op.put);
-    push_decimal(&mut line, op.key);
+    push_decimal(&mut line, u64::from(op.verifier()));
+    push_command(&mut line, op.is_put());
+    push_decimal(&mut line, op.key());
     push_text(&mut line, b" ");
-    push_blob(&mut line, &op.value);
+    push_blob(&mut line, op.value());
     push_text(&mut line, b"\n");
     line
 }
 
 /// The line of an operation's receipt.
-pub fn receipt_line<D: Digests>(digests: &D, op: &Operation) -> ArrayVec<u8, RECEIPT_LINE_ROOM>
+pub fn receipt_line<D: Digests>(digests: &D, op: &OperationRef) -> ArrayVec<u8, RECEIPT_LINE_ROOM>
     ensures text { result.items ≡ words.receipt_line (D.functions digests.now) op.now }
 {
     let mut line = ArrayVec::new();
@@ -102,7 +102,7 @@ fn push_command<const ROOM: usize>(line: &mut ArrayVec<u8, ROOM>, put: bool)
 }
 
 // Adds a data value.
-fn push_blob<const ROOM: usize>(line: &mut ArrayVec<u8, ROOM>, blob: &Blob)
+fn push_blob<const ROOM: usize>(line: &mut ArrayVec<u8, ROOM>, blob: &BlobRef)
     requires room { array_vec_len line.old + 128 ≤ ROOM }
     ensures appended { line.new.items ≡ line.old.items ++ blob_words blob.now }
     ensures short { array_vec_len line.new ≤ array_vec_len line.old + 128 }
@@ -134,7 +134,7 @@ pub fn write_epoch<O: Sink>(epoch: u32, count: u64, sink: &mut O) -> Result<(), 
 }
 
 /// Writes the line of a certified operation.
-pub fn write_operation<O: Sink>(op: &Operation, sink: &mut O) -> Result<(), Failed>
+pub fn write_operation<O: Sink>(op: &OperationRef, sink: &mut O) -> Result<(), Failed>
     ensures whole { OnOk result (Grows (O.held sink.old) (O.held sink.new) (words.operation_line op.now)) }
     ensures front { OnErr result (GrowsByFront (O.held sink.old) (O.held sink.new) (words.operation_line op.now)) }
     ensures name { O.name sink.new ≡ O.name sink.old }

@@ -3,6 +3,6 @@ pub mod OneOrderLaws
 mod JoinLemmas
 pub mod MomentLaws
 pub mod MergedLaws
-mod FirstLemmas
+mod PlaceLemmas
 pub mod MapLaws
 mod EntriesLemmas

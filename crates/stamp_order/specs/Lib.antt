@@ -3,6 +3,7 @@ pub mod Moment
 pub mod Merged
 pub mod Operations
 pub mod Lists
+pub mod Places
 pub mod Serial
 pub mod PlainMap
 pub use Rattle.record_text.specs

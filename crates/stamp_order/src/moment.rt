@@ -3,7 +3,7 @@ ghost use Rattle.std.specs.Prelude.{◌≡◌};
 ghost use Rattle.stamp_order.specs.Operations.{moment_of};
 
 use lamport_clocks::Stamp;
-use record_text::Operation;
+use record_text::{Operation, OperationRef};
 
 /// When a verifier did something: its clock after it, its number, and the number of the command in its log.
 ///
@@ -25,6 +25,17 @@ impl Moment {
             at: operation.stamp,
             verifier: operation.verifier,
             index: operation.index,
+        }
+    }
+
+    /// The same, where its value stands elsewhere.
+    pub fn of_ref(operation: &OperationRef) -> Self
+        ensures value { result ≡ moment_of operation.now }
+    {
+        Moment {
+            at: operation.stamp(),
+            verifier: operation.verifier(),
+            index: operation.index(),
         }
     }
 }

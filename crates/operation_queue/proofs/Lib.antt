@@ -1,0 +1,2 @@
+-- Lemmas on heads.
+mod HeadLemmas

@@ -1,0 +1,111 @@
+//! What is kept of an operation beside its value's bytes.
+ghost use Rattle.std.specs.Prelude.{◌≡◌, ◌≤◌, length, take_while, nat_le};
+ghost use Rattle.std.specs.Option.{option_map};
+ghost use Rattle.operation_queue.specs.Heads.{FitsBlob, bytes_in, bytes_of, bytes_of_len, head_of, operation_of};
+
+use lamport_clocks::Stamp;
+use record_text::{BlobRef, LONGEST_BLOB, OperationRef};
+
+/// An operation without its value's bytes: 32 bytes.
+#[derive(Clone, Copy, Debug)]
+pub(crate) struct Head {
+    index: u64,
+    key: u64,
+    stamp: Stamp,
+    verifier: u16,
+    put: bool,
+    // the length of its value, if it has one
+    len: Option<u8>,
+}
+
+impl Head {
+    /// The head of an operation.
+    pub(crate) fn of(operation: &OperationRef) -> Self
+        ensures value { result ≡ head_of operation.now }
+        ensures fits { FitsBlob result }
+    {
+        Head {
+            index: operation.index(),
+            key: operation.key(),
+            stamp: operation.stamp(),
+            verifier: operation.verifier(),
+            put: operation.is_put(),
+            len: len_of(operation.value()),
+        }
+    }
+
+    /// How many bytes its value has: none, if it has no value.
+    pub(crate) fn value_len(&self) -> usize
+        ensures value { result ≡ bytes_of_len self.now.len }
+    {
+        match self.len {
+            Some(len) => usize::from(len),
+            None => 0,
+        }
+    }
+
+    /// The operation whose value these bytes are.
+    pub(crate) fn with_value<'a>(&self, bytes: &'a [u8]) -> OperationRef<'a>
+        requires fits { FitsBlob self.now }
+        requires len { length bytes.now ≡ bytes_of_len self.now.len }
+        ensures value { result ≡ operation_of self.now bytes.now }
+    {
+        let value = match self.len {
+            Some(_) => BlobRef::new(Some(bytes)),
+            None => BlobRef::new(None),
+        };
+        OperationRef::new(
+            self.stamp,
+            self.verifier,
+            self.index,
+            self.put,
+            self.key,
+            value,
+        )
+    }
+}
+
+// The length of a data value, if there is one.
+fn len_of(value: &BlobRef) -> Option<u8>
+    ensures value { result ≡ option_map (λ bytes. length bytes) value.now }
+    ensures fits { bytes_of_len result ≤ 64 }
+{
+    match value.bytes() {
+        Some(bytes) => Some(bytes.len() as u8),
+        None => None,
+    }
+}
+
+/// The bytes of a data value: none of no value.
+pub(crate) fn value_bytes<'a>(value: &BlobRef<'a>) -> &'a [u8]
+    ensures value { result.now ≡ bytes_in value.now }
+    ensures fits { length result.now ≤ LONGEST_BLOB }
+{
+    match value.bytes() {
+        Some(bytes) => bytes,
+        None => &[],
+    }
+}
+
+/// How many heads at the front are of epochs up to this one.
+pub(crate) fn heads_through(heads: &[Head], through: u32) -> usize
+    ensures value { result ≡ length (take_while (λ head. nat_le head.stamp.epoch through) heads.now) }
+    ensures within { result ≤ length heads.now }
+{
+    heads
+        .iter()
+        .take_while(|head| head.stamp.epoch <= through)
+        .count()
+}
+
+/// How many of the bytes are the values of these heads, which stand at their front.
+pub(crate) fn values_len(heads: &[Head], bytes: &[u8]) -> usize
+    requires within { bytes_of heads.now ≤ length bytes.now }
+    ensures value { result ≡ bytes_of heads.now }
+{
+    let mut rest = bytes;
+    for head in heads {
+        rest = &rest[head.value_len()..];
+    }
+    bytes.len() - rest.len()
+}

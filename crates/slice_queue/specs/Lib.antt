@@ -1,0 +1,2 @@
+-- What the clauses on queues cite.
+pub mod Waiting
