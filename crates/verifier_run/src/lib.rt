@@ -10,11 +10,10 @@
 mod kept;
 mod laws;
 mod logs;
-mod queue;
 mod run;
 mod tracer;
 
-pub use kept::{Kept, Yield};
+pub use kept::Kept;
 pub use laws::{
     logs_are_handed_out_in_order, logs_come_to_their_course, pieces_do_not_matter, runs_go_on,
     what_was_taken_leaves_no_trace,
