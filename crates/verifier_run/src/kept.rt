@@ -111,7 +111,7 @@ fn keep_operation(effect: Effect, queue: &mut OperationQueue) -> Option<Part>
 {
     match effect {
         Effect::Did(operation) => {
-            queue.push_reserved(&operation.by_ref());
+            queue.push_reserved(&operation);
             None
         }
         Effect::Sealed(part) => Some(part),
