@@ -106,12 +106,12 @@ impl Kept for Operation {
 // Appends the operation that an effect is, if it is one, and answers the part that it hands in.
 fn keep_operation(effect: Effect, queue: &mut OperationQueue) -> Option<Part>
     requires room { 0 < queue.old.room }
-    ensures items { queue.new.items ≡ queue.old.items ++ operation_in effect }
-    ensures part { option_to_list result ≡ part_in effect }
+    ensures items { queue.new.items ≡ queue.old.items ++ operation_in effect.entry }
+    ensures part { option_to_list result ≡ part_in effect.entry }
 {
     match effect {
         Effect::Did(operation) => {
-            queue.push_reserved(&operation.by_ref());
+            queue.push_reserved(&operation);
             None
         }
         Effect::Sealed(part) => Some(part),

@@ -228,7 +228,7 @@ impl Run<Operation> {
 
 // Copies of operations.
 fn copies(alloc: Global, operations: Operations) -> Result<Vec<Operation>, Memory>
-    ensures items { IfOk result (λ v. v.items ≡ operations) }
+    ensures items { IfOk result (λ v. v.items ≡ operations.entry) }
 {
     let mut copies = Vec::new(alloc);
     copies.reserve(operations.len())?;
