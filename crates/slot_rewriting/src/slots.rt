@@ -174,15 +174,30 @@ impl Slots {
         }
     }
 
-    // The slots of a path that leaves its own, and of its parent.
-    fn leave_below(&mut self, path: &Path, parent: &Path) -> (u16, u16)
-        requires there { HasSlot path.now self.old }
-        requires parent_there { HasSlot parent.now self.old }
-        ensures slots { result ≡ (slot_of path.now self.old, slot_of parent.now self.old) }
-        ensures paths { self.new ≡ with_path_at self.old (slot_of path.now self.old) None }
+    // An evict by its digest, by slots.
+    fn evict_m(&mut self, path: &Path, parent: &Path) -> SlotCommand
+        requires fits { CanRewrite self.old (commands.EvictM path.now parent.now) }
+        ensures value { result ≡ rewritten self.old (commands.EvictM path.now parent.now) }
+        ensures paths { self.new ≡ paths_after self.old (commands.EvictM path.now parent.now) }
     {
         let parent = self.slot(parent);
-        (self.leave(path), parent)
+        let slot = self.leave(path);
+        SlotCommand::EvictM { slot, parent }
+    }
+
+    // An evict by its stamp out of its parent, by slots.
+    fn evict_bm(&mut self, path: &Path, parent: &Path, stamp: Stamp) -> SlotCommand
+        requires fits { CanRewrite self.old (commands.EvictBM path.now parent.now stamp) }
+        ensures value { result ≡ rewritten self.old (commands.EvictBM path.now parent.now stamp) }
+        ensures paths { self.new ≡ paths_after self.old (commands.EvictBM path.now parent.now stamp) }
+    {
+        let parent = self.slot(parent);
+        let slot = self.leave(path);
+        SlotCommand::EvictBM {
+            slot,
+            parent,
+            stamp,
+        }
     }
 
     /// A command by slots. What it adds stands in the lowest empty slot then, and the slot of what it evicts is empty.
@@ -197,10 +212,7 @@ impl Slots {
                 value,
                 parent,
             } => self.add_m(path, value, parent),
-            Command::EvictM { path, parent } => {
-                let (slot, parent) = self.leave_below(path, parent);
-                SlotCommand::EvictM { slot, parent }
-            }
+            Command::EvictM { path, parent } => self.evict_m(path, parent),
             Command::AddB {
                 path,
                 value,
@@ -215,14 +227,7 @@ impl Slots {
                 path,
                 parent,
                 stamp,
-            } => {
-                let (slot, parent) = self.leave_below(path, parent);
-                SlotCommand::EvictBM {
-                    slot,
-                    parent,
-                    stamp: *stamp,
-                }
-            }
+            } => self.evict_bm(path, parent, *stamp),
             Command::Get { path, value } => SlotCommand::Get {
                 slot: self.slot(path),
                 value: data_of(value),
