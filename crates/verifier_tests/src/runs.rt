@@ -92,12 +92,7 @@ fn only_part(rt: &impl Abort, label: &str, run: &Run) -> Part {
 }
 
 // Operations are these.
-fn assert_operations(
-    rt: &impl Abort,
-    label: &str,
-    operations: Operations,
-    expected: &[Operation],
-) {
+fn assert_operations(rt: &impl Abort, label: &str, operations: Operations, expected: &[Operation]) {
     same(rt, label, &operations.len(), &expected.len());
     for (operation, wanted) in operations.zip(expected) {
         same(rt, label, &operation.to_operation(), wanted);
