@@ -1,15 +1,15 @@
 -- What an audit keeps of a command is what the cache told before it.
-use Rattle.std.proofs.Common.{◌≡◌, ℕ, map, Option, Some, None, Ok, refl, sym, ◌∙◌, ap}
+use Rattle.std.proofs.Common.{◌≡◌, ℕ, List, ◌++◌, map, Option, Some, None, Ok, refl, sym, ◌∙◌, ap}
 use Rattle.std.specs.Option.{option_map, option_to_list}
 use Rattle.lamport_clocks.specs.declared.stamp.Stamp.{Stamp}
 use Rattle.log_codec.specs.declared.log_command.LogCommand.{LogCommand}
 use Rattle.merkle_records.specs.Scheme.{Scheme}
+use Rattle.multiset_sum.specs.declared.part.Part.{Part}
 use Rattle.stamp_order.specs.declared.moment.Moment.{Moment}
 use Rattle.verifier_commands.specs.declared.effect.Effect.{Effect}
 use Rattle.verifier_commands.specs.Machine.{Machine, rules_for, stepped}
 use Rattle.verifier_commands.specs.Trace.{done_with, performed}
 use Rattle.verifier_commands.proofs.TraceLaws.{was_performed}
-use Rattle.verifier_run.specs.declared.kept.Yield.{Yield}
 use Rattle.verifier_run.specs.Kept.{part_in, Yields}
 use Rattle.collision_exhibit.specs.declared.audit_event.AuditEvent.{AuditEvent}
 use Rattle.collision_exhibit.specs.declared.audit_event.AuditChange.{AuditChange}
@@ -37,26 +37,26 @@ listed f (Some value) = refl
 
 -- What the cache tells of a command before it is what is kept of the command.
 pub told_yields : (scheme : Scheme) (machine : Machine) (command : LogCommand) (effect : Effect) (after : Machine)
-    (at : Stamp) (number index : ℕ) (change : Option AuditChange) (yield : Yield AuditEvent)
+    (at : Stamp) (number index : ℕ) (change : Option AuditChange) (old new : List AuditEvent) (part : Option Part)
     → stepped scheme machine command ≡ Ok (effect, after)
     → at ≡ after.state.clock.at → number ≡ machine.number → index ≡ machine.accepted
     → change ≡ audit_change_of number machine.state.cache command
-    → yield.item ≡ option_map (at_moment (record { at = at; verifier = number; index = index })) change
-    → option_to_list yield.part ≡ part_in effect
-    → Yields audit_events_by yield (performed scheme machine command) after
-told_yields scheme machine command effect after at number index change yield answers at_is number_is index_is change_is item part =
+    → new ≡ old ++ option_to_list (option_map (at_moment (record { at = at; verifier = number; index = index })) change)
+    → option_to_list part ≡ part_in effect
+    → Yields audit_events_by old new part (performed scheme machine command) after
+told_yields scheme machine command effect after at number index change old new part answers at_is number_is index_is change_is kept sealed =
     let was = was_performed scheme machine command effect after answers in
     let now = ap (λ (m : Machine). m.state.clock.at) was.after_is in
     let changes = deed_told (rules_for scheme machine) machine.state command (was.change, was.state) was.accepted in (
       done_with machine was.change was.state,
       was.step,
-      ap option_to_list item
-          ∙ listed (at_moment (record { at = at; verifier = number; index = index })) change
+      kept ∙ ap (λ (events : List AuditEvent). old ++ events)
+          (listed (at_moment (record { at = at; verifier = number; index = index })) change
           ∙ ap (λ (moment : Moment). map (at_moment moment) (option_to_list change))
           (moment_told machine at was.state.clock.at number index (at_is ∙ now) number_is index_is)
           ∙ ap (λ (told : Option AuditChange).
           map (at_moment (record { at = was.state.clock.at; verifier = machine.number; index = machine.accepted })) (option_to_list told))
           (change_is ∙ ap (λ (n : ℕ). audit_change_of n machine.state.cache command) number_is)
-          ∙ ap (map (at_moment (record { at = was.state.clock.at; verifier = machine.number; index = machine.accepted }))) (sym changes),
-      part ∙ ap part_in was.effect_is,
+          ∙ ap (map (at_moment (record { at = was.state.clock.at; verifier = machine.number; index = machine.accepted }))) (sym changes)),
+      sealed ∙ ap part_in was.effect_is,
     )

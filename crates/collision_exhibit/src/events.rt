@@ -28,7 +28,7 @@ fn events_of(alloc: Global, runs: Vec<Run<AuditEvent>>) -> Result<Vec<AuditEvent
 {
     let mut audited = Vec::new(alloc);
     for run in runs {
-        let mut kept = run.into_items();
+        let mut kept = run.into_store().into_vec();
         // The first are taken as they lie: of one verifier that is all.
         if audited.is_empty() {
             audited = kept;

@@ -168,7 +168,7 @@ fn answer(rt: &impl Abort, alloc: Global, number: u16, log: &[u8], answers: &mut
     let run = run_log(alloc, &ToyDigests, number, &header(), log).expect(rt, "memory");
     same_at(rt, number as usize, &run.refused(), &None);
     for operation in run.ops() {
-        answers.push(operation.copy()).expect(rt, "memory");
+        answers.push(operation.to_operation()).expect(rt, "memory");
     }
 }
 

@@ -1,12 +1,13 @@
 //! The cache of a verifier whose commands name slots.
 ghost use Rattle.std.specs.Prelude.{◌≡◌, Some, None, IsSome, IsNone, IsTrue, IfSome, IfOk};
 ghost use Rattle.std.specs.Option.{option_copied};
+ghost use Rattle.record_text.specs.declared.value.Value.TheVariants as values;
 ghost use Rattle.verifier_cache.specs.Entry.{with_value, linked};
 ghost use Rattle.verifier_cache.specs.Slots.{is_slot, entry_at, with_slot, empty_slots};
 
 use crate::entry::Entry;
 use base_words::Memory;
-use record_text::{Pointer, Value};
+use record_text::{Blob, Pointer, Value};
 use std::alloc::Global;
 use std::marker::Model;
 
@@ -75,14 +76,14 @@ impl SlotCache {
         }
     }
 
-    /// Writes the value of the entry in a slot.
-    pub fn write_at(&mut self, slot: u16, value: Value)
+    /// Writes a data value where the value of the entry in a slot stands.
+    pub fn write_at(&mut self, slot: u16, value: &Blob)
         requires there { IsSome (entry_at self.old slot) }
         ensures slots { IfSome (entry_at self.old slot)
-            (λ entry. self.new ≡ with_slot self.old slot (Some (with_value entry value))) }
+            (λ entry. self.new ≡ with_slot self.old slot (Some (with_value entry (values.Blob value.now)))) }
     {
         if let Some(entry) = &mut self.slots[usize::from(slot)] {
-            entry.value = value;
+            write_blob(&mut entry.value, value);
         }
     }
 
@@ -93,13 +94,15 @@ impl SlotCache {
     {
         self.slots[usize::from(slot)] = None;
     }
+}
 
-    /// Takes the entry out of a slot, which is empty then.
-    pub fn take_at(&mut self, slot: u16) -> Entry
-        requires there { IsSome (entry_at self.old slot) }
-        ensures entry { entry_at self.old slot ≡ Some result }
-        ensures slots { self.new ≡ with_slot self.old slot None }
-    {
-        self.slots[usize::from(slot)].take().unwrap()
+// Becomes this data value: data over data where it stands.
+fn write_blob(value: &mut Value, blob: &Blob)
+    ensures value { value.new ≡ values.Blob blob.now }
+{
+    if let Value::Blob(own) = &mut *value {
+        own.assign(blob);
+        return;
     }
+    *value = Value::Blob(blob.copy());
 }

@@ -1,5 +1,5 @@
 -- What a state of one kind follows, the verifier's state of either kind does.
-use Rattle.std.proofs.Common.{◌≡◌, Result, Ok, Err, refl, sym, ap, subst}
+use Rattle.std.proofs.Common.{◌≡◌, ℕ, List, Result, Ok, Err, refl, sym, ap, subst}
 use Rattle.base_words.specs.Follows.{Follows}
 use Rattle.record_text.specs.declared.refusal.Refusal.{Refusal}
 use Rattle.log_codec.specs.declared.command.Command.{Command}
@@ -9,8 +9,8 @@ use Rattle.verifier_commands.specs.declared.state.State.{State}
 use Rattle.verifier_commands.specs.declared.slot_state.SlotState.{SlotState}
 use Rattle.verifier_commands.specs.declared.either_state.EitherState.{EitherState}
 use Rattle.verifier_commands.specs.declared.either_state.EitherState.TheVariants as states
-use Rattle.verifier_commands.specs.declared.outcome.Outcome.{Outcome}
-use Rattle.verifier_commands.specs.Outcome.{told}
+use Rattle.verifier_commands.specs.declared.answer.Answer.{Answer}
+use Rattle.verifier_commands.specs.Answer.{answered}
 use Rattle.verifier_commands.specs.Transition.{Rules, Step, transition}
 use Rattle.verifier_commands.specs.SlotTransition.{SlotStep, slot_transition}
 use Rattle.verifier_commands.specs.VerifierState.{path_state, slot_state, state_of, path_step, slot_step, perform}
@@ -24,24 +24,24 @@ follows_as : {A E S T : Type 0} (f : S → T) (result : Result A E) (old new : S
 follows_as f (Ok effect) old new step is = ap (seen_as f) is
 follows_as f (Err refusal) old new step is = (ap (seen_as f) is.0, ap f is.1)
 
-told_path : (step : Step) → seen_as path_state (told step) ≡ told (path_step step)
-told_path (Ok done) = refl
-told_path (Err refusal) = refl
+answered_path : (lanes : List ℕ → List ℕ) (step : Step) → seen_as path_state (answered lanes step) ≡ answered lanes (path_step step)
+answered_path lanes (Ok done) = refl
+answered_path lanes (Err refusal) = refl
 
-told_slot : (step : SlotStep) → seen_as slot_state (told step) ≡ told (slot_step step)
-told_slot (Ok done) = refl
-told_slot (Err refusal) = refl
+answered_slot : (lanes : List ℕ → List ℕ) (step : SlotStep) → seen_as slot_state (answered lanes step) ≡ answered lanes (slot_step step)
+answered_slot lanes (Ok done) = refl
+answered_slot lanes (Err refusal) = refl
 
-pub follows_path : (rules : Rules) (command : Command) (whole : EitherState) (old new : State) (result : Result Outcome Refusal) → whole ≡ states.ByPath old → Follows result old new (told (transition rules old command))
-    → Follows result (state_of whole) (path_state new) (told (perform rules (state_of whole) (ByPath command)))
-follows_path rules command whole old new result is follows =
-    subst (λ (w : EitherState). Follows result (state_of w) (path_state new) (told (perform rules (state_of w) (ByPath command)))) (sym is)
-    (subst (Follows result (path_state old) (path_state new)) (told_path (transition rules old command))
-    (follows_as path_state result old new (told (transition rules old command)) follows))
+pub follows_path : (lanes : List ℕ → List ℕ) (rules : Rules) (command : Command) (whole : EitherState) (old new : State) (result : Result Answer Refusal) → whole ≡ states.ByPath old → Follows result old new (answered lanes (transition rules old command))
+    → Follows result (state_of whole) (path_state new) (answered lanes (perform rules (state_of whole) (ByPath command)))
+follows_path lanes rules command whole old new result is follows =
+    subst (λ (w : EitherState). Follows result (state_of w) (path_state new) (answered lanes (perform rules (state_of w) (ByPath command)))) (sym is)
+    (subst (Follows result (path_state old) (path_state new)) (answered_path lanes (transition rules old command))
+    (follows_as path_state result old new (answered lanes (transition rules old command)) follows))
 
-pub follows_slot : (rules : Rules) (command : SlotCommand) (whole : EitherState) (old new : SlotState) (result : Result Outcome Refusal) → whole ≡ states.BySlot old → Follows result old new (told (slot_transition rules old command))
-    → Follows result (state_of whole) (slot_state new) (told (perform rules (state_of whole) (BySlot command)))
-follows_slot rules command whole old new result is follows =
-    subst (λ (w : EitherState). Follows result (state_of w) (slot_state new) (told (perform rules (state_of w) (BySlot command)))) (sym is)
-    (subst (Follows result (slot_state old) (slot_state new)) (told_slot (slot_transition rules old command))
-    (follows_as slot_state result old new (told (slot_transition rules old command)) follows))
+pub follows_slot : (lanes : List ℕ → List ℕ) (rules : Rules) (command : SlotCommand) (whole : EitherState) (old new : SlotState) (result : Result Answer Refusal) → whole ≡ states.BySlot old → Follows result old new (answered lanes (slot_transition rules old command))
+    → Follows result (state_of whole) (slot_state new) (answered lanes (perform rules (state_of whole) (BySlot command)))
+follows_slot lanes rules command whole old new result is follows =
+    subst (λ (w : EitherState). Follows result (state_of w) (slot_state new) (answered lanes (perform rules (state_of w) (BySlot command)))) (sym is)
+    (subst (Follows result (slot_state old) (slot_state new)) (answered_slot lanes (slot_transition rules old command))
+    (follows_as slot_state result old new (answered lanes (slot_transition rules old command)) follows))

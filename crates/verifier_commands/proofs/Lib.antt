@@ -5,6 +5,7 @@ mod CacheLemmas
 mod LinkLemmas
 mod SlotLemmas
 mod EitherLemmas
+mod AnswerLemmas
 pub mod BoundLaws
 pub mod InvertLaws
 pub mod TickLaws

@@ -9,6 +9,7 @@ pub mod VerifierState
 pub mod Outcome
 pub mod Sums
 pub mod Machine
+pub mod Answer
 pub mod Ticks
 pub mod Event
 pub mod Trace

@@ -1,5 +1,5 @@
 -- A verifier as a whole: its number, its state and sums, and how many commands it has accepted.
-use Rattle.std.specs.Prelude.{◌≡◌, ℕ, ◌+◌, ◌<◌, ◌≤◌, Bool, true, false, List, Option, Some, None, Result, Ok}
+use Rattle.std.specs.Prelude.{◌≡◌, ℕ, ◌+◌, ◌≤◌, Bool, true, false, List, Option, Some, None, Result, Ok}
 use Rattle.lamport_clocks.specs.declared.header.Header.{Header}
 use Rattle.lamport_clocks.specs.Reading.{Reading}
 use Rattle.lamport_clocks.specs.declared.stamp.Stamp.{Stamp}
@@ -9,13 +9,11 @@ use Rattle.record_text.specs.declared.refusal.Refusal.{Refusal}
 use Rattle.log_codec.specs.declared.log_command.LogCommand.{LogCommand}
 use Rattle.merkle_records.specs.Scheme.{Scheme}
 use Rattle.verifier_commands.specs.declared.sums.Sums.{Sums}
-use Rattle.verifier_commands.specs.declared.outcome.Outcome.{Outcome}
-use Rattle.verifier_commands.specs.declared.outcome.Outcome.TheVariants.{AddM, EvictM, AddB, EvictB, EvictBM, Get, Put, NextEpoch}
 use Rattle.verifier_commands.specs.declared.effect.Effect.{Effect}
 use Rattle.verifier_commands.specs.declared.effect.Effect.TheVariants.{Plain, Did, Opened, Sealed}
 use Rattle.verifier_commands.specs.Transition.{Rules}
 use Rattle.verifier_commands.specs.VerifierState.{VerifierState, first_state, perform}
-use Rattle.verifier_commands.specs.Outcome.{told}
+use Rattle.verifier_commands.specs.Outcome.{Outcome, AddM, EvictM, AddB, EvictB, EvictBM, Get, Put, NextEpoch, told}
 use Rattle.verifier_commands.specs.Sums.{zero_sums, sums_after}
 
 -- what a verifier is
@@ -76,17 +74,6 @@ abbrev pub stepped : Scheme → Machine → LogCommand → Result (Effect × Mac
 stepped scheme machine command = concluded scheme machine (told (perform (rules_for scheme machine) machine.state command))
 
 -- ---- why no sum grows too large
-
--- How the clock moves with an outcome: it stands, or its counter rises, or the counter begins again at 0.
-abbrev pub ClockMoves : Reading → Reading → Outcome → Type 0
-ClockMoves old new AddM = new ≡ old
-ClockMoves old new EvictM = new ≡ old
-ClockMoves old new (AddB element) = (new.end ≡ old.end) × (old.at.counter < new.at.counter)
-ClockMoves old new (EvictB element) = (new.end ≡ old.end) × (old.at.counter < new.at.counter)
-ClockMoves old new (EvictBM element) = (new.end ≡ old.end) × (old.at.counter < new.at.counter)
-ClockMoves old new (Get key value) = new ≡ old
-ClockMoves old new (Put key value) = new ≡ old
-ClockMoves old new (NextEpoch sealed) = (new.end ≡ old.end) × (new.at.counter ≡ 0)
 
 -- Each add and each evict raises the counter, which is bounded: so is the number of elements in each sum.
 pub record AreBounded (sums : Sums) (clock : Reading) : Type 0 where

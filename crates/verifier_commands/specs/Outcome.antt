@@ -4,9 +4,25 @@ use Rattle.tree_keys.specs.Path.{key_of}
 use Rattle.record_text.specs.declared.value.Value.{Value}
 use Rattle.record_text.specs.declared.value.Value.TheVariants as values
 use Rattle.record_text.specs.declared.refusal.Refusal.{Refusal}
-use Rattle.verifier_commands.specs.declared.outcome.Outcome.{Outcome}
-use Rattle.verifier_commands.specs.declared.outcome.Outcome.TheVariants as outcomes
+use Rattle.record_text.specs.declared.element.Element.{Element}
 use Rattle.verifier_commands.specs.Change.{Change, did_add_m, did_evict_m, did_add_b, did_evict_b, did_evict_bm, did_get, did_put, did_next_epoch}
+
+-- what an accepted command hands up, named after the command
+pub data Outcome : Type 0 where
+  -- a record came in by its digest
+  AddM : Outcome
+  -- a record went out into its parent
+  EvictM : Outcome
+  -- a record came back that had been evicted as this element
+  AddB : Element → Outcome
+  -- a record went out as this element, and one out of its parent
+  EvictB : Element → Outcome
+  EvictBM : Element → Outcome
+  -- the value of a key was read, and written
+  Get : ℕ → Option (List ℕ) → Outcome
+  Put : ℕ → Option (List ℕ) → Outcome
+  -- the clock went to the next epoch, which seals this one, if any
+  NextEpoch : Option ℕ → Outcome
 
 -- the data value that a value is
 abbrev pub blob_of : Value → Option (List ℕ)
@@ -15,14 +31,14 @@ blob_of (values.Node node) = None
 
 -- what a change hands up
 abbrev pub outcome_of : Change → Outcome
-outcome_of (did_add_m parent after child) = outcomes.AddM
-outcome_of (did_evict_m parent after child) = outcomes.EvictM
-outcome_of (did_add_b child element) = outcomes.AddB element
-outcome_of (did_evict_b child element) = outcomes.EvictB element
-outcome_of (did_evict_bm parent after child element) = outcomes.EvictBM element
-outcome_of (did_get entry) = outcomes.Get (key_of entry.path) (blob_of entry.value)
-outcome_of (did_put before after) = outcomes.Put (key_of after.path) (blob_of after.value)
-outcome_of (did_next_epoch sealed) = outcomes.NextEpoch sealed
+outcome_of (did_add_m parent after child) = AddM
+outcome_of (did_evict_m parent after child) = EvictM
+outcome_of (did_add_b child element) = AddB element
+outcome_of (did_evict_b child element) = EvictB element
+outcome_of (did_evict_bm parent after child element) = EvictBM element
+outcome_of (did_get entry) = Get (key_of entry.path) (blob_of entry.value)
+outcome_of (did_put before after) = Put (key_of after.path) (blob_of after.value)
+outcome_of (did_next_epoch sealed) = NextEpoch sealed
 
 -- a step by what it hands up, whatever the state
 abbrev pub told : {S : Type 0} → Result (Change × S) Refusal → Result (Outcome × S) Refusal

@@ -4,8 +4,7 @@ use Rattle.std.specs.Prelude.{ℕ, ◌==◌, if◌then◌else◌}
 use Rattle.record_text.specs.declared.element.Element.{Element}
 use Rattle.multiset_sum.specs.Sum.{zero_sum, with_lanes}
 use Rattle.verifier_commands.specs.declared.sums.Sums.{Sums}
-use Rattle.verifier_commands.specs.declared.outcome.Outcome.{Outcome}
-use Rattle.verifier_commands.specs.declared.outcome.Outcome.TheVariants.{AddM, EvictM, AddB, EvictB, EvictBM, Get, Put, NextEpoch}
+use Rattle.verifier_commands.specs.Outcome.{Outcome, AddM, EvictM, AddB, EvictB, EvictBM, Get, Put, NextEpoch}
 use Rattle.merkle_records.specs.Scheme.{Scheme, lanes_of}
 
 -- before anything was added or evicted

@@ -1,12 +1,11 @@
-//! Each command by its kind, and what its outcome answers.
+//! Each command by its kind, and what it hands up.
 ghost use Rattle.std.specs.Prelude.{IfOk};
 ghost use Rattle.base_words.specs.Follows.{Follows};
 ghost use Rattle.merkle_records.specs.Scheme.{scheme_of};
 ghost use Rattle.verifier_commands.specs.Transition.{transition};
-ghost use Rattle.verifier_commands.specs.Outcome.{told};
-ghost use Rattle.verifier_commands.specs.Machine.{ClockMoves};
+ghost use Rattle.verifier_commands.specs.Answer.{answered, ClockMoves};
 
-use crate::outcome::Outcome;
+use crate::answer::Answer;
 use crate::state::State;
 use lamport_clocks::Header;
 use log_codec::Command;
@@ -15,15 +14,15 @@ use record_text::Refusal;
 
 impl State {
     /// Applies one command by the verifier of this number, under this header.
-    pub(crate) fn apply<D: Digests>(
+    pub(crate) fn apply<'a, D: Digests>(
         &mut self,
         d: &D,
         number: u16,
         header: &Header,
-        command: &Command,
-    ) -> Result<Outcome, Refusal>
+        command: &'a Command,
+    ) -> Result<Answer<'a>, Refusal>
         ensures follows { Follows result self.old self.new
-            (told (transition (record { scheme = scheme_of (D.functions d.now) header.now; number = number; verifiers = header.now.verifiers }) self.old command.now)) }
+            (answered (D.functions d.now).lanes (transition (record { scheme = scheme_of (D.functions d.now) header.now; number = number; verifiers = header.now.verifiers }) self.old command.now)) }
         ensures clock { IfOk result (ClockMoves self.old.clock self.new.clock) }
     {
         match command {
@@ -38,13 +37,13 @@ impl State {
                 value,
                 stamp,
                 verifier,
-            } => self.add_b(header.verifiers, path, value, *stamp, *verifier),
-            Command::EvictB { path, stamp } => self.evict_b(number, path, *stamp),
+            } => self.add_b(d, header.verifiers, path, value, *stamp, *verifier),
+            Command::EvictB { path, stamp } => self.evict_b(d, number, path, *stamp),
             Command::EvictBM {
                 path,
                 parent,
                 stamp,
-            } => self.evict_bm(number, path, parent, *stamp),
+            } => self.evict_bm(d, number, path, parent, *stamp),
             Command::Get { path, value } => self.get(path, value),
             Command::Put { path, value } => self.put(path, value),
             Command::NextEpoch => self.next_epoch(),

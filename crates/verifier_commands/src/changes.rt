@@ -121,7 +121,7 @@ fn leads_below(path: &Path, pointer: &Option<Pointer>) -> Option<bool>
 }
 
 // An add under a parent whose pointer is to the path: the value must have the digest that it keeps.
-#[tactic(auto, using(crate::proofs::LinkLemmas::join_view))]
+#[tactic(auto, using(crate::proofs::LinkLemmas::again_view))]
 fn add_again<D: Digests>(
     d: &D,
     parent: &Entry,
@@ -148,10 +148,12 @@ fn add_again<D: Digests>(
     if parent.kid(on) {
         return Err(Refusal::HasChild);
     }
-    let (pointer, value) = after_add(d, pointer, path, value);
     Ok(Join {
-        link: Link { on, pointer },
-        child: Entry::new(*path, value, Hold::M),
+        link: Link {
+            on,
+            pointer: *pointer,
+        },
+        child: Entry::new(*path, value.copy(), Hold::M),
     })
 }
 

@@ -3,29 +3,31 @@ ghost use Rattle.std.specs.Prelude.{◌≡◌, IfOk};
 ghost use Rattle.base_words.specs.Follows.{Follows};
 ghost use Rattle.verifier_commands.specs.Transition.{add_b, evict_b, evict_bm};
 ghost use Rattle.verifier_commands.specs.Changes.{is_by_stamp};
-ghost use Rattle.verifier_commands.specs.Outcome.{told};
-ghost use Rattle.verifier_commands.specs.Machine.{ClockMoves};
+ghost use Rattle.verifier_commands.specs.Answer.{answered, ClockMoves};
 
+use crate::answer::Answer;
 use crate::changes::defer_under;
+use crate::lanes::lanes_of;
 use crate::merkle::leave;
-use crate::outcome::Outcome;
 use crate::state::{State, clock_refusal, is_root};
 use lamport_clocks::Stamp;
-use record_text::{Element, Refusal, Value};
+use record_hash::Digests;
+use record_text::{Refusal, Value};
 use tree_keys::Path;
 use verifier_cache::{Entry, Hold};
 
 impl State {
     /// Takes back a record that some verifier evicted with this stamp.
-    pub(crate) fn add_b(
+    pub(crate) fn add_b<'a, D: Digests>(
         &mut self,
+        d: &D,
         verifiers: u16,
         path: &Path,
         value: &Value,
         stamp: Stamp,
         verifier: u16,
-    ) -> Result<Outcome, Refusal>
-        ensures follows { Follows result self.old self.new (told (add_b verifiers self.old path.now value.now stamp verifier)) }
+    ) -> Result<Answer<'a>, Refusal>
+        ensures follows { Follows result self.old self.new (answered (D.functions d.now).lanes (add_b verifiers self.old path.now value.now stamp verifier)) }
         ensures clock { IfOk result (ClockMoves self.old.clock self.new.clock) }
     {
         if is_root(path) {
@@ -44,24 +46,21 @@ impl State {
         if let Err(fault) = self.clock.on_add(stamp) {
             return Err(clock_refusal(fault));
         }
+        let lanes = lanes_of(d, path, value, stamp, verifier);
         let entry = Entry::new(*path, value.copy(), Hold::B);
         self.cache.insert_near(entry, own);
-        Ok(Outcome::AddB(Element {
-            path: *path,
-            value: value.copy(),
-            stamp,
-            verifier,
-        }))
+        Ok(Answer::AddB(stamp.epoch, lanes))
     }
 
     /// Evicts a record with a stamp.
-    pub(crate) fn evict_b(
+    pub(crate) fn evict_b<'a, D: Digests>(
         &mut self,
+        d: &D,
         number: u16,
         path: &Path,
         stamp: Stamp,
-    ) -> Result<Outcome, Refusal>
-        ensures follows { Follows result self.old self.new (told (evict_b number self.old path.now stamp)) }
+    ) -> Result<Answer<'a>, Refusal>
+        ensures follows { Follows result self.old self.new (answered (D.functions d.now).lanes (evict_b number self.old path.now stamp)) }
         ensures clock { IfOk result (ClockMoves self.old.clock self.new.clock) }
     {
         if is_root(path) {
@@ -80,24 +79,21 @@ impl State {
         if let Err(fault) = self.clock.on_evict(stamp) {
             return Err(clock_refusal(fault));
         }
-        let value = self.cache.remove_near(path, own);
-        Ok(Outcome::EvictB(Element {
-            path: *path,
-            value,
-            stamp,
-            verifier: number,
-        }))
+        let lanes = lanes_of(d, path, &child.value, stamp, number);
+        self.cache.leave_near(path, own);
+        Ok(Answer::EvictB(lanes))
     }
 
     /// Evicts a record with a stamp, and marks its parent's pointer as deferred.
-    pub(crate) fn evict_bm(
+    pub(crate) fn evict_bm<'a, D: Digests>(
         &mut self,
+        d: &D,
         number: u16,
         path: &Path,
         parent: &Path,
         stamp: Stamp,
-    ) -> Result<Outcome, Refusal>
-        ensures follows { Follows result self.old self.new (told (evict_bm number self.old path.now parent.now stamp)) }
+    ) -> Result<Answer<'a>, Refusal>
+        ensures follows { Follows result self.old self.new (answered (D.functions d.now).lanes (evict_bm number self.old path.now parent.now stamp)) }
         ensures clock { IfOk result (ClockMoves self.old.clock self.new.clock) }
     {
         if is_root(path) {
@@ -115,14 +111,9 @@ impl State {
         if let Err(fault) = self.clock.on_evict(stamp) {
             return Err(clock_refusal(fault));
         }
-        let value = child.value.copy();
+        let lanes = lanes_of(d, path, &child.value, stamp, number);
         leave(&mut self.cache, path, own, parent, holders, &link);
-        Ok(Outcome::EvictBM(Element {
-            path: *path,
-            value,
-            stamp,
-            verifier: number,
-        }))
+        Ok(Answer::EvictBM(lanes))
     }
 }
 

@@ -5,10 +5,9 @@ ghost use Rattle.base_words.specs.Follows.{Follows};
 ghost use Rattle.log_codec.specs.declared.log_command.LogCommand.TheVariants.{ByPath, BySlot};
 ghost use Rattle.merkle_records.specs.Scheme.{scheme_of};
 ghost use Rattle.verifier_commands.specs.VerifierState.{state_of, first_state, path_entry, slot_entry, perform};
-ghost use Rattle.verifier_commands.specs.Outcome.{told};
-ghost use Rattle.verifier_commands.specs.Machine.{ClockMoves};
+ghost use Rattle.verifier_commands.specs.Answer.{answered, ClockMoves};
 
-use crate::outcome::Outcome;
+use crate::answer::Answer;
 use crate::slot_state::SlotState;
 use crate::state::State;
 use base_words::Memory;
@@ -73,15 +72,15 @@ impl EitherState {
     }
 
     /// Applies a command that names paths, by the verifier of this number, under this header.
-    pub(crate) fn apply<D: Digests>(
+    pub(crate) fn apply<'a, D: Digests>(
         &mut self,
         d: &D,
         number: u16,
         header: &Header,
-        command: &Command,
-    ) -> Result<Outcome, Refusal>
+        command: &'a Command,
+    ) -> Result<Answer<'a>, Refusal>
         ensures follows { Follows result (state_of self.old) (state_of self.new)
-            (told (perform (record { scheme = scheme_of (D.functions d.now) header.now; number = number; verifiers = header.now.verifiers }) (state_of self.old) (ByPath command.now))) }
+            (answered (D.functions d.now).lanes (perform (record { scheme = scheme_of (D.functions d.now) header.now; number = number; verifiers = header.now.verifiers }) (state_of self.old) (ByPath command.now))) }
         ensures clock { IfOk result (ClockMoves (state_of self.old).clock (state_of self.new).clock) }
     {
         match self {
@@ -91,15 +90,15 @@ impl EitherState {
     }
 
     /// Applies a command that names slots, by the verifier of this number, under this header.
-    pub(crate) fn apply_slots<D: Digests>(
+    pub(crate) fn apply_slots<'a, D: Digests>(
         &mut self,
         d: &D,
         number: u16,
         header: &Header,
-        command: &SlotCommand,
-    ) -> Result<Outcome, Refusal>
+        command: &'a SlotCommand,
+    ) -> Result<Answer<'a>, Refusal>
         ensures follows { Follows result (state_of self.old) (state_of self.new)
-            (told (perform (record { scheme = scheme_of (D.functions d.now) header.now; number = number; verifiers = header.now.verifiers }) (state_of self.old) (BySlot command.now))) }
+            (answered (D.functions d.now).lanes (perform (record { scheme = scheme_of (D.functions d.now) header.now; number = number; verifiers = header.now.verifiers }) (state_of self.old) (BySlot command.now))) }
         ensures clock { IfOk result (ClockMoves (state_of self.old).clock (state_of self.new).clock) }
     {
         match self {

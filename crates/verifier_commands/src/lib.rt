@@ -8,13 +8,14 @@
 //! laws of its own. Begin with `Verifier::step_any` in `verifier.rt`, beside `stepped` in `specs/Machine.antt`.
 #![tactic(auto)]
 
+mod answer;
 mod applying;
 mod changes;
 mod deferred;
 mod effect;
 mod either_state;
+mod lanes;
 mod merkle;
-mod outcome;
 mod records;
 mod slot_deferred;
 mod slot_merkle;
@@ -24,9 +25,9 @@ mod state;
 mod sums;
 mod verifier;
 
+pub use answer::Answer;
 pub use effect::Effect;
 pub use either_state::EitherState;
-pub use outcome::Outcome;
 pub use slot_state::SlotState;
 pub use state::State;
 pub use sums::Sums;

@@ -4,11 +4,10 @@ ghost use Rattle.base_words.specs.Follows.{Follows};
 ghost use Rattle.verifier_cache.specs.Entry.{linked};
 ghost use Rattle.verifier_cache.specs.Cache.{entry_of, without, replaced};
 ghost use Rattle.verifier_commands.specs.Transition.{add_m, evict_m};
-ghost use Rattle.verifier_commands.specs.Outcome.{told};
-ghost use Rattle.verifier_commands.specs.Machine.{ClockMoves};
+ghost use Rattle.verifier_commands.specs.Answer.{answered, ClockMoves};
 
+use crate::answer::Answer;
 use crate::changes::{Join, Link, add_under, evict_under};
-use crate::outcome::Outcome;
 use crate::state::{State, is_root};
 use record_hash::Digests;
 use record_text::{Refusal, Value};
@@ -17,15 +16,15 @@ use verifier_cache::{Cache, Hint};
 
 impl State {
     /// Adds a record under its parent, whose digest vouches for it.
-    pub(crate) fn add_m<D: Digests>(
+    pub(crate) fn add_m<'a, D: Digests>(
         &mut self,
         d: &D,
         path: &Path,
         value: &Value,
         parent: &Path,
-    ) -> Result<Outcome, Refusal>
+    ) -> Result<Answer<'a>, Refusal>
         ensures follows { Follows result self.old self.new
-            (told (add_m (D.functions d.now).digest self.old path.now value.now parent.now)) }
+            (answered (D.functions d.now).lanes (add_m (D.functions d.now).digest self.old path.now value.now parent.now)) }
         ensures clock { IfOk result (ClockMoves self.old.clock self.new.clock) }
     {
         if is_root(path) {
@@ -46,18 +45,18 @@ impl State {
         self.cache
             .link_near(parent, holders, link.on, link.pointer, true);
         self.cache.insert_near(child, own);
-        Ok(Outcome::AddM)
+        Ok(Answer::AddM)
     }
 
     /// Evicts a record into its parent, which keeps its digest.
-    pub(crate) fn evict_m<D: Digests>(
+    pub(crate) fn evict_m<'a, D: Digests>(
         &mut self,
         d: &D,
         path: &Path,
         parent: &Path,
-    ) -> Result<Outcome, Refusal>
+    ) -> Result<Answer<'a>, Refusal>
         ensures follows { Follows result self.old self.new
-            (told (evict_m (D.functions d.now).digest self.old path.now parent.now)) }
+            (answered (D.functions d.now).lanes (evict_m (D.functions d.now).digest self.old path.now parent.now)) }
         ensures clock { IfOk result (ClockMoves self.old.clock self.new.clock) }
     {
         if is_root(path) {
@@ -73,7 +72,7 @@ impl State {
         };
         let link = evict_under(d, holder, child)?;
         leave(&mut self.cache, path, own, parent, holders, &link);
-        Ok(Outcome::EvictM)
+        Ok(Answer::EvictM)
     }
 }
 

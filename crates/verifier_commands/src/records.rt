@@ -1,24 +1,24 @@
 //! The commands on data values, and the step to the next epoch.
-ghost use Rattle.std.specs.Prelude.{◌≡◌, IsSome, IfSome, IfOk};
+ghost use Rattle.std.specs.Prelude.{◌≡◌, ℕ, List, IsSome, IfSome, IfOk};
 ghost use Rattle.base_words.specs.Follows.{Follows};
 ghost use Rattle.verifier_commands.specs.Transition.{get, put, absent, next_epoch};
 ghost use Rattle.verifier_cache.specs.Entry.{with_value};
 ghost use Rattle.verifier_cache.specs.Cache.{entry_of, replaced};
-ghost use Rattle.verifier_commands.specs.Outcome.{told, blob_of};
-ghost use Rattle.verifier_commands.specs.Machine.{ClockMoves};
+ghost use Rattle.verifier_commands.specs.Outcome.{blob_of};
+ghost use Rattle.verifier_commands.specs.Answer.{answered, ClockMoves};
 
+use crate::answer::Answer;
 use crate::changes::absent_under;
-use crate::outcome::Outcome;
 use crate::state::{State, clock_refusal, is_same_value};
-use record_text::{Blob, Refusal, Value};
+use record_text::{BlobRef, Refusal, Value};
 use tree_keys::Path;
 use verifier_cache::{Cache, Hint};
 
 impl State {
     /// A get: the value that is read.
     #[tactic(auto, using(crate::proofs::KeyLemmas::key_view))]
-    pub(crate) fn get(&mut self, path: &Path, value: &Value) -> Result<Outcome, Refusal>
-        ensures follows { Follows result self.old self.new (told (get self.old path.now value.now)) }
+    pub(crate) fn get<'a>(&mut self, path: &Path, value: &'a Value) -> Result<Answer<'a>, Refusal>
+        ensures follows { (lanes : List ℕ → List ℕ) → Follows result self.old self.new (answered lanes (get self.old path.now value.now)) }
         ensures clock { IfOk result (ClockMoves self.old.clock self.new.clock) }
     {
         let Some(entry) = self.cache.entry(path) else {
@@ -30,13 +30,13 @@ impl State {
         if !is_same_value(&entry.value, value) {
             return Err(Refusal::WrongValue);
         }
-        Ok(Outcome::Get(key, blob_of(&entry.value)))
+        Ok(Answer::Get(key, blob_of(value)))
     }
 
     /// A put: the value that is written.
     #[tactic(auto, using(crate::proofs::KeyLemmas::key_view))]
-    pub(crate) fn put(&mut self, path: &Path, value: &Value) -> Result<Outcome, Refusal>
-        ensures follows { Follows result self.old self.new (told (put self.old path.now value.now)) }
+    pub(crate) fn put<'a>(&mut self, path: &Path, value: &'a Value) -> Result<Answer<'a>, Refusal>
+        ensures follows { (lanes : List ℕ → List ℕ) → Follows result self.old self.new (answered lanes (put self.old path.now value.now)) }
         ensures clock { IfOk result (ClockMoves self.old.clock self.new.clock) }
     {
         let own = self.cache.hint(path);
@@ -46,14 +46,14 @@ impl State {
         let Some(key) = path.key() else {
             return Err(Refusal::NotData);
         };
-        write(&mut self.cache, path, own, value.copy());
-        Ok(Outcome::Put(key, blob_of(value)))
+        write(&mut self.cache, path, own, value);
+        Ok(Answer::Put(key, blob_of(value)))
     }
 
     /// An absence: a key that has no record answers none.
     #[tactic(auto, using(crate::proofs::KeyLemmas::key_view))]
-    pub(crate) fn absent(&mut self, path: &Path, parent: &Path) -> Result<Outcome, Refusal>
-        ensures follows { Follows result self.old self.new (told (absent self.old path.now parent.now)) }
+    pub(crate) fn absent<'a>(&mut self, path: &Path, parent: &Path) -> Result<Answer<'a>, Refusal>
+        ensures follows { (lanes : List ℕ → List ℕ) → Follows result self.old self.new (answered lanes (absent self.old path.now parent.now)) }
         ensures clock { IfOk result (ClockMoves self.old.clock self.new.clock) }
     {
         let Some(key) = path.key() else {
@@ -63,16 +63,16 @@ impl State {
             return Err(Refusal::ParentNotCached);
         };
         absent_under(holder, path)?;
-        Ok(Outcome::Get(key, Blob::none()))
+        Ok(Answer::Get(key, BlobRef::new(None)))
     }
 
     /// The step to the next epoch.
-    pub(crate) fn next_epoch(&mut self) -> Result<Outcome, Refusal>
-        ensures follows { Follows result self.old self.new (told (next_epoch self.old)) }
+    pub(crate) fn next_epoch<'a>(&mut self) -> Result<Answer<'a>, Refusal>
+        ensures follows { (lanes : List ℕ → List ℕ) → Follows result self.old self.new (answered lanes (next_epoch self.old)) }
         ensures clock { IfOk result (ClockMoves self.old.clock self.new.clock) }
     {
         match self.clock.next_epoch() {
-            Ok(sealed) => Ok(Outcome::NextEpoch(sealed)),
+            Ok(sealed) => Ok(Answer::NextEpoch(sealed)),
             Err(fault) => Err(clock_refusal(fault)),
         }
     }
@@ -80,21 +80,21 @@ impl State {
 
 // Writes the value of a path that is there.
 #[tactic(auto, using(crate::proofs::CacheLemmas::written_view))]
-fn write(cache: &mut Cache, path: &Path, hint: Hint, value: Value)
+fn write(cache: &mut Cache, path: &Path, hint: Hint, value: &Value)
     requires there { IsSome (entry_of path.now cache.old.entries) }
     ensures entry { IfSome (entry_of path.now cache.old.entries)
-        (λ entry. cache.new.entries ≡ replaced (with_value entry value) cache.old.entries) }
+        (λ entry. cache.new.entries ≡ replaced (with_value entry value.now) cache.old.entries) }
     ensures room { cache.new.room ≡ cache.old.room }
 {
-    *cache.value_mut_near(path, hint) = value;
+    cache.value_mut_near(path, hint).assign(value);
 }
 
 // The data value that a value is.
-pub(crate) fn blob_of(value: &Value) -> Blob
+fn blob_of(value: &Value) -> BlobRef<'_>
     ensures value { result ≡ blob_of value.now }
 {
     match value {
-        Value::Blob(blob) => blob.copy(),
-        Value::Node(_) => Blob::none(),
+        Value::Blob(blob) => blob.by_ref(),
+        Value::Node(_) => BlobRef::new(None),
     }
 }

@@ -1,33 +1,34 @@
 //! The commands that come and go with a stamp, by slots.
 ghost use Rattle.std.specs.Prelude.{◌≡◌, IfOk};
 ghost use Rattle.base_words.specs.Follows.{Follows};
-ghost use Rattle.verifier_commands.specs.Transition.{evicted_as};
 ghost use Rattle.verifier_commands.specs.SlotTransition.{add_b, evict_b, evict_bm};
-ghost use Rattle.verifier_commands.specs.Outcome.{told};
-ghost use Rattle.verifier_commands.specs.Machine.{ClockMoves};
+ghost use Rattle.verifier_commands.specs.Answer.{answered, ClockMoves};
 
+use crate::answer::Answer;
 use crate::changes::defer_under;
 use crate::deferred::is_by_stamp;
-use crate::outcome::Outcome;
+use crate::lanes::lanes_of;
 use crate::slot_state::SlotState;
 use crate::state::{clock_refusal, is_root};
 use lamport_clocks::Stamp;
-use record_text::{Element, Refusal, Value};
+use record_hash::Digests;
+use record_text::{Refusal, Value};
 use tree_keys::Path;
 use verifier_cache::{Entry, Hold};
 
 impl SlotState {
     /// Takes a record that some verifier evicted with this stamp back into a slot.
-    pub(crate) fn add_b(
+    pub(crate) fn add_b<'a, D: Digests>(
         &mut self,
+        d: &D,
         verifiers: u16,
         slot: u16,
         path: &Path,
         value: &Value,
         stamp: Stamp,
         verifier: u16,
-    ) -> Result<Outcome, Refusal>
-        ensures follows { Follows result self.old self.new (told (add_b verifiers self.old slot path.now value.now stamp verifier)) }
+    ) -> Result<Answer<'a>, Refusal>
+        ensures follows { Follows result self.old self.new (answered (D.functions d.now).lanes (add_b verifiers self.old slot path.now value.now stamp verifier)) }
         ensures clock { IfOk result (ClockMoves self.old.clock self.new.clock) }
     {
         if is_root(path) {
@@ -45,24 +46,21 @@ impl SlotState {
         if let Err(fault) = self.clock.on_add(stamp) {
             return Err(clock_refusal(fault));
         }
+        let lanes = lanes_of(d, path, value, stamp, verifier);
         self.slots
             .put_at(slot, Entry::new(*path, value.copy(), Hold::B));
-        Ok(Outcome::AddB(Element {
-            path: *path,
-            value: value.copy(),
-            stamp,
-            verifier,
-        }))
+        Ok(Answer::AddB(stamp.epoch, lanes))
     }
 
     /// Evicts the record in a slot with a stamp.
-    pub(crate) fn evict_b(
+    pub(crate) fn evict_b<'a, D: Digests>(
         &mut self,
+        d: &D,
         number: u16,
         slot: u16,
         stamp: Stamp,
-    ) -> Result<Outcome, Refusal>
-        ensures follows { Follows result self.old self.new (told (evict_b number self.old slot stamp)) }
+    ) -> Result<Answer<'a>, Refusal>
+        ensures follows { Follows result self.old self.new (answered (D.functions d.now).lanes (evict_b number self.old slot stamp)) }
         ensures clock { IfOk result (ClockMoves self.old.clock self.new.clock) }
     {
         let Some(child) = self.slots.at(slot) else {
@@ -80,20 +78,22 @@ impl SlotState {
         if let Err(fault) = self.clock.on_evict(stamp) {
             return Err(clock_refusal(fault));
         }
-        let child = self.slots.take_at(slot);
-        Ok(Outcome::EvictB(evicted_as(number, child, stamp)))
+        let lanes = lanes_of(d, &child.path, &child.value, stamp, number);
+        self.slots.leave_at(slot);
+        Ok(Answer::EvictB(lanes))
     }
 
     /// Evicts the record in a slot with a stamp, and marks its parent's pointer as deferred.
     #[tactic(auto, using(crate::proofs::SlotLemmas::slot_view))]
-    pub(crate) fn evict_bm(
+    pub(crate) fn evict_bm<'a, D: Digests>(
         &mut self,
+        d: &D,
         number: u16,
         slot: u16,
         parent: u16,
         stamp: Stamp,
-    ) -> Result<Outcome, Refusal>
-        ensures follows { Follows result self.old self.new (told (evict_bm number self.old slot parent stamp)) }
+    ) -> Result<Answer<'a>, Refusal>
+        ensures follows { Follows result self.old self.new (answered (D.functions d.now).lanes (evict_bm number self.old slot parent stamp)) }
         ensures clock { IfOk result (ClockMoves self.old.clock self.new.clock) }
     {
         let Some(child) = self.slots.at(slot) else {
@@ -109,20 +109,9 @@ impl SlotState {
         if let Err(fault) = self.clock.on_evict(stamp) {
             return Err(clock_refusal(fault));
         }
+        let lanes = lanes_of(d, &child.path, &child.value, stamp, number);
         self.slots.link_at(parent, link.on, link.pointer, false);
-        let child = self.slots.take_at(slot);
-        Ok(Outcome::EvictBM(evicted_as(number, child, stamp)))
-    }
-}
-
-// An entry as the element that this verifier evicts with a stamp.
-fn evicted_as(number: u16, entry: Entry, stamp: Stamp) -> Element
-    ensures value { result ≡ evicted_as number entry stamp }
-{
-    Element {
-        path: entry.path,
-        value: entry.value,
-        stamp,
-        verifier: number,
+        self.slots.leave_at(slot);
+        Ok(Answer::EvictBM(lanes))
     }
 }

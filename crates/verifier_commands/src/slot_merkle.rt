@@ -2,11 +2,10 @@
 ghost use Rattle.std.specs.Prelude.{IfOk};
 ghost use Rattle.base_words.specs.Follows.{Follows};
 ghost use Rattle.verifier_commands.specs.SlotTransition.{add_m, evict_m};
-ghost use Rattle.verifier_commands.specs.Outcome.{told};
-ghost use Rattle.verifier_commands.specs.Machine.{ClockMoves};
+ghost use Rattle.verifier_commands.specs.Answer.{answered, ClockMoves};
 
+use crate::answer::Answer;
 use crate::changes::{Join, add_under, evict_under};
-use crate::outcome::Outcome;
 use crate::slot_state::SlotState;
 use crate::state::is_root;
 use record_hash::Digests;
@@ -16,16 +15,16 @@ use tree_keys::Path;
 impl SlotState {
     /// Adds a record into a slot, under its parent, whose digest vouches for it.
     #[tactic(auto, using(crate::proofs::SlotLemmas::slot_view))]
-    pub(crate) fn add_m<D: Digests>(
+    pub(crate) fn add_m<'a, D: Digests>(
         &mut self,
         d: &D,
         slot: u16,
         path: &Path,
         value: &Value,
         parent: u16,
-    ) -> Result<Outcome, Refusal>
+    ) -> Result<Answer<'a>, Refusal>
         ensures follows { Follows result self.old self.new
-            (told (add_m (D.functions d.now).digest self.old slot path.now value.now parent)) }
+            (answered (D.functions d.now).lanes (add_m (D.functions d.now).digest self.old slot path.now value.now parent)) }
         ensures clock { IfOk result (ClockMoves self.old.clock self.new.clock) }
     {
         if is_root(path) {
@@ -43,19 +42,19 @@ impl SlotState {
         let Join { link, child } = add_under(d, holder, path, value)?;
         self.slots.link_at(parent, link.on, link.pointer, true);
         self.slots.put_at(slot, child);
-        Ok(Outcome::AddM)
+        Ok(Answer::AddM)
     }
 
     /// Evicts the record in a slot into its parent, which keeps its digest.
     #[tactic(auto, using(crate::proofs::SlotLemmas::slot_view))]
-    pub(crate) fn evict_m<D: Digests>(
+    pub(crate) fn evict_m<'a, D: Digests>(
         &mut self,
         d: &D,
         slot: u16,
         parent: u16,
-    ) -> Result<Outcome, Refusal>
+    ) -> Result<Answer<'a>, Refusal>
         ensures follows { Follows result self.old self.new
-            (told (evict_m (D.functions d.now).digest self.old slot parent)) }
+            (answered (D.functions d.now).lanes (evict_m (D.functions d.now).digest self.old slot parent)) }
         ensures clock { IfOk result (ClockMoves self.old.clock self.new.clock) }
     {
         let Some(child) = self.slots.at(slot) else {
@@ -70,6 +69,6 @@ impl SlotState {
         let link = evict_under(d, holder, child)?;
         self.slots.link_at(parent, link.on, link.pointer, false);
         self.slots.leave_at(slot);
-        Ok(Outcome::EvictM)
+        Ok(Answer::EvictM)
     }
 }

@@ -1,25 +1,23 @@
 //! The commands on data values, and the step to the next epoch, by slots.
-ghost use Rattle.std.specs.Prelude.{◌≡◌, IfOk};
+ghost use Rattle.std.specs.Prelude.{◌≡◌, ℕ, List, IsTrue, IfOk};
 ghost use Rattle.base_words.specs.Follows.{Follows};
 ghost use Rattle.record_text.specs.declared.value.Value.TheVariants as values;
 ghost use Rattle.record_text.specs.Same.{same_value};
 ghost use Rattle.verifier_commands.specs.SlotTransition.{get, put, absent, next_epoch};
-ghost use Rattle.verifier_commands.specs.Outcome.{told};
-ghost use Rattle.verifier_commands.specs.Machine.{ClockMoves};
+ghost use Rattle.verifier_commands.specs.Answer.{answered, ClockMoves};
 
+use crate::answer::Answer;
 use crate::changes::absent_under;
-use crate::outcome::Outcome;
-use crate::records::blob_of;
 use crate::slot_state::SlotState;
 use crate::state::clock_refusal;
-use record_text::{Blob, Refusal, Value};
+use record_text::{Blob, BlobRef, Refusal, Value};
 use tree_keys::Path;
 
 impl SlotState {
     /// A get: the value that is read.
     #[tactic(auto, using(crate::proofs::KeyLemmas::key_view))]
-    pub(crate) fn get(&mut self, slot: u16, value: &Blob) -> Result<Outcome, Refusal>
-        ensures follows { Follows result self.old self.new (told (get self.old slot value.now)) }
+    pub(crate) fn get<'a>(&mut self, slot: u16, value: &'a Blob) -> Result<Answer<'a>, Refusal>
+        ensures follows { (lanes : List ℕ → List ℕ) → Follows result self.old self.new (answered lanes (get self.old slot value.now)) }
         ensures clock { IfOk result (ClockMoves self.old.clock self.new.clock) }
     {
         let Some(entry) = self.slots.at(slot) else {
@@ -31,13 +29,13 @@ impl SlotState {
         if !is_blob(&entry.value, value) {
             return Err(Refusal::WrongValue);
         }
-        Ok(Outcome::Get(key, blob_of(&entry.value)))
+        Ok(Answer::Get(key, value.by_ref()))
     }
 
     /// A put: the value that is written.
     #[tactic(auto, using(crate::proofs::KeyLemmas::key_view))]
-    pub(crate) fn put(&mut self, slot: u16, value: &Blob) -> Result<Outcome, Refusal>
-        ensures follows { Follows result self.old self.new (told (put self.old slot value.now)) }
+    pub(crate) fn put<'a>(&mut self, slot: u16, value: &'a Blob) -> Result<Answer<'a>, Refusal>
+        ensures follows { (lanes : List ℕ → List ℕ) → Follows result self.old self.new (answered lanes (put self.old slot value.now)) }
         ensures clock { IfOk result (ClockMoves self.old.clock self.new.clock) }
     {
         let Some(entry) = self.slots.at(slot) else {
@@ -46,14 +44,14 @@ impl SlotState {
         let Some(key) = entry.path.key() else {
             return Err(Refusal::NotData);
         };
-        self.slots.write_at(slot, Value::Blob(value.copy()));
-        Ok(Outcome::Put(key, value.copy()))
+        self.slots.write_at(slot, value);
+        Ok(Answer::Put(key, value.by_ref()))
     }
 
     /// An absence: a key that has no record answers none.
     #[tactic(auto, using(crate::proofs::KeyLemmas::key_view))]
-    pub(crate) fn absent(&mut self, path: &Path, parent: u16) -> Result<Outcome, Refusal>
-        ensures follows { Follows result self.old self.new (told (absent self.old path.now parent)) }
+    pub(crate) fn absent<'a>(&mut self, path: &Path, parent: u16) -> Result<Answer<'a>, Refusal>
+        ensures follows { (lanes : List ℕ → List ℕ) → Follows result self.old self.new (answered lanes (absent self.old path.now parent)) }
         ensures clock { IfOk result (ClockMoves self.old.clock self.new.clock) }
     {
         let Some(key) = path.key() else {
@@ -63,16 +61,16 @@ impl SlotState {
             return Err(Refusal::SlotEmpty);
         };
         absent_under(holder, path)?;
-        Ok(Outcome::Get(key, Blob::none()))
+        Ok(Answer::Get(key, BlobRef::new(None)))
     }
 
     /// The step to the next epoch.
-    pub(crate) fn next_epoch(&mut self) -> Result<Outcome, Refusal>
-        ensures follows { Follows result self.old self.new (told (next_epoch self.old)) }
+    pub(crate) fn next_epoch<'a>(&mut self) -> Result<Answer<'a>, Refusal>
+        ensures follows { (lanes : List ℕ → List ℕ) → Follows result self.old self.new (answered lanes (next_epoch self.old)) }
         ensures clock { IfOk result (ClockMoves self.old.clock self.new.clock) }
     {
         match self.clock.next_epoch() {
-            Ok(sealed) => Ok(Outcome::NextEpoch(sealed)),
+            Ok(sealed) => Ok(Answer::NextEpoch(sealed)),
             Err(fault) => Err(clock_refusal(fault)),
         }
     }
@@ -81,6 +79,7 @@ impl SlotState {
 // Whether a value is this data value.
 fn is_blob(value: &Value, blob: &Blob) -> bool
     ensures value { result ≡ same_value value.now (values.Blob blob.now) }
+    ensures same { IsTrue result → value.now ≡ values.Blob blob.now }
 {
     match value {
         Value::Blob(own) => own.is_same(blob),

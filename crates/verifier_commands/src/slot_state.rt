@@ -3,10 +3,9 @@ ghost use Rattle.std.specs.Prelude.{◌≡◌, ◌≤◌, IfOk};
 ghost use Rattle.base_words.specs.Follows.{Follows};
 ghost use Rattle.merkle_records.specs.Scheme.{scheme_of};
 ghost use Rattle.verifier_commands.specs.SlotTransition.{slot_opening, slot_transition};
-ghost use Rattle.verifier_commands.specs.Outcome.{told};
-ghost use Rattle.verifier_commands.specs.Machine.{ClockMoves};
+ghost use Rattle.verifier_commands.specs.Answer.{answered, ClockMoves};
 
-use crate::outcome::Outcome;
+use crate::answer::Answer;
 use base_words::Memory;
 use lamport_clocks::{Clock, Header};
 use log_codec::SlotCommand;
@@ -43,15 +42,15 @@ impl SlotState {
 
     /// Applies one command by the verifier of this number, under this header. It answers what that handed up, or
     /// the first refusal; after a refusal the state is as before.
-    pub fn apply<D: Digests>(
+    pub fn apply<'a, D: Digests>(
         &mut self,
         d: &D,
         number: u16,
         header: &Header,
-        command: &SlotCommand,
-    ) -> Result<Outcome, Refusal>
+        command: &'a SlotCommand,
+    ) -> Result<Answer<'a>, Refusal>
         ensures follows { Follows result self.old self.new
-            (told (slot_transition (record { scheme = scheme_of (D.functions d.now) header.now; number = number; verifiers = header.now.verifiers }) self.old command.now)) }
+            (answered (D.functions d.now).lanes (slot_transition (record { scheme = scheme_of (D.functions d.now) header.now; number = number; verifiers = header.now.verifiers }) self.old command.now)) }
         ensures clock { IfOk result (ClockMoves self.old.clock self.new.clock) }
     {
         match command {
@@ -68,13 +67,13 @@ impl SlotState {
                 value,
                 stamp,
                 verifier,
-            } => self.add_b(header.verifiers, *slot, path, value, *stamp, *verifier),
-            SlotCommand::EvictB { slot, stamp } => self.evict_b(number, *slot, *stamp),
+            } => self.add_b(d, header.verifiers, *slot, path, value, *stamp, *verifier),
+            SlotCommand::EvictB { slot, stamp } => self.evict_b(d, number, *slot, *stamp),
             SlotCommand::EvictBM {
                 slot,
                 parent,
                 stamp,
-            } => self.evict_bm(number, *slot, *parent, *stamp),
+            } => self.evict_bm(d, number, *slot, *parent, *stamp),
             SlotCommand::Get { slot, value } => self.get(*slot, value),
             SlotCommand::Put { slot, value } => self.put(*slot, value),
             SlotCommand::NextEpoch => self.next_epoch(),

@@ -1,5 +1,5 @@
 //! A verifier's cache and clock, and its commands.
-ghost use Rattle.std.specs.Prelude.{◌≡◌, ◌≤◌, IfOk};
+ghost use Rattle.std.specs.Prelude.{◌≡◌, ◌≤◌, IsTrue, IfOk};
 ghost use Rattle.record_text.specs.Same.{same_bytes, same_value};
 ghost use Rattle.verifier_commands.specs.Transition.{is_root, clock_refusal};
 
@@ -56,6 +56,7 @@ pub(crate) fn is_root(path: &Path) -> bool
 // Whether both are the same value.
 pub(crate) fn is_same_value(one: &Value, other: &Value) -> bool
     ensures value { result ≡ same_value one.now other.now }
+    ensures same { IsTrue result → one.now ≡ other.now }
 {
     one.is_same(other)
 }

@@ -1,14 +1,12 @@
 //! The sums of the present epoch and of the one before.
 ghost use Rattle.std.specs.Prelude.{◌≡◌, ◌+◌, ◌<◌, ◌^◌};
-ghost use Rattle.merkle_records.specs.Scheme.{Scheme};
-ghost use Rattle.verifier_commands.specs.Sums.{zero_sums, advanced_sums, add_to, evict_to, sums_after};
-ghost use Rattle.verifier_commands.specs.Machine.{AreBounded, ClockMoves, CountsAdd};
+ghost use Rattle.verifier_commands.specs.Sums.{zero_sums, advanced_sums};
+ghost use Rattle.verifier_commands.specs.Machine.{AreBounded, CountsAdd};
+ghost use Rattle.verifier_commands.specs.Answer.{add_lanes, evict_lanes, sums_by, ClockMoves};
 
-use crate::outcome::Outcome;
+use crate::answer::Answer;
 use lamport_clocks::Clock;
 use multiset_sum::Sum;
-use record_hash::Digests;
-use record_text::{Element, element_text};
 
 /// The sums of the elements that a verifier added and evicted, in its clock's epoch and in the one before.
 #[derive(Clone, Copy, Debug, PartialEq, Eq)]
@@ -43,15 +41,13 @@ impl Sums {
     }
 
     // One element more was added, in its own stamp's epoch.
-    fn add<D: Digests>(&mut self, d: &D, epoch: u32, element: &Element)
+    fn add(&mut self, epoch: u32, stamped: u32, lanes: [u32; 8])
         requires added { self.old.added.count + 1 < 2 ^ 31 }
         requires added_before { self.old.added_before.count + 1 < 2 ^ 31 }
-        ensures value { (scheme : Scheme) → scheme.lanes ≡ (D.functions d.now).lanes
-            → self.new ≡ add_to scheme epoch self.old element.now }
+        ensures value { self.new ≡ add_lanes epoch self.old stamped lanes }
         ensures counts { CountsAdd self.old self.new }
     {
-        let lanes = d.element_lanes(element_text(element).as_slice());
-        if element.stamp.epoch == epoch {
+        if stamped == epoch {
             self.added = self.added.with(lanes);
         } else {
             self.added_before = self.added_before.with(lanes);
@@ -59,38 +55,29 @@ impl Sums {
     }
 
     // One element more was evicted.
-    fn evict<D: Digests>(&mut self, d: &D, element: &Element)
+    fn evict(&mut self, lanes: [u32; 8])
         requires evicted { self.old.evicted.count + 1 < 2 ^ 31 }
-        ensures value { (scheme : Scheme) → scheme.lanes ≡ (D.functions d.now).lanes
-            → self.new ≡ evict_to scheme self.old element.now }
+        ensures value { self.new ≡ evict_lanes self.old lanes }
         ensures count { self.new.evicted.count ≡ self.old.evicted.count + 1 }
         ensures others { self.new ≡ record self.old { evicted = self.new.evicted } }
     {
-        let lanes = d.element_lanes(element_text(element).as_slice());
         self.evicted = self.evicted.with(lanes);
     }
 
-    /// Takes in a command with this outcome, between these readings of the clock.
+    /// Takes in what a command handed up, between these readings of the clock.
     #[tactic(auto, using(crate::proofs::BoundLaws::bounds))]
-    pub(crate) fn apply<D: Digests>(
-        &mut self,
-        d: &D,
-        before: &Clock,
-        clock: &Clock,
-        outcome: &Outcome,
-    )
+    pub(crate) fn apply(&mut self, before: &Clock, clock: &Clock, answer: &Answer)
         requires bounded { AreBounded self.old before.now }
-        requires moved { ClockMoves before.now clock.now outcome.now }
-        ensures value { (scheme : Scheme) → scheme.lanes ≡ (D.functions d.now).lanes
-            → self.new ≡ sums_after scheme before.now.at.epoch self.old outcome.now }
+        requires moved { ClockMoves before.now clock.now answer.now }
+        ensures value { self.new ≡ sums_by before.now.at.epoch self.old answer.now }
         ensures bounded { AreBounded self.new clock.now }
     {
         let _within = clock.at();
-        match outcome {
-            Outcome::AddB(element) => self.add(d, before.at().epoch, element),
-            Outcome::EvictB(element) => self.evict(d, element),
-            Outcome::EvictBM(element) => self.evict(d, element),
-            Outcome::NextEpoch(_) => self.advance(),
+        match answer {
+            Answer::AddB(stamped, lanes) => self.add(before.at().epoch, *stamped, *lanes),
+            Answer::EvictB(lanes) => self.evict(*lanes),
+            Answer::EvictBM(lanes) => self.evict(*lanes),
+            Answer::NextEpoch(_) => self.advance(),
             _ => {}
         }
     }

@@ -6,18 +6,19 @@ ghost use Rattle.lamport_clocks.specs.Header.{IsHeader};
 ghost use Rattle.log_codec.specs.declared.log_command.LogCommand.TheVariants.{ByPath, BySlot};
 ghost use Rattle.merkle_records.specs.Scheme.{scheme_of};
 ghost use Rattle.verifier_commands.specs.VerifierState.{state_of, first_state, path_entry, slot_entry};
-ghost use Rattle.verifier_commands.specs.Machine.{Machine, opening_machine, stepped, effect_of};
+ghost use Rattle.verifier_commands.specs.Machine.{Machine, opening_machine, stepped};
+ghost use Rattle.verifier_commands.specs.Answer.{effect_by};
 
+use crate::answer::Answer;
 use crate::effect::Effect;
 use crate::either_state::EitherState;
-use crate::outcome::Outcome;
 use crate::sums::Sums;
 use base_words::Memory;
 use lamport_clocks::{Clock, Header, Stamp};
 use log_codec::{Command, LogCommand, SlotCommand};
 use multiset_sum::Part;
 use record_hash::Digests;
-use record_text::{Operation, Refusal};
+use record_text::{BlobRef, OperationRef, Refusal};
 use std::alloc::Global;
 use std::marker::Model;
 use tree_keys::Path;
@@ -63,7 +64,11 @@ impl Verifier {
 
     /// Takes one command, whatever it names: it answers what that did, or the first refusal. After a refusal the
     /// verifier is as before. No memory is taken.
-    pub fn step_any<D: Digests>(&mut self, d: &D, command: &LogCommand) -> Result<Effect, Refusal>
+    pub fn step_any<'a, D: Digests>(
+        &mut self,
+        d: &D,
+        command: &'a LogCommand,
+    ) -> Result<Effect<'a>, Refusal>
         requires room { self.old.accepted < 2 ^ 63 }
         ensures follows { Follows result self.old self.new
             (stepped (scheme_of (D.functions d.now) self.old.header) self.old command.now) }
@@ -75,30 +80,34 @@ impl Verifier {
     }
 
     /// The same of a command that names paths. A verifier of slots refuses it.
-    pub fn step<D: Digests>(&mut self, d: &D, command: &Command) -> Result<Effect, Refusal>
+    pub fn step<'a, D: Digests>(
+        &mut self,
+        d: &D,
+        command: &'a Command,
+    ) -> Result<Effect<'a>, Refusal>
         requires room { self.old.accepted < 2 ^ 63 }
         ensures follows { Follows result self.old self.new
             (stepped (scheme_of (D.functions d.now) self.old.header) self.old (ByPath command.now)) }
     {
         let before = *self.state.clock();
         let applied = self.state.apply(d, self.number, &self.header, command);
-        let outcome = match &applied {
-            Ok(outcome) => outcome,
+        let answer = match &applied {
+            Ok(answer) => answer,
             Err(refusal) => return Err(*refusal),
         };
         let at = self.state.clock().at();
-        let effect = effect_of(self.number, self.accepted, at, &self.sums, outcome);
-        self.sums.apply(d, &before, self.state.clock(), outcome);
+        let effect = effect_of(self.number, self.accepted, at, &self.sums, answer);
+        self.sums.apply(&before, self.state.clock(), answer);
         self.accepted += 1;
         Ok(effect)
     }
 
     /// The same of a command that names slots. A verifier of entries by path refuses it.
-    pub fn step_slots<D: Digests>(
+    pub fn step_slots<'a, D: Digests>(
         &mut self,
         d: &D,
-        command: &SlotCommand,
-    ) -> Result<Effect, Refusal>
+        command: &'a SlotCommand,
+    ) -> Result<Effect<'a>, Refusal>
         requires room { self.old.accepted < 2 ^ 63 }
         ensures follows { Follows result self.old self.new
             (stepped (scheme_of (D.functions d.now) self.old.header) self.old (BySlot command.now)) }
@@ -107,13 +116,13 @@ impl Verifier {
         let applied = self
             .state
             .apply_slots(d, self.number, &self.header, command);
-        let outcome = match &applied {
-            Ok(outcome) => outcome,
+        let answer = match &applied {
+            Ok(answer) => answer,
             Err(refusal) => return Err(*refusal),
         };
         let at = self.state.clock().at();
-        let effect = effect_of(self.number, self.accepted, at, &self.sums, outcome);
-        self.sums.apply(d, &before, self.state.clock(), outcome);
+        let effect = effect_of(self.number, self.accepted, at, &self.sums, answer);
+        self.sums.apply(&before, self.state.clock(), answer);
         self.accepted += 1;
         Ok(effect)
     }
@@ -168,16 +177,22 @@ impl Verifier {
     }
 }
 
-// What an outcome answers, of the verifier's next command, at this stamp.
-fn effect_of(number: u16, accepted: u64, at: Stamp, sums: &Sums, outcome: &Outcome) -> Effect
+// What the verifier's next command answers that handed this up, at this stamp.
+fn effect_of<'a>(
+    number: u16,
+    accepted: u64,
+    at: Stamp,
+    sums: &Sums,
+    answer: &Answer<'a>,
+) -> Effect<'a>
     ensures value { (machine : Machine) → machine.number ≡ number → machine.accepted ≡ accepted → machine.sums ≡ sums.now
-        → result ≡ effect_of machine at outcome.now }
+        → result ≡ effect_by machine at answer.now }
 {
-    let (put, key, value) = match outcome {
-        Outcome::Get(key, value) => (false, *key, value.copy()),
-        Outcome::Put(key, value) => (true, *key, value.copy()),
-        Outcome::NextEpoch(None) => return Effect::Opened,
-        Outcome::NextEpoch(Some(epoch)) => {
+    let (put, key, value) = match answer {
+        Answer::Get(key, value) => (false, *key, value),
+        Answer::Put(key, value) => (true, *key, value),
+        Answer::NextEpoch(None) => return Effect::Opened,
+        Answer::NextEpoch(Some(epoch)) => {
             return Effect::Sealed(Part {
                 verifier: number,
                 epoch: *epoch,
@@ -185,11 +200,12 @@ fn effect_of(number: u16, accepted: u64, at: Stamp, sums: &Sums, outcome: &Outco
                 evicted: sums.evicted_before,
             });
         }
-        Outcome::AddM
-        | Outcome::EvictM
-        | Outcome::AddB(_)
-        | Outcome::EvictB(_)
-        | Outcome::EvictBM(_) => return Effect::Plain,
+        Answer::AddM
+        | Answer::EvictM
+        | Answer::AddB(_, _)
+        | Answer::EvictB(_)
+        | Answer::EvictBM(_) => return Effect::Plain,
     };
-    Effect::Did(Operation::new(at, number, accepted, put, key, value))
+    let value = BlobRef::new(value.bytes());
+    Effect::Did(OperationRef::new(at, number, accepted, put, key, value))
 }

@@ -24,7 +24,6 @@ use Rattle.verifier_commands.specs.Machine.{Machine, effect_of, rules_for, openi
 use Rattle.verifier_commands.specs.Trace.{done_with, done_by, performed}
 use Rattle.verifier_commands.specs.Ticks.{Ticks}
 use Rattle.verifier_commands.proofs.TickLaws.{ticks_perform, ticks-epoch, ticks-first}
-use Rattle.verifier_run.specs.declared.kept.Yield.{Yield}
 use Rattle.verifier_run.specs.Kept.{part_in, Yields}
 use Rattle.verifier_run.specs.Course.{Course, opening_course, after_step, after_command}
 use Rattle.verifier_run.specs.Progress.{Progress, between_commands, opening_progress, progress_over, fed, course_at_end, ended}
@@ -276,19 +275,19 @@ module _ {A : Type 0} (keeps : Event → List A) (epoch : A → ℕ)
       (subst (λ (from : ℕ). OneOfEach from (sealed_next (clock_of course)) course.parts) (first_next header.first) out.parts) some
 
   -- What a command yields stands in order behind what was kept.
-  pub kept_in_order : (scheme : Scheme) (machine after : Machine) (command : LogCommand) (yield : Yield A)
-      (items all : List A) (parts sealed : List Part)
-      → StandsInOrder epoch machine.state.clock items parts → Yields keeps yield (performed scheme machine command) after
-      → all ≡ items ++ option_to_list yield.item → sealed ≡ parts ++ option_to_list yield.part
+  pub kept_in_order : (scheme : Scheme) (machine after : Machine) (command : LogCommand) (part : Option Part)
+      (items old all : List A) (parts sealed : List Part)
+      → StandsInOrder epoch machine.state.clock items parts → Yields keeps old all part (performed scheme machine command) after
+      → old ≡ items → sealed ≡ parts ++ option_to_list part
       → StandsInOrder epoch after.state.clock all sealed
   unfolding after_command
-  kept_in_order scheme machine after command yield items all parts sealed stands yields all_is sealed_is =
+  kept_in_order scheme machine after command part items old all parts sealed stands yields old_is sealed_is =
       let done = yields.0 in
       let course : Course A = record { machine = machine; items = items; parts = parts; refused = None } in
       let next : Course A = after_step keeps course (Ok (done, after)) in
       let on : GoesOn epoch course next = subst (GoesOn epoch course) (ap (after_step keeps course) yields.1) (command_goes_on scheme course command) in
       let behind : StandsInOrder epoch after.state.clock (items ++ keeps done.event) (parts ++ part_in done.effect) = in_order-on epoch course next stands on in
       subst (λ (kept : List A). StandsInOrder epoch after.state.clock kept sealed)
-      (sym (all_is ∙ ap (λ (kept : List A). items ++ kept) yields.2))
+      (sym (yields.2 ∙ ap (λ (kept : List A). kept ++ keeps done.event) old_is))
       (subst (λ (kept : List Part). StandsInOrder epoch after.state.clock (items ++ keeps done.event) kept)
       (sym (sealed_is ∙ ap (λ (kept : List Part). parts ++ kept) yields.3)) behind)

@@ -1,8 +1,9 @@
 -- What a verifier answers to a command is what is kept of it.
-use Rattle.std.proofs.Common.{◌≡◌, Some, None, Ok, refl, ap, ◌∙◌}
+use Rattle.std.proofs.Common.{◌≡◌, List, ◌++◌, Option, Some, None, Ok, refl, ap, ◌∙◌}
 use Rattle.std.specs.Option.{option_to_list}
 use Rattle.log_codec.specs.declared.log_command.LogCommand.{LogCommand}
 use Rattle.merkle_records.specs.Scheme.{Scheme}
+use Rattle.multiset_sum.specs.declared.part.Part.{Part}
 use Rattle.record_text.specs.declared.operation.Operation.{Operation}
 use Rattle.verifier_commands.specs.declared.effect.Effect.{Effect}
 use Rattle.verifier_commands.specs.VerifierState.{VerifierState}
@@ -10,7 +11,6 @@ use Rattle.verifier_commands.specs.Change.{Change, did_add_m, did_evict_m, did_a
 use Rattle.verifier_commands.specs.Machine.{Machine, stepped}
 use Rattle.verifier_commands.specs.Trace.{done_with, performed}
 use Rattle.verifier_commands.proofs.TraceLaws.{was_performed}
-use Rattle.verifier_run.specs.declared.kept.Yield.{Yield}
 use Rattle.verifier_run.specs.Kept.{keeps_operations, operation_in, part_in, Yields}
 
 -- the operation that an effect is, is that of its change
@@ -27,13 +27,14 @@ operation_told machine (did_next_epoch None) after = refl
 operation_told machine (did_next_epoch (Some sealed)) after = refl
 
 -- What a check keeps of a command is what the verifier's answer hands out.
-pub answer_yields : (scheme : Scheme) (machine : Machine) (command : LogCommand) (effect : Effect) (after : Machine) (yield : Yield Operation)
-    → stepped scheme machine command ≡ Ok (effect, after) → option_to_list yield.item ≡ operation_in effect
-    → option_to_list yield.part ≡ part_in effect → Yields keeps_operations yield (performed scheme machine command) after
-answer_yields scheme machine command effect after yield answers item part =
+pub answer_yields : (scheme : Scheme) (machine : Machine) (command : LogCommand) (effect : Effect) (after : Machine)
+    (old new : List Operation) (part : Option Part)
+    → stepped scheme machine command ≡ Ok (effect, after) → new ≡ old ++ operation_in effect
+    → option_to_list part ≡ part_in effect → Yields keeps_operations old new part (performed scheme machine command) after
+answer_yields scheme machine command effect after old new part answers kept sealed =
     let was = was_performed scheme machine command effect after answers in (
       done_with machine was.change was.state,
       was.step,
-      item ∙ ap operation_in was.effect_is ∙ operation_told machine was.change was.state,
-      part ∙ ap part_in was.effect_is,
+      kept ∙ ap (λ (operations : List Operation). old ++ operations) (ap operation_in was.effect_is ∙ operation_told machine was.change was.state),
+      sealed ∙ ap part_in was.effect_is,
     )

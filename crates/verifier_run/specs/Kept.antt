@@ -1,5 +1,5 @@
 -- What a run keeps of accepted commands: items of one kind, and the parts of sealed epochs.
-use Rattle.std.specs.Prelude.{◌≡◌, List, [], ◌∷◌, map, Ok, Result}
+use Rattle.std.specs.Prelude.{◌≡◌, List, [], ◌∷◌, ◌++◌, map, Option, Ok, Result}
 use Rattle.std.specs.List.{flat_map}
 use Rattle.std.specs.Option.{option_to_list}
 use Rattle.multiset_sum.specs.declared.part.Part.{Part}
@@ -10,7 +10,6 @@ use Rattle.verifier_commands.specs.declared.effect.Effect.TheVariants.{Plain, Di
 use Rattle.verifier_commands.specs.Event.{Event, operations_by}
 use Rattle.verifier_commands.specs.Machine.{Machine}
 use Rattle.verifier_commands.specs.Trace.{Done}
-use Rattle.verifier_run.specs.declared.kept.Yield.{Yield}
 
 -- what is kept of an event where operations are kept
 abbrev pub keeps_operations : Event → List Operation
@@ -38,8 +37,7 @@ items_of keeps done = flat_map keeps (map (λ command. command.event) done)
 abbrev pub parts_of : List Done → List Part
 parts_of done = flat_map (λ command. part_in command.effect) done
 
--- A command yields what is kept of its event and the part that it hands in, and leaves this verifier.
-abbrev pub Yields : {A : Type 0} → (Event → List A) → Yield A → Result (Done × Machine) Refusal → Machine → Type 0
-Yields keeps yield step after =
-    (done : Done) × (step ≡ Ok (done, after)) × (option_to_list yield.item ≡ keeps done.event)
-    × (option_to_list yield.part ≡ part_in done.effect)
+-- A command appends what is kept of its event, hands in this part, if it seals an epoch, and leaves this verifier.
+abbrev pub Yields : {A : Type 0} → (Event → List A) → List A → List A → Option Part → Result (Done × Machine) Refusal → Machine → Type 0
+Yields keeps old new part step after =
+    (done : Done) × (step ≡ Ok (done, after)) × (new ≡ old ++ keeps done.event) × (option_to_list part ≡ part_in done.effect)

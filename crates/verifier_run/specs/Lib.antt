@@ -6,4 +6,3 @@ pub mod Progress
 pub mod LogCourse
 pub mod Order
 pub mod Taken
-pub mod Queue

@@ -17,6 +17,7 @@ use command_window::CommandWindow;
 use lamport_clocks::Header;
 use log_codec::{Decoded, LONGEST_COMMAND_TEXT, read_command};
 use multiset_sum::Part;
+use operation_queue::Operations;
 use record_hash::Digests;
 use record_text::{Operation, Refusal};
 use std::alloc::Global;
@@ -170,37 +171,37 @@ impl<T: Kept> Run<T> {
         self.tracer.parts()
     }
 
-    /// What was kept of the commands so far, in order.
-    pub fn items(&self) -> &[T]
-        ensures value { result.now ≡ self.now.course.items }
+    /// Where what was kept of the commands so far waits.
+    pub fn store(&self) -> &T::Store
+        ensures held { T.held result.now ≡ self.now.course.items }
     {
-        self.tracer.items()
+        self.tracer.store()
     }
 
     /// The same, and the run is no more.
-    pub fn into_items(self) -> Vec<T>
-        ensures value { result.items ≡ self.course.items }
+    pub fn into_store(self) -> T::Store
+        ensures held { T.held result ≡ self.course.items }
     {
         let Run {
             tracer,
             window: _,
             held: _,
         } = self;
-        tracer.into_items()
+        tracer.into_store()
     }
 }
 
 impl Run<Operation> {
     /// The gets and puts so far, in order.
-    pub fn ops(&self) -> &[Operation]
-        ensures value { result.now ≡ self.now.course.items }
+    pub fn ops(&self) -> Operations<'_>
+        ensures value { result ≡ self.now.course.items }
     {
-        self.tracer.items()
+        self.tracer.operations()
     }
 
     /// The gets and puts of epochs up to this one, in order.
-    pub fn ops_up_to(&self, through: u32) -> &[Operation]
-        ensures value { result.now ≡ taken_by through self.now.course }
+    pub fn ops_up_to(&self, through: u32) -> Operations<'_>
+        ensures value { result ≡ taken_by through self.now.course }
     {
         self.tracer.operations_up_to(through)
     }
@@ -226,13 +227,13 @@ impl Run<Operation> {
 }
 
 // Copies of operations.
-fn copies(alloc: Global, operations: &[Operation]) -> Result<Vec<Operation>, Memory>
-    ensures items { IfOk result (λ v. v.items ≡ operations.now) }
+fn copies(alloc: Global, operations: Operations) -> Result<Vec<Operation>, Memory>
+    ensures items { IfOk result (λ v. v.items ≡ operations.entry) }
 {
     let mut copies = Vec::new(alloc);
     copies.reserve(operations.len())?;
     for operation in operations {
-        copies.push_reserved(operation.copy());
+        copies.push_reserved(operation.to_operation());
     }
     Ok(copies)
 }

@@ -6,26 +6,26 @@ ghost use Rattle.merkle_records.specs.Scheme.{scheme_of};
 ghost use Rattle.verifier_commands.specs.Machine.{opening_machine};
 ghost use Rattle.verifier_run.specs.Course.{Course, opening_course, refuse, after_command};
 ghost use Rattle.verifier_run.specs.Taken.{taken_by, left_behind};
-ghost use Rattle.verifier_run.specs.Queue.{queued, HasRoom};
 
 use crate::kept::Kept;
-use crate::queue::Queue;
 use base_words::Memory;
 use lamport_clocks::Header;
 use log_codec::LogCommand;
 use multiset_sum::Part;
+use operation_queue::Operations;
 use record_hash::Digests;
 use record_text::{Operation, Refusal};
+use slice_queue::SliceQueue;
 use std::alloc::Global;
 use std::marker::Model;
 use verifier_commands::Verifier;
 
-/// A verifier, and the course of its commands. The two queues are all that grows.
+/// A verifier, and the course of its commands. The store and the queue are all that grows.
 #[derive(Drop)]
 pub(crate) struct Tracer<T: Kept> {
     verifier: Verifier,
-    items: Queue<T>,
-    parts: Queue<Part>,
+    items: T::Store,
+    parts: SliceQueue<Part>,
     refused: Option<(u64, Refusal)>,
 }
 
@@ -33,13 +33,12 @@ impl<T: Kept> Model for Tracer<T> {
     ghost use Rattle.std.specs.Option.{option_to_list};
     ghost use Rattle.verifier_run.specs.Course.{Course};
     ghost use Rattle.verifier_run.specs.Order.{StandsInOrder};
-    ghost use Rattle.verifier_run.specs.Queue.{queued};
 
     ghost Value = { Course T };
 
-    ghost view = { λ t. record { machine = t.verifier; items = queued t.items; parts = queued t.parts; refused = t.refused } };
+    ghost view = { λ t. record { machine = t.verifier; items = T.held t.items; parts = t.parts.items; refused = t.refused } };
 
-    ghost invariant = { λ t. StandsInOrder T.epoch t.verifier.state.clock (queued t.items) (queued t.parts) };
+    ghost invariant = { λ t. StandsInOrder T.epoch t.verifier.state.clock (T.held t.items) t.parts.items };
 }
 
 impl<T: Kept> Tracer<T> {
@@ -52,15 +51,15 @@ impl<T: Kept> Tracer<T> {
         let verifier = Verifier::new(alloc, number, header)?;
         Ok(Tracer {
             verifier,
-            items: Queue::new(alloc),
-            parts: Queue::new(alloc),
+            items: T::new_store(alloc),
+            parts: SliceQueue::new(alloc),
             refused: None,
         })
     }
 
     /// The allocator that it was made with.
     pub(crate) fn allocator(&self) -> Global {
-        self.items.allocator()
+        self.parts.allocator()
     }
 
     /// The header of its bundle.
@@ -77,15 +76,16 @@ impl<T: Kept> Tracer<T> {
         self.refused
     }
 
-    pub(crate) fn items(&self) -> &[T]
-        ensures value { result.now ≡ self.now.items }
+    /// Where what was kept and not taken waits.
+    pub(crate) fn store(&self) -> &T::Store
+        ensures held { T.held result.now ≡ self.now.items }
     {
-        self.items.as_slice()
+        &self.items
     }
 
-    /// All that was kept and not taken, and nothing else of it.
-    pub(crate) fn into_items(self) -> Vec<T>
-        ensures items { result.items ≡ self.items }
+    /// The same, and nothing else of it.
+    pub(crate) fn into_store(self) -> T::Store
+        ensures held { T.held result ≡ self.items }
     {
         let Tracer {
             verifier: _,
@@ -93,7 +93,7 @@ impl<T: Kept> Tracer<T> {
             parts: _,
             refused: _,
         } = self;
-        items.into_vec()
+        items
     }
 
     pub(crate) fn parts(&self) -> &[Part]
@@ -118,13 +118,10 @@ impl<T: Kept> Tracer<T> {
         ensures count { self.new.machine.accepted ≤ self.old.machine.accepted + 1 }
     {
         // The room first: a step can't be taken back.
-        self.items.reserve()?;
-        self.parts.reserve()?;
-        match T::perform(&mut self.verifier, d, command) {
-            Ok(left) => {
-                keep(left.item, &mut self.items);
-                keep(left.part, &mut self.parts);
-            }
+        T::reserve(&mut self.items)?;
+        self.parts.reserve(1)?;
+        match T::perform(&mut self.verifier, d, command, &mut self.items) {
+            Ok(part) => keep(part, &mut self.parts),
             Err(refusal) => self.refuse(refusal),
         }
         Ok(())
@@ -132,12 +129,18 @@ impl<T: Kept> Tracer<T> {
 }
 
 impl Tracer<Operation> {
-    /// The operations of epochs up to this one: they stand in front.
-    pub(crate) fn operations_up_to(&self, through: u32) -> &[Operation]
-        ensures value { result.now ≡ taken_by through self.now }
+    /// All operations.
+    pub(crate) fn operations(&self) -> Operations<'_>
+        ensures value { result ≡ self.now.items }
     {
-        let operations = self.items.as_slice();
-        front(operations, operations_through(operations, through))
+        self.items.operations()
+    }
+
+    /// The operations of epochs up to this one: they stand in front.
+    pub(crate) fn operations_up_to(&self, through: u32) -> Operations<'_>
+        ensures value { result ≡ taken_by through self.now }
+    {
+        self.items.up_to(through)
     }
 
     /// Keeps no operation and no part of epochs up to this one.
@@ -146,32 +149,20 @@ impl Tracer<Operation> {
         ensures machine { self.new.machine ≡ self.old.machine }
         ensures refused { self.new.refused ≡ self.old.refused }
     {
-        let operations = operations_through(self.items.as_slice(), through);
         let parts = parts_through(self.parts.as_slice(), through);
-        self.items.pass(operations);
+        self.items.pass(through);
         self.parts.pass(parts);
     }
 }
 
-// Appends what there is, for which there is room.
-fn keep<T: Drop>(item: Option<T>, into: &mut Queue<T>)
-    requires room { HasRoom into.old }
-    ensures items { queued into.new ≡ queued into.old ++ option_to_list item }
+// Appends a part, if there is one. There is room for it.
+fn keep(part: Option<Part>, into: &mut SliceQueue<Part>)
+    requires room { 0 < into.old.room }
+    ensures items { into.new.items ≡ into.old.items ++ option_to_list part }
 {
-    if let Some(item) = item {
-        into.push_reserved(item);
+    if let Some(part) = part {
+        into.push_reserved(part);
     }
-}
-
-// How many operations at the front are of epochs up to this one.
-fn operations_through(operations: &[Operation], through: u32) -> usize
-    ensures value { result ≡ length (take_while (λ operation. nat_le operation.stamp.epoch through) operations.now) }
-    ensures within { result ≤ length operations.now }
-{
-    operations
-        .iter()
-        .take_while(|operation| operation.stamp.epoch <= through)
-        .count()
 }
 
 // How many parts at the front are of epochs up to this one.
@@ -183,12 +174,4 @@ fn parts_through(parts: &[Part], through: u32) -> usize
         .iter()
         .take_while(|part| part.epoch <= through)
         .count()
-}
-
-// The first so many operations.
-fn front(operations: &[Operation], len: usize) -> &[Operation]
-    requires within { len ≤ length operations.now }
-    ensures value { result.now ≡ take len operations.now }
-{
-    &operations[..len]
 }

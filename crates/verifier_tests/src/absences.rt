@@ -30,24 +30,33 @@ fn by_slot() -> Header
     }
 }
 
-// What a verifier does at the command that these bytes are.
-fn step(rt: &impl Abort, verifier: &mut Verifier, text: &[u8]) -> Result<Effect, Refusal> {
+// The get or put that a verifier does at the command that these bytes are, if it is one.
+fn step(
+    rt: &impl Abort,
+    verifier: &mut Verifier,
+    text: &[u8],
+) -> Result<Option<Operation>, Refusal> {
     let Decoded::Read(command, _) = read_command(verifier.header(), text) else {
         panic!(rt; "a row that is no command");
     };
     if verifier.accepted() > 1000 {
         panic!(rt; "a table of too many rows");
     }
-    match &command {
+    let answer = match &command {
         LogCommand::ByPath(command) => verifier.step(&ToyDigests, command),
         LogCommand::BySlot(command) => verifier.step_slots(&ToyDigests, command),
+    };
+    match answer {
+        Ok(Effect::Did(operation)) => Ok(Some(operation.to_operation())),
+        Ok(_) => Ok(None),
+        Err(refusal) => Err(refusal),
     }
 }
 
-// How a row tells an effect: a get by whether it answers none.
-fn told(effect: &Effect) -> &'static str {
-    match effect {
-        Effect::Did(operation) => {
+// How a row tells what was done: a get by whether it answers none.
+fn told(operation: &Option<Operation>) -> &'static str {
+    match operation {
+        Some(operation) => {
             if operation.put {
                 "put"
             } else if operation.value.bytes().is_some() {
@@ -56,7 +65,7 @@ fn told(effect: &Effect) -> &'static str {
                 "none"
             }
         }
-        _ => "ok",
+        None => "ok",
     }
 }
 
@@ -65,7 +74,7 @@ fn assert_answers(rt: &impl Abort, verifier: &mut Verifier, alloc: Global, table
     for row in table.trim().lines() {
         let text = bytes_of(rt, alloc, digits_of(rt, row));
         let answer = match step(rt, verifier, &text) {
-            Ok(effect) => told(&effect),
+            Ok(operation) => told(&operation),
             Err(refusal) => refusal.name(),
         };
         same(rt, row, &answer, &answer_of(rt, row));
@@ -208,7 +217,7 @@ fn an_absence_is_a_get_of_none(rt: HostRuntime) {
     let text = bytes_of(&rt, rt.alloc(), "09 400000000000000005 000000000000000000");
     let wanted = Operation::new(start, 0, 1, false, 5, Blob::none());
     let found = step(&rt, &mut verifier, &text);
-    same(&rt, "the operation", &found, &Ok(Effect::Did(wanted)));
+    same(&rt, "the operation", &found, &Ok(Some(wanted)));
     same(&rt, "the clock", &verifier.clock(), &start);
     same(&rt, "the number of the next", &verifier.accepted(), &2);
 }

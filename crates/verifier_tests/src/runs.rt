@@ -5,6 +5,7 @@ ghost use Rattle.lamport_clocks.specs.Header.{IsHeader};
 use crate::rows::{bytes_of, same};
 use lamport_clocks::{Header, Stamp};
 use multiset_sum::Part;
+use operation_queue::Operations;
 use record_hash::{Digests, ShaDigests, ToyDigests};
 use record_text::{Blob, Operation, Refusal};
 use std::alloc::Global;
@@ -90,11 +91,24 @@ fn only_part(rt: &impl Abort, label: &str, run: &Run) -> Part {
     *run.parts().first().expect(rt, "no part")
 }
 
+// Operations are these.
+fn assert_operations(
+    rt: &impl Abort,
+    label: &str,
+    operations: Operations,
+    expected: &[Operation],
+) {
+    same(rt, label, &operations.len(), &expected.len());
+    for (operation, wanted) in operations.zip(expected) {
+        same(rt, label, &operation.to_operation(), wanted);
+    }
+}
+
 // The run of the put and the get has both, and seals one epoch.
 fn assert_put_and_got(rt: &impl Abort, label: &str, run: &Run) {
     same(rt, label, &run.refused(), &None);
     let expected = [ab_at_5(rt, 1, true), ab_at_5(rt, 4, false)];
-    same(rt, label, &run.ops(), &expected.as_slice());
+    assert_operations(rt, label, run.ops(), &expected);
     same(rt, label, &only_part(rt, label, run).epoch, &0);
 }
 
@@ -184,15 +198,15 @@ fn a_sealed_epoch_has_its_sums(rt: HostRuntime) {
     same(&rt, "the sums", &part.added, &part.evicted);
 }
 
-// The index of the operation at this place.
-fn index_at(rt: &impl Abort, operations: &[Operation], place: usize) -> u64 {
-    operations.get(place).expect(rt, "no operation").index
+// The index of the first of operations.
+fn first_index(rt: &impl Abort, mut operations: Operations) -> u64 {
+    operations.next().expect(rt, "no operation").index()
 }
 
 // The run of the two puts has the second alone.
 fn assert_second_left(rt: &impl Abort, run: &Run) {
     same(rt, "one put left", &run.ops().len(), &1);
-    same(rt, "its index", &index_at(rt, run.ops(), 0), &3);
+    same(rt, "its index", &first_index(rt, run.ops()), &3);
     same(
         rt,
         "its epoch",
@@ -211,7 +225,7 @@ fn what_is_taken_is_kept_no_longer(rt: HostRuntime) {
     assert_second_left(&rt, &run);
     same(&rt, "of epoch 0", &run.ops_up_to(0).len(), &0);
     same(&rt, "of epoch 1", &run.ops_up_to(1).len(), &1);
-    same(&rt, "the second", &index_at(&rt, run.ops_up_to(1), 0), &3);
+    same(&rt, "the second", &first_index(&rt, run.ops_up_to(1)), &3);
     run.pass(1);
     same(&rt, "no put left", &run.ops().len(), &0);
     same(&rt, "no part left", &run.parts().len(), &0);

@@ -75,8 +75,9 @@ fn assert_empty_part(rt: &impl Abort, part: &Part) {
 #[test]
 fn the_second_turn_seals_the_first_epoch(rt: HostRuntime) {
     let mut verifier = opened(&rt, rt.alloc(), 1, 7);
-    let opened = verifier.step(&ToyDigests, &Command::NextEpoch);
-    same(&rt, "the first turn", &opened, &Ok(Effect::Opened));
+    let Ok(Effect::Opened) = verifier.step(&ToyDigests, &Command::NextEpoch) else {
+        panic!(rt; "no epoch opened");
+    };
     let Ok(effect) = verifier.step(&ToyDigests, &Command::NextEpoch) else {
         panic!(rt; "a refusal");
     };
@@ -87,7 +88,10 @@ fn the_second_turn_seals_the_first_epoch(rt: HostRuntime) {
 #[test]
 fn the_last_epoch_does_not_turn(rt: HostRuntime) {
     let mut verifier = opened(&rt, rt.alloc(), 0, u32::MAX);
-    let turn = verifier.step(&ToyDigests, &Command::NextEpoch);
-    same(&rt, "the turn", &turn, &Err(Refusal::ClockEnd));
+    let turn = match verifier.step(&ToyDigests, &Command::NextEpoch) {
+        Ok(_) => None,
+        Err(refusal) => Some(refusal),
+    };
+    same(&rt, "the turn", &turn, &Some(Refusal::ClockEnd));
     same(&rt, "the clock", &verifier.clock(), &start_of(u32::MAX));
 }

@@ -7,9 +7,9 @@ pub returns-in-Ok-clause-yields : goal.returns-in-Ok-clause-yields
 returns-in-Ok-clause-yields g c =
     told_yields (scheme_of (g.D.Digests.functions c.args.d.now) c.args.verifier.now.header) c.args.verifier.now c.args.command.now
     c.in-Ok.effect c.step_any.new.self c.clock.result c.number-number.result c.accepted-index.result
-    c.audit_change_of-change.result (record { item = c.at_moment.result; part = c.part_of.result })
+    c.audit_change_of-change.result c.args.store.now.items c.keep_change.new.queue.items c.part_of.result
     c.in-Ok.ensures.follows c.clock.ensures.value c.number-number.ensures.value c.accepted-index.ensures.value
-    c.audit_change_of-change.ensures.value c.at_moment.ensures.value c.part_of.ensures.part
+    c.audit_change_of-change.ensures.value c.keep_change.ensures.items c.part_of.ensures.part
 
 pub returns-in-Err-clause-refused : goal.returns-in-Err-clause-refused
 returns-in-Err-clause-refused g c = (

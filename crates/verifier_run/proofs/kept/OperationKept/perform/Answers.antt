@@ -6,8 +6,8 @@ use Rattle.verifier_run.proofs.kept.OperationKept.perform.Goals as goal
 pub returns-in-Ok-clause-yields : goal.returns-in-Ok-clause-yields
 returns-in-Ok-clause-yields g c =
     answer_yields (scheme_of (g.D.Digests.functions c.args.d.now) c.args.verifier.now.header) c.args.verifier.now c.args.command.now
-    c.in-Ok.effect c.step_any.new.self c.operation_or_part.result c.in-Ok.ensures.follows c.operation_or_part.ensures.item
-    c.operation_or_part.ensures.part
+    c.in-Ok.effect c.step_any.new.self c.args.store.now.items c.keep_operation.new.queue.items c.keep_operation.result
+    c.in-Ok.ensures.follows c.keep_operation.ensures.items c.keep_operation.ensures.part
 
 pub returns-in-Err-clause-refused : goal.returns-in-Err-clause-refused
 returns-in-Err-clause-refused g c = (

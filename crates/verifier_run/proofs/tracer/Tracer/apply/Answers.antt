@@ -2,7 +2,6 @@ use Rattle.std.proofs.Common.{◌++◌, List, ap, ◌∙◌}
 use Rattle.std.specs.Option.{option_to_list}
 use Rattle.merkle_records.specs.Scheme.{scheme_of}
 use Rattle.multiset_sum.specs.declared.part.Part.{Part}
-use Rattle.verifier_run.specs.Queue.{queued}
 use Rattle.verifier_run.proofs.HandOutLemmas.{kept_in_order}
 use Rattle.verifier_run.proofs.tracer.Tracer.apply.Goals as goal
 
@@ -10,7 +9,7 @@ pub invariant_of-self-in-Ok : goal.invariant_of-self-in-Ok
 invariant_of-self-in-Ok g c =
     let scheme = scheme_of (g.D.Digests.functions c.args.d.now) c.self.inside.verifier.header in
     kept_in_order g.T.Kept.keeps g.T.Kept.epoch g.met.T.Kept.of_epoch scheme c.self.inside.verifier c.perform.new.verifier
-    c.args.command.now c.in-Ok.left (queued c.self.inside.items) (queued c.keep.new.into) (queued c.self.inside.parts)
-    (queued c.keep-in-Ok.new.into) c.self.invariant c.in-Ok.ensures.yields
-    (c.keep.ensures.items ∙ ap (λ (kept : List g.row.T.Denot). kept ++ option_to_list c.in-Ok.left.item) c.reserve.ensures.same)
-    (c.keep-in-Ok.ensures.items ∙ ap (λ (kept : List Part). kept ++ option_to_list c.in-Ok.left.part) c.reserve-2.ensures.same)
+    c.args.command.now c.in-Ok.part (g.T.Kept.held c.self.inside.items) (g.T.Kept.held c.reserve.new.store) (g.T.Kept.held c.perform.new.store)
+    c.self.inside.parts.items c.keep.new.into.items c.self.invariant c.in-Ok.ensures.yields
+    c.reserve.ensures.items
+    (c.keep.ensures.items ∙ ap (λ (kept : List Part). kept ++ option_to_list c.in-Ok.part) c.reserve-2.ensures.items)
