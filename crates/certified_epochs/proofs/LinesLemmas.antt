@@ -1,7 +1,5 @@
 -- Two texts on a page, one behind the other, and what an epoch's text is.
-use Rattle.std.proofs.Common.{◌≡◌, ℕ, List, [], ◌++◌, length, map, Option, Bor, sym, ◌∙◌, ap, subst, append-nil, append_assoc}
-use Rattle.std.specs.List.{flat_map}
-use Rattle.std.proofs.lemmas.List.{length-map}
+use Rattle.std.proofs.Common.{◌≡◌, ℕ, List, [], ◌++◌, length, Option, refl, sym, ◌∙◌, ap, subst, append-nil, append_assoc}
 use Rattle.fv_outside.specs.Written.{GrowsByFront}
 use Rattle.fv_outside.proofs.WrittenLaws.{GrowsByFront-more}
 use Rattle.record_hash.specs.Functions.{DigestFunctions}
@@ -10,10 +8,10 @@ use Rattle.report_text.specs.Page.{Passes}
 use Rattle.report_text.specs.Lines.{epoch_line, certificate_line}
 use Rattle.report_text.proofs.PassLaws.{Passes-then, Passes-front}
 use Rattle.certified_epochs.specs.declared.telling.Telling.{Telling}
-use Rattle.certified_epochs.specs.declared.telling.Telling.TheVariants.{Plain, Receipts}
-use Rattle.certified_epochs.specs.Telling.{text_by, line_by}
-use Rattle.certified_epochs.specs.Pieces.{lines_seen}
-use Rattle.certified_epochs.proofs.PieceLemmas.{lines-seen}
+use Rattle.certified_epochs.specs.declared.telling.Telling.TheVariants.{Plain, Receipts, Nothing}
+use Rattle.certified_epochs.specs.Telling.{text_by, head_by, tail_by}
+use Rattle.certified_epochs.specs.Pieces.{lines_of}
+use Rattle.certified_epochs.proofs.PieceLemmas.{lines-none}
 
 -- both were added
 pub Passes-both : (a b c : Option (List ℕ)) (waited p q one two first second : List ℕ) → one ≡ first → two ≡ second
@@ -36,29 +34,23 @@ front-second a b c waited p one two first second one_is two_is h k =
     Passes-front a b c waited p one two [] (first ++ second) h k
     (append-nil (one ++ two) ∙ ap (λ (text : List ℕ). text ++ two) one_is ∙ ap (λ (text : List ℕ). first ++ text) two_is)
 
-module _ {D : Type 0} (functions : D → DigestFunctions) (telling : Telling D) (epoch : ℕ) (operations : List (Bor Operation)) where
-  -- how many there are, and their lines
-  abbrev pub counted_lines : List ℕ
-  counted_lines = epoch_line epoch (length operations) ++ lines_seen functions telling operations
+-- of three: the first was added, and then a part of the second was written, or the second too and then a part of the third
+pub front-middle : (a b c : Option (List ℕ)) (waited p one first second third : List ℕ) → one ≡ first → Passes a waited one b p
+    → GrowsByFront b c (p ++ second) → GrowsByFront a c (waited ++ (first ++ (second ++ third)))
+front-middle a b c waited p one first second third is h k =
+    front-second a b c waited p one (second ++ third) first (second ++ third) is refl h (front-first b c p second second third refl k)
 
-  counted : counted_lines
-      ≡ epoch_line epoch (length (map (λ op. op.now) operations)) ++ flat_map (line_by functions telling) (map (λ op. op.now) operations)
-  counted =
-      ap (λ (n : ℕ). epoch_line epoch n ++ lines_seen functions telling operations) (sym (length-map operations (λ (op : Bor Operation). op.now)))
-      ∙ ap (λ (lines : List ℕ). epoch_line epoch (length (map (λ (op : Bor Operation). op.now) operations)) ++ lines) (lines-seen functions telling operations)
+pub front-last : (a b c d : Option (List ℕ)) (waited p q one first second third : List ℕ) → one ≡ first → Passes a waited one b p → Passes b p second c q
+    → GrowsByFront c d (q ++ third) → GrowsByFront a d (waited ++ (first ++ (second ++ third)))
+front-last a b c d waited p q one first second third is h k l =
+    front-second a b d waited p one (second ++ third) first (second ++ third) is refl h
+    (front-second b c d p q second third second third refl refl k l)
 
--- the text of an epoch without receipts, and with them
-pub plain-is : {D : Type 0} (functions : D → DigestFunctions) (telling : Telling D) (epoch : ℕ) (operations : List (Bor Operation)) → telling ≡ Plain
-    → counted_lines functions telling epoch operations ≡ text_by functions telling epoch (map (λ op. op.now) operations)
-plain-is {D} functions telling epoch operations is =
-    subst (λ (t : Telling D). counted_lines functions t epoch operations ≡ text_by functions t epoch (map (λ (op : Bor Operation). op.now) operations)) (sym is)
-    (counted functions Plain epoch operations)
-
-pub receipts-is : {D : Type 0} (functions : D → DigestFunctions) (telling : Telling D) (epoch : ℕ) (operations : List (Bor Operation)) (digests : Bor D) (first : ℕ)
-    → telling ≡ Receipts digests first
-    → counted_lines functions telling epoch operations ++ certificate_line (functions digests.now) first epoch
-    ≡ text_by functions telling epoch (map (λ op. op.now) operations)
-receipts-is {D} functions telling epoch operations digests first is =
-    subst (λ (t : Telling D). counted_lines functions t epoch operations ++ certificate_line (functions digests.now) first epoch
-    ≡ text_by functions t epoch (map (λ (op : Bor Operation). op.now) operations)) (sym is)
-    (ap (λ (text : List ℕ). text ++ certificate_line (functions digests.now) first epoch) (counted functions (Receipts digests first) epoch operations))
+-- The text of an epoch: how many operations there are, their lines, and what stands behind them.
+pub text-parts : {D : Type 0} (functions : D → DigestFunctions) (telling : Telling D) (epoch : ℕ) (operations : List Operation)
+    → head_by telling epoch (length operations) ++ (lines_of functions telling operations ++ tail_by functions telling epoch) ≡ text_by functions telling epoch operations
+text-parts functions Plain epoch operations =
+    ap (λ (text : List ℕ). epoch_line epoch (length operations) ++ text) (append-nil (lines_of functions Plain operations))
+text-parts functions (Receipts digests first) epoch operations =
+    sym (append_assoc (epoch_line epoch (length operations)) (lines_of functions (Receipts digests first) operations) (certificate_line (functions digests.now) first epoch))
+text-parts functions Nothing epoch operations = append-nil (lines_of functions Nothing operations) ∙ lines-none functions operations

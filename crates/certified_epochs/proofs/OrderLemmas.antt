@@ -1,8 +1,7 @@
 -- The operations that runs have up to an epoch stand in order each, and together they are those of all runs.
-use Rattle.std.proofs.Common.{◌≡◌, ℕ, nat_le, List, [], ◌∷◌, ◌++◌, map, Bor, refl, sym, ◌∙◌, ap, subst}
+use Rattle.std.proofs.Common.{◌≡◌, ℕ, nat_le, List, [], ◌∷◌, ◌++◌, map, refl, sym, ◌∙◌, ap, subst}
 use Rattle.std.specs.List.{AllByRecursion, flat_map}
 use Rattle.std.proofs.lemmas.List.Elements.{filter-append}
-use Rattle.std.proofs.lemmas.List.Folds.{flat_map-map}
 use Rattle.record_text.specs.declared.operation.Operation.{Operation}
 use Rattle.stamp_order.specs.Merged.{comes_before, IsMerged, up_to}
 use Rattle.stamp_order.specs.Operations.{moment_of}
@@ -44,15 +43,9 @@ in_order epoch (fed ∷ runs) order = (
   in_order epoch runs order.1,
 )
 
-each_now : (fronts : List (Bor (List Operation))) → AllByRecursion (IsMerged moment_of) (map (λ front. front.now) fronts) → AreMerged fronts
-each_now [] order = tt
-each_now (front ∷ fronts) order = (order.0, each_now fronts order.1)
-
 -- The fronts stand in order.
-pub fronts-in_order : (epoch : ℕ) (runs : List FedRun) (fronts : List (Bor (List Operation))) → map (λ front. front.now) fronts ≡ fronts_by epoch runs
-    → StandInOrder runs → AreMerged fronts
-fronts-in_order epoch runs fronts are order =
-    each_now fronts (subst (AllByRecursion (IsMerged moment_of)) (sym are) (in_order epoch runs order))
+pub fronts-in_order : (epoch : ℕ) (runs : List FedRun) (fronts : List (List Operation)) → fronts ≡ fronts_by epoch runs → StandInOrder runs → AreMerged fronts
+fronts-in_order epoch runs fronts are order = subst AreMerged (sym are) (in_order epoch runs order)
 
 joined : (epoch : ℕ) (runs : List FedRun)
     → flat_map (λ ops. ops) (fronts_by epoch runs) ≡ up_to moment_of epoch (operations_among (map (λ fed. fed.run.course) runs))
@@ -62,8 +55,6 @@ joined epoch (fed ∷ runs) =
     ∙ sym (filter-append (λ (op : Operation). nat_le op.stamp.epoch epoch) fed.run.course.items (operations_among (map (λ (f : FedRun). f.run.course) runs)))
 
 -- And they are all operations up to the epoch.
-pub fronts-all : (epoch : ℕ) (runs : List FedRun) (fronts : List (Bor (List Operation))) → map (λ front. front.now) fronts ≡ fronts_by epoch runs
+pub fronts-all : (epoch : ℕ) (runs : List FedRun) (fronts : List (List Operation)) → fronts ≡ fronts_by epoch runs
     → all_of fronts ≡ up_to moment_of epoch (operations_among (map (λ fed. fed.run.course) runs))
-fronts-all epoch runs fronts are =
-    sym (flat_map-map (λ (ops : List Operation). ops) (λ (front : Bor (List Operation)). front.now) fronts)
-    ∙ ap (flat_map (λ (ops : List Operation). ops)) are ∙ joined epoch runs
+fronts-all epoch runs fronts are = ap all_of are ∙ joined epoch runs

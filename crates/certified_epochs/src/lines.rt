@@ -1,44 +1,60 @@
 //! The lines of one epoch.
-ghost use Rattle.std.specs.Prelude.{◌≡◌, ◌≤◌, ◌*◌, ◌++◌, map, min, length, OnOk, OnErr, Err};
+ghost use Rattle.std.specs.Prelude.{◌≡◌, ◌≤◌, ◌*◌, ◌++◌, length, OnOk, OnErr, Err};
 ghost use Rattle.fv_outside.specs.Failures.{FailsByWriting};
 ghost use Rattle.fv_outside.specs.Faults.{Rose};
 ghost use Rattle.fv_outside.specs.Written.{GrowsByFront};
 ghost use Rattle.report_text.specs.Page.{Passes};
-ghost use Rattle.report_text.specs.Lines as words;
-ghost use Rattle.certified_epochs.specs.Telling.{text_by};
-ghost use Rattle.certified_epochs.specs.Pieces.{lines_seen};
+ghost use Rattle.certified_epochs.specs.Telling.{head_by, tail_by};
+ghost use Rattle.certified_epochs.specs.Pieces.{lines_of};
 
-use crate::pieces::{GROUP, Piece, fill_pieces, make_pieces, part};
+use crate::pieces::{Piece, fill_pieces, make_pieces};
 use crate::telling::Telling;
 use fv_outside::{Failed, Failure, Sink};
 use record_hash::Digests;
-use record_text::Operation;
+use record_text::OperationRef;
 use report_text::{Page, certificate_line, epoch_line};
 use std::thread::Threads;
 
-/// Writes the lines of an epoch, whose operations these are. Pieces are made as they are needed.
-pub(crate) fn write_epoch_lines<R: Threads + Sync, D: Digests + Sync, O: Sink>(
-    rt: &R,
+/// Writes what stands in front of the lines of an epoch's operations, of which there are so many.
+pub(crate) fn write_head<D: Digests, O: Sink>(
     telling: &Telling<D>,
     epoch: u32,
-    operations: &[&Operation],
-    pieces: &mut Vec<Piece>,
+    count: usize,
     page: &mut Page,
     out: &mut O,
 ) -> Result<(), Failure>
-    ensures whole { OnOk result (Passes (O.held out.old) page.old
-        (text_by D.functions telling.now epoch (map (λ op. op.now) operations.now)) (O.held out.new) page.new) }
-    ensures front { OnErr result (GrowsByFront (O.held out.old) (O.held out.new)
-        (page.old ++ text_by D.functions telling.now epoch (map (λ op. op.now) operations.now))) }
+    ensures whole { OnOk result (Passes (O.held out.old) page.old (head_by telling.now epoch count) (O.held out.new) page.new) }
+    ensures front { OnErr result (GrowsByFront (O.held out.old) (O.held out.new) (page.old ++ head_by telling.now epoch count)) }
     ensures failure { FailsByWriting result }
     ensures write_fault { result ≡ Err Failure.WriteFault → Rose (O.faults out.old) (O.faults out.new) }
     ensures never_falls { O.faults out.old ≤ O.faults out.new }
 {
     match telling {
         Telling::Nothing => Ok(()),
-        Telling::Plain => write_counted(rt, telling, epoch, operations, pieces, page, out),
+        Telling::Plain => write_line(epoch_line(epoch, count as u64).as_slice(), page, out),
+        Telling::Receipts { .. } => {
+            write_line(epoch_line(epoch, count as u64).as_slice(), page, out)
+        }
+    }
+}
+
+/// Writes what stands behind the lines of an epoch's operations.
+pub(crate) fn write_tail<D: Digests, O: Sink>(
+    telling: &Telling<D>,
+    epoch: u32,
+    page: &mut Page,
+    out: &mut O,
+) -> Result<(), Failure>
+    ensures whole { OnOk result (Passes (O.held out.old) page.old (tail_by D.functions telling.now epoch) (O.held out.new) page.new) }
+    ensures front { OnErr result (GrowsByFront (O.held out.old) (O.held out.new) (page.old ++ tail_by D.functions telling.now epoch)) }
+    ensures failure { FailsByWriting result }
+    ensures write_fault { result ≡ Err Failure.WriteFault → Rose (O.faults out.old) (O.faults out.new) }
+    ensures never_falls { O.faults out.old ≤ O.faults out.new }
+{
+    match telling {
+        Telling::Nothing => Ok(()),
+        Telling::Plain => Ok(()),
         Telling::Receipts { digests, first } => {
-            write_counted(rt, telling, epoch, operations, pieces, page, out)?;
             write_line(
                 certificate_line(*digests, *first, epoch).as_slice(),
                 page,
@@ -48,31 +64,27 @@ pub(crate) fn write_epoch_lines<R: Threads + Sync, D: Digests + Sync, O: Sink>(
     }
 }
 
-// Writes how many operations there are, and the lines of each.
-fn write_counted<R: Threads + Sync, D: Digests + Sync, O: Sink>(
+/// Writes the lines of the operations of a group. Pieces are made as they are needed.
+pub(crate) fn write_group<R: Threads + Sync, D: Digests + Sync, O: Sink>(
     rt: &R,
     telling: &Telling<D>,
-    epoch: u32,
-    operations: &[&Operation],
+    group: &[OperationRef],
     pieces: &mut Vec<Piece>,
     page: &mut Page,
     out: &mut O,
 ) -> Result<(), Failure>
-    ensures whole { OnOk result (Passes (O.held out.old) page.old
-        (words.epoch_line epoch (length operations.now) ++ lines_seen D.functions telling.now operations.now) (O.held out.new) page.new) }
-    ensures front { OnErr result (GrowsByFront (O.held out.old) (O.held out.new)
-        (page.old ++ (words.epoch_line epoch (length operations.now) ++ lines_seen D.functions telling.now operations.now))) }
+    requires short { length group.now ≤ 16384 }
+    ensures whole { OnOk result (Passes (O.held out.old) page.old (lines_of D.functions telling.now group.now) (O.held out.new) page.new) }
+    ensures front { OnErr result (GrowsByFront (O.held out.old) (O.held out.new) (page.old ++ lines_of D.functions telling.now group.now)) }
     ensures failure { FailsByWriting result }
     ensures write_fault { result ≡ Err Failure.WriteFault → Rose (O.faults out.old) (O.faults out.new) }
     ensures never_falls { O.faults out.old ≤ O.faults out.new }
 {
-    make_pieces(pieces, operations.len())?;
-    write_line(
-        epoch_line(epoch, operations.len() as u64).as_slice(),
-        page,
-        out,
-    )?;
-    write_lines(rt, telling, operations, pieces, page, out)
+    if let Telling::Nothing = telling {
+        return Ok(());
+    }
+    make_pieces(pieces, group.len())?;
+    write_pieces(rt, telling, group, pieces, page, out)
 }
 
 // Writes a line.
@@ -89,48 +101,18 @@ fn write_line<O: Sink>(line: &[u8], page: &mut Page, out: &mut O) -> Result<(), 
     }
 }
 
-// Writes the lines of operations, a group after the other.
-fn write_lines<R: Threads + Sync, D: Digests + Sync, O: Sink>(
-    rt: &R,
-    telling: &Telling<D>,
-    operations: &[&Operation],
-    pieces: &mut [Piece],
-    page: &mut Page,
-    out: &mut O,
-) -> Result<(), Failure>
-    requires room { min 16384 (length operations.now) ≤ length pieces.old * 1024 }
-    ensures whole { OnOk result (Passes (O.held out.old) page.old (lines_seen D.functions telling.now operations.now) (O.held out.new) page.new) }
-    ensures front { OnErr result (GrowsByFront (O.held out.old) (O.held out.new) (page.old ++ lines_seen D.functions telling.now operations.now)) }
-    ensures failure { FailsByWriting result }
-    ensures write_fault { result ≡ Err Failure.WriteFault → Rose (O.faults out.old) (O.faults out.new) }
-    ensures never_falls { O.faults out.old ≤ O.faults out.new }
-{
-    for number in 0..operations.len() / GROUP + 1 {
-        write_group(
-            rt,
-            telling,
-            part(operations, GROUP, number),
-            pieces,
-            page,
-            out,
-        )?;
-    }
-    Ok(())
-}
-
 // Writes the lines of the operations of a group, a piece after the other.
-fn write_group<R: Threads + Sync, D: Digests + Sync, O: Sink>(
+fn write_pieces<R: Threads + Sync, D: Digests + Sync, O: Sink>(
     rt: &R,
     telling: &Telling<D>,
-    group: &[&Operation],
+    group: &[OperationRef],
     pieces: &mut [Piece],
     page: &mut Page,
     out: &mut O,
 ) -> Result<(), Failure>
     requires room { length group.now ≤ length pieces.old * 1024 }
-    ensures whole { OnOk result (Passes (O.held out.old) page.old (lines_seen D.functions telling.now group.now) (O.held out.new) page.new) }
-    ensures front { OnErr result (GrowsByFront (O.held out.old) (O.held out.new) (page.old ++ lines_seen D.functions telling.now group.now)) }
-    ensures len { length pieces.new ≡ length pieces.old }
+    ensures whole { OnOk result (Passes (O.held out.old) page.old (lines_of D.functions telling.now group.now) (O.held out.new) page.new) }
+    ensures front { OnErr result (GrowsByFront (O.held out.old) (O.held out.new) (page.old ++ lines_of D.functions telling.now group.now)) }
     ensures failure { FailsByWriting result }
     ensures write_fault { result ≡ Err Failure.WriteFault → Rose (O.faults out.old) (O.faults out.new) }
     ensures never_falls { O.faults out.old ≤ O.faults out.new }

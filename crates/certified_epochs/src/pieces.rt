@@ -2,12 +2,12 @@
 ghost use Rattle.std.specs.Prelude.{◌≡◌, ◌<◌, ◌≤◌, ◌*◌, ◌++◌, ℕ, min, true, length, vec_len, slice_index_or, OnOk};
 ghost use Rattle.std.specs.List.{flat_map};
 ghost use Rattle.certified_epochs.specs.Telling.{line_by};
-ghost use Rattle.certified_epochs.specs.Pieces.{part_at, lines_seen, HasLines};
+ghost use Rattle.certified_epochs.specs.Pieces.{part_at, lines_of, HasLines};
 
 use crate::telling::Telling;
 use base_words::Memory;
 use record_hash::Digests;
-use record_text::Operation;
+use record_text::OperationRef;
 use report_text::{operation_line, receipt_line};
 use std::alloc::Global;
 use std::thread::{Threads, for_each_mut};
@@ -41,8 +41,8 @@ impl Piece {
     }
 
     // Has the lines of these operations, in place of those that it has.
-    fn fill<D: Digests>(&mut self, telling: &Telling<D>, operations: &[&Operation])
-        ensures lines { self.new.is_whole ≡ true → self.new.text.items ≡ lines_seen D.functions telling.now operations.now }
+    fn fill<D: Digests>(&mut self, telling: &Telling<D>, operations: &[OperationRef])
+        ensures lines { self.new.is_whole ≡ true → self.new.text.items ≡ lines_of D.functions telling.now operations.now }
     {
         self.text.clear();
         self.is_whole = push_lines(telling, operations, &mut self.text).is_ok();
@@ -65,7 +65,7 @@ pub(crate) fn make_pieces(pieces: &mut Vec<Piece>, operations: usize) -> Result<
 pub(crate) fn fill_pieces<R: Threads + Sync, D: Digests + Sync>(
     rt: &R,
     telling: &Telling<D>,
-    group: &[&Operation],
+    group: &[OperationRef],
     pieces: &mut [Piece],
 )
     ensures lines { (number : ℕ) (default : Piece) → number < length pieces.new
@@ -85,10 +85,10 @@ pub(crate) fn fill_pieces<R: Threads + Sync, D: Digests + Sync>(
 
 /// So many operations, behind so many parts of as many.
 pub(crate) fn part<'a, 'b>(
-    operations: &'b [&'a Operation],
+    operations: &'b [OperationRef<'a>],
     size: usize,
     number: usize,
-) -> &'b [&'a Operation]
+) -> &'b [OperationRef<'a>]
     ensures value { result.now ≡ part_at size number operations.now }
 {
     let from = number.saturating_mul(size).min(operations.len());
@@ -99,10 +99,10 @@ pub(crate) fn part<'a, 'b>(
 // Appends the lines of operations.
 fn push_lines<D: Digests>(
     telling: &Telling<D>,
-    operations: &[&Operation],
+    operations: &[OperationRef],
     text: &mut Vec<u8>,
 ) -> Result<(), Memory>
-    ensures lines { OnOk result (text.new.items ≡ text.old.items ++ lines_seen D.functions telling.now operations.now) }
+    ensures lines { OnOk result (text.new.items ≡ text.old.items ++ lines_of D.functions telling.now operations.now) }
 {
     for operation in operations {
         push_line(telling, operation, text)?;
@@ -113,7 +113,7 @@ fn push_lines<D: Digests>(
 // Appends the line of an operation, and with receipts its receipt's.
 fn push_line<D: Digests>(
     telling: &Telling<D>,
-    operation: &Operation,
+    operation: &OperationRef,
     text: &mut Vec<u8>,
 ) -> Result<(), Memory>
     ensures line { OnOk result (text.new.items ≡ text.old.items ++ line_by D.functions telling.now operation.now) }

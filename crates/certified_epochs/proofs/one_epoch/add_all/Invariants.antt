@@ -1,8 +1,8 @@
-use Rattle.std.proofs.Common.{◌≡◌, map, take}
+use Rattle.std.proofs.Common.{◌≡◌, take}
 use Rattle.std.specs.List.{fold}
 use Rattle.certified_epochs.proofs.one_epoch.add_all.Given as goal
 
 -- the operations so far are added
 abbrev pub invariant-loop-operation : goal.invariant-loop-operation
 invariant-loop-operation g l =
-    g.T.OperationFold.state l.folded ≡ fold g.T.OperationFold.step (g.T.OperationFold.state l.fn.folded) (map (λ op. op.now) (take l.operation-index l.operations))
+    g.T.OperationFold.state l.folded ≡ fold g.T.OperationFold.step (g.T.OperationFold.state l.fn.folded) (take l.operation-index l.operations)
