@@ -105,11 +105,7 @@ fn absent(reader: &mut Reader<'_>, place: &mut LogCommand) -> Result<(), TextFau
 }
 
 // The command of this tag.
-fn behind(
-    reader: &mut Reader<'_>,
-    tag: u8,
-    place: &mut LogCommand,
-) -> Result<(), TextFault>
+fn behind(reader: &mut Reader<'_>, tag: u8, place: &mut LogCommand) -> Result<(), TextFault>
     ensures takes { TakesInto result place.new reader.new (naming_paths (path_command_behind false longest_blob tag reader.old)) }
 {
     match tag {

@@ -33,7 +33,7 @@ loop-self-preserved c =
     let more = c.in-Some.ensures.read.3 in
     let left = ap length c.behind.ensures.value ∙ length-drop c.loop-self.taken c.args.bytes.now in
     let place : length c.read_next.new.self ≡ suc c.len-place.result =
-        ap length more ∙ (length-append old (read ∷ []) ∙ omega (arith, c.len-place.ensures.value)) in
+    ap length more ∙ (length-append old (read ∷ []) ∙ omega (arith, c.len-place.ensures.value)) in
     record {
       read = subst (λ (reads : List ReadCommand). AreReadOf (format_of c.args.header.now) c.args.bytes.now reads) (sym more)
           (read-more (format_of c.args.header.now) c.args.bytes.now old read c.loop-self.invariant.read
