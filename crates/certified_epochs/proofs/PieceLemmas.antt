@@ -1,6 +1,5 @@
 -- The lines of operations, part by part.
 use Rattle.std.proofs.Common.{◌≡◌, ℕ, ◌+◌, ◌*◌, ◌≤◌, List, [], ◌∷◌, ◌++◌, length, min, drop, length-take, length-drop, refl, sym, ◌∙◌, ap, append_assoc, append-nil, take-append-drop, arith}
-use Rattle.std.specs.List.{flat_map}
 use Rattle.std.proofs.lemmas.Grind.{flat_map-append}
 use Rattle.std.proofs.lemmas.List.{drop-drop, drop_all}
 use Rattle.record_hash.specs.Functions.{DigestFunctions}

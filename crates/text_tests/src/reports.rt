@@ -138,7 +138,9 @@ fn lines_are_written_whole(rt: HostRuntime) {
     write_epoch(0, 2, &mut sink).ok().expect(&rt, "head");
     for row in OPERATIONS.trim().lines() {
         let op = operation_of(&rt, row);
-        write_operation(&op, &mut sink).ok().expect(&rt, "line");
+        write_operation(&op.by_ref(), &mut sink)
+            .ok()
+            .expect(&rt, "line");
     }
     same(&rt, "last", &is_last_written(&mut sink), &true);
     same_bytes(&rt, "sink.bytes()", sink.bytes(), REPORT.as_bytes());

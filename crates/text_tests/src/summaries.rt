@@ -2,6 +2,7 @@
 use fv_outside::MemorySink;
 use lamport_clocks::Stamp;
 use load_summary::Summary;
+use operation_folds::OperationFold;
 use record_text::{Blob, Operation};
 use report_text::Status;
 use std::alloc::Global;
@@ -99,8 +100,9 @@ fn summary_of(rt: &impl Abort, alloc: Global, row: &str) -> Summary {
     let mut summary = Summary::new(alloc, field(rt, row, 3).parse().expect(rt, "a number")).expect(
         rt, "memory",
     );
-    let operations = operations_of(rt, alloc, field(rt, row, 4));
-    summary.count(&operations).expect(rt, "memory");
+    for operation in operations_of(rt, alloc, field(rt, row, 4)) {
+        summary.add(&operation.by_ref()).expect(rt, "memory");
+    }
     summary
 }
 
@@ -125,15 +127,17 @@ fn summaries_are_written_whole(rt: HostRuntime) {
 }
 
 #[test]
-fn operations_are_counted_piece_by_piece(rt: HostRuntime) {
+fn a_summary_that_was_written_goes_on(rt: HostRuntime) {
     let row = SUMMARIES.trim().lines().nth(2).expect(&rt, "no row");
     let operations = operations_of(&rt, rt.alloc(), field(&rt, row, 4));
     let mut summary = Summary::new(rt.alloc(), 2).expect(&rt, "memory");
+    let end = Status::Done { epochs: 1 };
+    let mut first = MemorySink::new(rt.alloc(), 1000, 1000, &[]).expect(&rt, "memory");
     for operation in operations {
-        summary.count(&[operation]).expect(&rt, "memory");
+        summary.add(&operation.by_ref()).expect(&rt, "memory");
+        assert!(rt; summary.write(0, 0, 0, &end, &mut first).is_ok());
     }
     let mut sink = MemorySink::new(rt.alloc(), 1000, 1000, &[]).expect(&rt, "memory");
-    let end = Status::Done { epochs: 1 };
     assert!(rt;
         summary
             .write(17397014451822862089, 7, 1, &end, &mut sink)

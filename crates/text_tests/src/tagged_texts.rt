@@ -74,7 +74,7 @@ fn what_is_tagged_is_issued_so(rt: HostRuntime) {
             let digests = ShaDigests::new(&bytes_of(&rt, rt.alloc(), row, 0));
             let bytes = bytes_of(&rt, rt.alloc(), row, 1);
             let read = read_receipt(&bytes).expect(&rt, "no receipt");
-            let issued = issue(&digests, &read.operation);
+            let issued = issue(&digests, &read.operation.by_ref());
             assert_eq!(rt; issued.as_slice(), bytes.as_slice(), "{row}");
             let bytes = bytes_of(&rt, rt.alloc(), row, 2);
             let read = read_certificate(&bytes).expect(&rt, "no certificate");

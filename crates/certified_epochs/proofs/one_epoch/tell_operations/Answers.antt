@@ -1,4 +1,4 @@
-use Rattle.std.proofs.Common.{ℕ, List, ◌++◌, length, refl, ◌∙◌, ap, subst}
+use Rattle.std.proofs.Common.{ℕ, List, ◌++◌, length, refl, ap, subst}
 use Rattle.fv_outside.specs.Written.{GrowsByFront}
 use Rattle.report_text.specs.Page.{Passes}
 use Rattle.report_text.proofs.PassLaws.{Passes-then, on_err, ok_then, err_then}
