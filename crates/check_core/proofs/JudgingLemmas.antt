@@ -7,7 +7,7 @@ use Rattle.multiset_sum.specs.declared.sum.Sum.{Sum}
 use Rattle.epoch_gather.specs.declared.outcome.Verdict.{Verdict}
 use Rattle.epoch_gather.specs.declared.outcome.Verdict.TheVariants.{Balanced, Unbalanced, Missing}
 use Rattle.epoch_gather.specs.Verdict.{verdict_of}
-use Rattle.verifier_run.specs.declared.run.Run.{Run}
+use Rattle.verifier_run.specs.Progress.{Progress}
 use Rattle.verifier_run.specs.Course.{Course}
 use Rattle.bundle_report.specs.declared.judged.Judged.{Judged}
 use Rattle.bundle_report.specs.declared.judged.Uneven.{Uneven}
@@ -22,21 +22,21 @@ next_left {A} xs at x within is = drop_more xs at x within ∙ ap (λ (first : A
 -- ---- what is gathered
 
 -- of one run more
-pub gather_more : {T : Type 0} (index : ℕ) (runs : List (Run T)) (at : ℕ) (run : Run T) (gathered more whole : List Part) → at < length runs → run ≡ get_or runs at run
+pub gather_more : {T : Type 0} (index : ℕ) (runs : List (Progress T)) (at : ℕ) (run : Progress T) (gathered more whole : List Part) → at < length runs → run ≡ get_or runs at run
     → more ≡ gathered ++ option_to_list (slice_get run.course.parts index) → gathered ++ parts_at index (map (λ r. r.course) (drop at runs)) ≡ whole
     → more ++ parts_at index (map (λ r. r.course) (drop (at + 1) runs)) ≡ whole
 gather_more {T} index runs at run gathered more whole within is added so_far =
-    let left = parts_at index (map (λ (r : Run T). r.course) (drop (at + 1) runs)) in
+    let left = parts_at index (map (λ (r : Progress T). r.course) (drop (at + 1) runs)) in
     ap (λ (front : List Part). front ++ left) added
     ∙ append_assoc gathered (option_to_list (slice_get run.course.parts index)) left
-    ∙ sym (ap (λ (rest : List (Run T)). gathered ++ parts_at index (map (λ r. r.course) rest)) (next_left runs at run within is))
+    ∙ sym (ap (λ (rest : List (Progress T)). gathered ++ parts_at index (map (λ r. r.course) rest)) (next_left runs at run within is))
     ∙ so_far
 
 -- of all runs
-pub gather_all : {T : Type 0} (index : ℕ) (runs : List (Run T)) (at : ℕ) (gathered whole : List Part) → length runs ≤ at
+pub gather_all : {T : Type 0} (index : ℕ) (runs : List (Progress T)) (at : ℕ) (gathered whole : List Part) → length runs ≤ at
     → gathered ++ parts_at index (map (λ r. r.course) (drop at runs)) ≡ whole → gathered ≡ whole
 gather_all {T} index runs at gathered whole none so_far =
-    sym (append-nil gathered) ∙ sym (ap (λ (rest : List (Run T)). gathered ++ parts_at index (map (λ r. r.course) rest)) (drop_all at runs none)) ∙ so_far
+    sym (append-nil gathered) ∙ sym (ap (λ (rest : List (Progress T)). gathered ++ parts_at index (map (λ r. r.course) rest)) (drop_all at runs none)) ∙ so_far
 
 -- ---- what is judged
 
