@@ -1,6 +1,6 @@
 -- Lemmas on records and their texts.
 mod SameLemmas
-mod WideWordLemmas
+pub mod WideWordLaws
 pub mod SameTestLaws
 pub mod FieldLaws
 pub mod PathTextLaws

@@ -12,7 +12,7 @@ use Rattle.record_text.specs.Tree.{word_width}
 use Rattle.record_text.specs.Reading.{path_in, path_at, if_below, path_below_in, path_below_at}
 use Rattle.record_text.specs.Texts.{path_text}
 use Rattle.record_text.proofs.FieldLaws.{AreBytes, AreBytes-rest, Begins, field_begins, field_again}
-use Rattle.record_text.proofs.WideWordLemmas.{wide_word}
+use Rattle.record_text.proofs.WideWordLaws.{wide_word}
 
 -- ---- a path in a word
 
