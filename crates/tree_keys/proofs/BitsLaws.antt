@@ -4,7 +4,8 @@ use Rattle.std.proofs.lemmas.Nat.{shr-shr, pow_pos, mod_low, shr_high, mod_below
 use Rattle.std.proofs.lemmas.List.{take_at}
 use Rattle.std.proofs.Math.Nat.{pow-suc, pow-le-pow_right}
 use Rattle.tree_keys.specs.Bits.{bits_of, bit_value, number_of}
-use Rattle.tree_keys.specs.BitsLaws.{length-bits_of, top_digit, mod_small, number_back, number_behind}
+use Rattle.tree_keys.specs.Path.{IsIn, depth, tree_of, key_of}
+use Rattle.tree_keys.specs.BitsLaws.{length-bits_of, top_digit, mod_small, number_back, upper_half, lower_half}
 
 -- bits are those of the whole number's quotient, and then those of the number
 pub bits_of-split : (j k number : ℕ) → bits_of (j + k) number ≡ bits_of j (number / 2 ^ k) ++ bits_of k number
@@ -120,15 +121,30 @@ child_below len bits digit small bit =
     let more : 2 ^ suc len ≡ 2 ^ (len + 1) = ap (λ (k : ℕ). 2 ^ k) (omega arith) in
     omega (arith, double len, more)
 
--- below 64 bits a bit more fits a word
-pub child_fits : (len bits digit : ℕ) → len < 64 → bits < 2 ^ len → digit < 2 → 2 * bits + digit < 2 ^ 64
+-- below 128 bits a bit more fits a word of so many
+pub child_fits : (len bits digit : ℕ) → len < 128 → bits < 2 ^ len → digit < 2 → 2 * bits + digit < 2 ^ 128
 child_fits len bits digit short small bit =
     let below = child_below len bits digit small bit in
-    let within : 2 ^ (len + 1) ≤ 2 ^ 64 = pow-le-pow_right {n = 2} (omega arith) {i = len + 1} {j = 64} (omega arith) in
+    let within : 2 ^ (len + 1) ≤ 2 ^ 128 = pow-le-pow_right {n = 2} (omega arith) {i = len + 1} {j = 128} (omega arith) in
     omega arith
 
+-- a number of its two halves
+pub halves : (number : ℕ) → number / 2 ^ 64 * 2 ^ 64 + number % 2 ^ 64 ≡ number
+halves number = omega arith
+
+-- a path by the number that its bits spell
+pub opened : (wide : Bool) (len number bits : ℕ) (path : List Bool) → wide ∷ bits_of len number ≡ path → number < 2 ^ len → bits ≡ key_of path → path ≡ wide ∷ bits_of len bits
+opened wide len number bits path view small is =
+    let key : key_of path ≡ number = ap key_of (sym view) ∙ number_back len number small in
+    sym view ∙ ap (λ (n : ℕ). wide ∷ bits_of len n) (sym (is ∙ key))
+
+-- and by its parts
+pub parts : (path : List Bool) (on : Bool) → IsIn on path → path ≡ tree_of path ∷ bits_of (depth path) (key_of path)
+parts [] on within = absurd within
+parts (wide ∷ bits) on within = ap (λ (more : List Bool). wide ∷ more) (sym (bits_of-number_of bits))
+
 -- what a path's view tells of its fields
-pub ruleset path_view = (length-bits_of, number_behind, number_back)
+pub ruleset path_view = (length-bits_of, number_back, halves, upper_half, lower_half)
 
 pub ruleset bit_view = (length-bits_of, bit_of-bits_of, bit-behind)
 

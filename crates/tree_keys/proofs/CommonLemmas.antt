@@ -4,7 +4,7 @@ use Rattle.std.proofs.lemmas.Nat.{shr-shr, xor_shr, xor_mod, xor_lt, shr_high, l
 use Rattle.std.proofs.lemmas.Bool.{leb-true, leb-false}
 use Rattle.std.proofs.Math.Dec.{leb}
 use Rattle.std.proofs.Math.Nat.{pow-suc, pow-le-pow_right}
-use Rattle.std.specs.Int.{w64, leading_zeros}
+use Rattle.std.specs.Int.{w128, leading_zeros}
 use Rattle.std.specs.Int.Bits.{xor_zero_l, xor_zero_r, xor_self, xor_assoc}
 use Rattle.tree_keys.specs.Bits.{bits_of, bit_value}
 use Rattle.tree_keys.specs.BitsLaws.{length-bits_of, digit}
@@ -62,16 +62,16 @@ xor_apart a b none =
 -- ---- how many first bits two numbers share, by the leading zeros of their xor
 
 -- what the leading zeros of a number say: it has so many bits
-pub record Width (count x zeros m : ℕ) : Type 0 where
-  pub whole : zeros + m ≡ 64
+pub record w128idth (count x zeros m : ℕ) : Type 0 where
+  pub whole : zeros + m ≡ 128
   pub within : m ≤ count
   pub below : x < 2 ^ m
   pub reached : 2 ^ m ≤ 2 * x + 1
 
-pub width_of : (count x : ℕ) → count ≤ 64 → x < 2 ^ count → (m : ℕ) × Width count x (leading_zeros w64 x) m
+pub width_of : (count x : ℕ) → count ≤ 128 → x < 2 ^ count → (m : ℕ) × w128idth count x (leading_zeros w128 x) m
 width_of count x fits small =
-    let wide : 2 ^ count ≤ 2 ^ 64 = pow-le-pow_right {n = 2} (omega arith) {i = count} {j = 64} fits in
-    let found = leading_length 64 x (omega arith) in
+    let wide : 2 ^ count ≤ 2 ^ 128 = pow-le-pow_right {n = 2} (omega arith) {i = count} {j = 128} fits in
+    let found = leading_length 128 x (omega arith) in
     (found.0, record { whole = found.1; within = not_past count x found.0 small found.3; below = found.2; reached = found.3 })
   where
     not_past : (n y k : ℕ) → y < 2 ^ n → 2 ^ k ≤ 2 * y + 1 → k ≤ n
@@ -158,30 +158,36 @@ common_of m a n b w s own others least is_own is_others within same apart =
             at_end true first = common-end_left s (bits_of m a) (bits_of n b) (omega (arith, count, whole, leb-true m n first))
             at_end false first = common-end_right s (bits_of m a) (bits_of n b) (omega (arith, other, whole, leb-false m n first))
 
--- the same behind one bit more
-pub common-behind : (m a n b w s own others : ℕ) → w ≡ min m n → own ≡ a / 2 ^ (m - w) → others ≡ b / 2 ^ (n - w) → s ≤ w → own / 2 ^ (w - s) ≡ others / 2 ^ (w - s)
-    → (s < w → own / 2 ^ (w - s - 1) % 2 ≢ others / 2 ^ (w - s - 1) % 2) → common (false ∷ bits_of m a) (false ∷ bits_of n b) ≡ take (1 + s) (false ∷ bits_of m a)
-common-behind m a n b w s own others least is_own is_others within same apart =
+-- the same of paths of one tree
+pub common_paths : (v w : Bool) (m a n b count s own others : ℕ) → v ≡ w → count ≡ min m n → own ≡ a / 2 ^ (m - count) → others ≡ b / 2 ^ (n - count) → s ≤ count
+    → own / 2 ^ (count - s) ≡ others / 2 ^ (count - s) → (s < count → own / 2 ^ (count - s - 1) % 2 ≢ others / 2 ^ (count - s - 1) % 2)
+    → common (v ∷ bits_of m a) (w ∷ bits_of n b) ≡ take (1 + s) (v ∷ bits_of m a)
+common_paths v w m a n b count s own others trees least is_own is_others within same apart =
     let more : suc s ≡ 1 + s = omega arith in
-    subst (λ (k : ℕ). common (false ∷ bits_of m a) (false ∷ bits_of n b) ≡ take k (false ∷ bits_of m a)) more
-    (ap (λ (bits : List Bool). false ∷ bits) (common_of m a n b w s own others least is_own is_others within same apart))
+    subst (λ (k : ℕ). common (v ∷ bits_of m a) (w ∷ bits_of n b) ≡ take k (v ∷ bits_of m a)) more
+    (subst (λ (x : Bool). common (v ∷ bits_of m a) (x ∷ bits_of n b) ≡ v ∷ take s (bits_of m a)) trees
+    (one_tree v (bits_of m a) (bits_of n b) ∙ ap (λ (bits : List Bool). v ∷ bits) (common_of m a n b count s own others least is_own is_others within same apart)))
+  where
+    one_tree : (x : Bool) (p k : List Bool) → common (x ∷ p) (x ∷ k) ≡ x ∷ common p k
+    one_tree true p k = refl
+    one_tree false p k = refl
 
-pub ruleset common_view = (length-bits_of, common-behind)
+pub ruleset common_view = (length-bits_of, common_paths)
 
 -- ---- the same of the count that the code takes
 
-pub shared_within : (count a b : ℕ) → count ≤ 64 → a < 2 ^ count → b < 2 ^ count → 64 - count ≤ leading_zeros w64 (bit_xor a b)
+pub shared_within : (count a b : ℕ) → count ≤ 128 → a < 2 ^ count → b < 2 ^ count → 128 - count ≤ leading_zeros w128 (bit_xor a b)
 shared_within count a b fits small_a small_b =
     let found = width_of count (bit_xor a b) fits (xor_lt count a b small_a small_b) in
     omega (arith, found.1.whole, found.1.within)
 
-pub shared_same_at : (count a b s : ℕ) → count ≤ 64 → a < 2 ^ count → b < 2 ^ count → s ≡ leading_zeros w64 (bit_xor a b) - (64 - count) → a / 2 ^ (count - s) ≡ b / 2 ^ (count - s)
+pub shared_same_at : (count a b s : ℕ) → count ≤ 128 → a < 2 ^ count → b < 2 ^ count → s ≡ leading_zeros w128 (bit_xor a b) - (128 - count) → a / 2 ^ (count - s) ≡ b / 2 ^ (count - s)
 shared_same_at count a b s fits small_a small_b is =
     let found = width_of count (bit_xor a b) fits (xor_lt count a b small_a small_b) in
     let at : found.0 ≡ count - s = omega (arith, found.1.whole, found.1.within) in
     subst (λ (m : ℕ). a / 2 ^ m ≡ b / 2 ^ m) at (shared_same a b found.0 found.1.below)
 
-pub shared_apart_at : (count a b s : ℕ) → count ≤ 64 → a < 2 ^ count → b < 2 ^ count → s ≡ leading_zeros w64 (bit_xor a b) - (64 - count) → s < count
+pub shared_apart_at : (count a b s : ℕ) → count ≤ 128 → a < 2 ^ count → b < 2 ^ count → s ≡ leading_zeros w128 (bit_xor a b) - (128 - count) → s < count
     → a / 2 ^ (count - s - 1) % 2 ≢ b / 2 ^ (count - s - 1) % 2
 shared_apart_at count a b s fits small_a small_b is short =
     let found = width_of count (bit_xor a b) fits (xor_lt count a b small_a small_b) in

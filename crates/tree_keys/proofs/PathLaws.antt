@@ -1,8 +1,8 @@
 -- How paths lie to each other, by their first bits.
-use Rattle.std.proofs.Common.{◌≡◌, ◌≢◌, ◌↔◌, IsTrue, ℕ, zero, suc, ◌-◌, ◌/◌, ◌^◌, ◌<◌, ◌≤◌, Bool, true, false, List, [], ◌∷◌, length, take, drop, slice_get, Some, None, nat_eq, refl, sym, ◌∙◌, ap, subst, arith}
+use Rattle.std.proofs.Common.{◌≡◌, ◌≢◌, ◌↔◌, IsTrue, ℕ, zero, suc, ◌+◌, ◌-◌, ◌/◌, ◌^◌, ◌<◌, ◌≤◌, Bool, true, false, List, [], ◌∷◌, length, take, drop, slice_get, Some, None, nat_eq, refl, sym, ◌∙◌, ap, subst, arith}
 use Rattle.std.proofs.lemmas.Bool.{false≢true, eqb-true, eq-eqb}
 use Rattle.tree_keys.specs.Bits.{bits_of}
-use Rattle.tree_keys.specs.BitsLaws.{length-bits_of}
+use Rattle.tree_keys.specs.BitsLaws.{length-bits_of, number_back}
 use Rattle.tree_keys.proofs.BitsLaws.{take-bits_of, bits_of-injective, first_below}
 use Rattle.tree_keys.specs.Path.{side, common, is_prefix, same_path}
 
@@ -64,7 +64,38 @@ side_of_found m a n b s within front next =
     side-found (bits_of m a) (bits_of n b) s (front_of m a n b within ∙ ap (bits_of m) front)
     (ap (slice_get (bits_of n b)) (length-bits_of m a) ∙ next)
 
-pub ruleset side_view = (length-bits_of, side_of_shorter, side_of_apart, side_of_found)
+-- the same of paths of two trees and of one
+
+tree_side : (w : Bool) (p k : List Bool) → side (w ∷ p) (w ∷ k) ≡ side p k
+tree_side true p k = refl
+tree_side false p k = refl
+
+pub side_of_trees : (v w : Bool) (p k : List Bool) → v ≢ w → side (w ∷ p) (v ∷ k) ≡ None
+side_of_trees true true p k apart = absurd (apart refl)
+side_of_trees true false p k apart = refl
+side_of_trees false true p k apart = refl
+side_of_trees false false p k apart = absurd (apart refl)
+
+pub side_shorter : (v w : Bool) (m a n b : ℕ) → n ≤ m → side (w ∷ bits_of m a) (v ∷ bits_of n b) ≡ None
+side_shorter v w m a n b short =
+    let count = length-bits_of m a in
+    let other = length-bits_of n b in
+    side-short (w ∷ bits_of m a) (v ∷ bits_of n b) (omega arith)
+
+pub side_elsewhere : (v w : Bool) (m a n b : ℕ) → v ≡ w → m ≤ n → a < 2 ^ m → b < 2 ^ n → b / 2 ^ (n - m) ≢ a → side (w ∷ bits_of m a) (v ∷ bits_of n b) ≡ None
+side_elsewhere v w m a n b trees within small_a small_b apart =
+    subst (λ (x : Bool). side (w ∷ bits_of m a) (x ∷ bits_of n b) ≡ None) (sym trees)
+    (tree_side w (bits_of m a) (bits_of n b) ∙ side_of_apart m a n b within small_a small_b apart)
+
+pub side_there : (v w : Bool) (m a n b : ℕ) (s : Bool) → v ≡ w → m ≤ n → b / 2 ^ (n - m) ≡ a → slice_get (v ∷ bits_of n b) (1 + m) ≡ Some s
+    → side (w ∷ bits_of m a) (v ∷ bits_of n b) ≡ Some s
+side_there v w m a n b s trees within front next =
+    let more : 1 + m ≡ suc m = omega arith in
+    let behind : slice_get (bits_of n b) m ≡ Some s = subst (λ (k : ℕ). slice_get (v ∷ bits_of n b) k ≡ Some s) more next in
+    subst (λ (x : Bool). side (w ∷ bits_of m a) (x ∷ bits_of n b) ≡ Some s) (sym trees)
+    (tree_side w (bits_of m a) (bits_of n b) ∙ side_of_found m a n b s within front behind)
+
+pub ruleset side_view = (length-bits_of, number_back, side_of_trees, side_shorter, side_elsewhere, side_there)
 
 -- ---- one path and another, whole
 
@@ -153,7 +184,30 @@ prefix_of_front m a n b within small_a small_b = go (nat_eq (b / 2 ^ (n - m)) a)
         let same = bits_of-injective m _ a (first_below b n m within small_b) small_a (sym front ∙ is_prefix-true (bits_of m a) (bits_of n b) is) in
         absurd (false≢true (sym apart ∙ eq-eqb _ _ same))
 
-pub ruleset prefix_view = (prefix_of_longer, prefix_of_front)
+-- the same of paths of two trees and of one
+
+tree_prefix : (w : Bool) (p k : List Bool) → is_prefix (w ∷ p) (w ∷ k) ≡ is_prefix p k
+tree_prefix true p k = refl
+tree_prefix false p k = refl
+
+pub prefix_of_trees : (v w : Bool) (p k : List Bool) → v ≢ w → is_prefix (v ∷ p) (w ∷ k) ≡ false
+prefix_of_trees true true p k apart = absurd (apart refl)
+prefix_of_trees true false p k apart = refl
+prefix_of_trees false true p k apart = refl
+prefix_of_trees false false p k apart = absurd (apart refl)
+
+pub prefix_longer : (v w : Bool) (m a n b : ℕ) → n < m → is_prefix (v ∷ bits_of m a) (w ∷ bits_of n b) ≡ false
+prefix_longer true true m a n b longer = prefix_of_longer m a n b longer
+prefix_longer true false m a n b longer = refl
+prefix_longer false true m a n b longer = refl
+prefix_longer false false m a n b longer = prefix_of_longer m a n b longer
+
+pub prefix_front : (v w : Bool) (m a n b : ℕ) → v ≡ w → m ≤ n → a < 2 ^ m → b < 2 ^ n → nat_eq (b / 2 ^ (n - m)) a ≡ is_prefix (v ∷ bits_of m a) (w ∷ bits_of n b)
+prefix_front v w m a n b trees within small_a small_b =
+    subst (λ (x : Bool). nat_eq (b / 2 ^ (n - m)) a ≡ is_prefix (v ∷ bits_of m a) (x ∷ bits_of n b)) trees
+    (prefix_of_front m a n b within small_a small_b ∙ sym (tree_prefix v (bits_of m a) (bits_of n b)))
+
+pub ruleset prefix_view = (length-bits_of, number_back, prefix_of_trees, prefix_longer, prefix_front)
 
 -- numbers that are one path are of one count, and one number
 same_numbers : (m a n b : ℕ) → a < 2 ^ m → b < 2 ^ n → bits_of m a ≡ bits_of n b → (m ≡ n) × (a ≡ b)
@@ -175,19 +229,39 @@ same_of_count m a n b count small_a small_b = go (nat_eq a b) refl (same_path (b
         let same = same_numbers m a n b small_a small_b (same_path-true _ _ is) in
         absurd (false≢true (sym apart ∙ eq-eqb _ _ same.1))
 
-pub same_of_counts : (m a n b : ℕ) → m ≢ n → a < 2 ^ m → b < 2 ^ n → same_path (bits_of m a) (bits_of n b) ≡ false
-same_of_counts m a n b apart small_a small_b =
-    same_path-apart _ _ (λ same. apart (same_numbers m a n b small_a small_b same).0)
+-- the same of paths of two trees and of one
 
-pub one_of_count : (m a n b : ℕ) → m ≡ n → a < 2 ^ m → b < 2 ^ n → IsTrue (nat_eq a b) ↔ (bits_of m a ≡ bits_of n b)
-one_of_count m a n b count small_a small_b =
-    let value = same_of_count m a n b count small_a small_b in (
+same_tree : (w : Bool) (p k : List Bool) → same_path (w ∷ p) (w ∷ k) ≡ same_path p k
+same_tree true p k = refl
+same_tree false p k = refl
+
+heads : {x y : Bool} {xs ys : List Bool} → x ∷ xs ≡ y ∷ ys → x ≡ y
+heads same = cc
+
+pub same_of_trees : (v w : Bool) (p k : List Bool) → v ≢ w → same_path (v ∷ p) (w ∷ k) ≡ false
+same_of_trees v w p k apart = same_path-apart (v ∷ p) (w ∷ k) (λ same. apart (heads same))
+
+pub none_of_trees : (v w : Bool) (p k : List Bool) → v ≢ w → IsTrue false ↔ (v ∷ p ≡ w ∷ k)
+none_of_trees v w p k apart = (λ is. absurd (false≢true is), λ same. absurd (apart (heads same)))
+
+pub same_of_depths : (v w : Bool) (m a n b : ℕ) → m ≢ n → a < 2 ^ m → b < 2 ^ n → same_path (v ∷ bits_of m a) (w ∷ bits_of n b) ≡ false
+same_of_depths v w m a n b apart small_a small_b =
+    same_path-apart (v ∷ bits_of m a) (w ∷ bits_of n b) (λ same. apart (same_numbers m a n b small_a small_b (tail same)).0)
+
+pub none_of_depths : (v w : Bool) (m a n b : ℕ) → m ≢ n → a < 2 ^ m → b < 2 ^ n → IsTrue false ↔ (v ∷ bits_of m a ≡ w ∷ bits_of n b)
+none_of_depths v w m a n b apart small_a small_b =
+    (λ is. absurd (false≢true is), λ same. absurd (apart (same_numbers m a n b small_a small_b (tail same)).0))
+
+pub same_of_depth : (v w : Bool) (m a n b : ℕ) → v ≡ w → m ≡ n → a < 2 ^ m → b < 2 ^ n → nat_eq a b ≡ same_path (v ∷ bits_of m a) (w ∷ bits_of n b)
+same_of_depth v w m a n b trees depth small_a small_b =
+    subst (λ (x : Bool). nat_eq a b ≡ same_path (v ∷ bits_of m a) (x ∷ bits_of n b)) trees
+    (same_of_count m a n b depth small_a small_b ∙ sym (same_tree v (bits_of m a) (bits_of n b)))
+
+pub one_of_depth : (v w : Bool) (m a n b : ℕ) → v ≡ w → m ≡ n → a < 2 ^ m → b < 2 ^ n → IsTrue (nat_eq a b) ↔ (v ∷ bits_of m a ≡ w ∷ bits_of n b)
+one_of_depth v w m a n b trees depth small_a small_b =
+    let value = same_of_depth v w m a n b trees depth small_a small_b in (
       λ is. same_path-true _ _ (sym value ∙ is),
-      λ same. value ∙ subst (λ (k : List Bool). same_path (bits_of m a) k ≡ true) same (same_path-self (bits_of m a)),
+      λ same. value ∙ subst (λ (k : List Bool). same_path (v ∷ bits_of m a) k ≡ true) same (same_path-self (v ∷ bits_of m a)),
     )
 
-pub none_of_counts : (m a n b : ℕ) → m ≢ n → a < 2 ^ m → b < 2 ^ n → IsTrue false ↔ (bits_of m a ≡ bits_of n b)
-none_of_counts m a n b apart small_a small_b =
-    (λ is. absurd (false≢true is), λ same. absurd (apart (same_numbers m a n b small_a small_b same).0))
-
-pub ruleset same_view = (same_of_count, same_of_counts, one_of_count, none_of_counts)
+pub ruleset same_view = (length-bits_of, number_back, same_of_trees, none_of_trees, same_of_depths, none_of_depths, same_of_depth, one_of_depth)

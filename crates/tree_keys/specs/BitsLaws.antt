@@ -1,6 +1,6 @@
 -- Laws of bits that a type seen as a list of bits owes: its two fields can be had back from the list.
-use Rattle.std.proofs.Common.{◌≡◌, ℕ, zero, suc, ◌+◌, ◌*◌, ◌/◌, ◌%◌, ◌^◌, ◌<◌, ◌==◌, Bool, false, List, ◌∷◌, length, refl, sym, ◌∙◌, ap, subst, arith}
-use Rattle.std.proofs.lemmas.Nat.{mod-pow-add, mod_low}
+use Rattle.std.proofs.Common.{◌≡◌, ℕ, zero, suc, ◌+◌, ◌*◌, ◌/◌, ◌%◌, ◌^◌, ◌<◌, ◌==◌, Bool, length, refl, sym, ◌∙◌, ap, subst, arith}
+use Rattle.std.proofs.lemmas.Nat.{mod-pow-add, mod_low, shr_high}
 use Rattle.tree_keys.specs.Bits.{bits_of, bit_value, number_of}
 
 -- so many bits
@@ -38,13 +38,21 @@ mod_small n number small = subst (λ (m : ℕ). m % 2 ^ n ≡ number) (omega ari
 pub number_back : (n number : ℕ) → number < 2 ^ n → number_of (bits_of n number) ≡ number
 number_back n number small = number_of-bits_of n number ∙ mod_small n number small
 
--- a first bit that is false counts nothing
-pub number_behind : (bits : List Bool) → number_of (false ∷ bits) ≡ number_of bits
-unfolding number_of
-number_behind bits = omega arith
+-- the halves of a number
+pub upper_half : (high low : ℕ) → low < 2 ^ 64 → (high * 2 ^ 64 + low) / 2 ^ 64 ≡ high
+upper_half high low small = shr_high high 64 low small
 
--- the count of the bits of a number, and the number that they spell behind a first one, are the two that they were made of
-pub fields_back : {X : Type 0} (make : ℕ → ℕ → X) (n number : ℕ) → number < 2 ^ n → make (length (bits_of n number)) (number_of (false ∷ bits_of n number)) ≡ make n number
-fields_back make n number small =
-    ap (λ (len : ℕ). make len (number_of (false ∷ bits_of n number))) (length-bits_of n number)
-    ∙ ap (λ (bits : ℕ). make n bits) (number_behind (bits_of n number) ∙ number_back n number small)
+pub lower_half : (high low : ℕ) → low < 2 ^ 64 → (high * 2 ^ 64 + low) % 2 ^ 64 ≡ low
+lower_half high low small = mod_low high 64 low small
+
+-- what a path's list is made of can be had back from it: the count of its bits, its tree, and the halves of their number
+pub fields_back : {X : Type 0} (make : ℕ → Bool → ℕ → ℕ → X) (n : ℕ) (wide : Bool) (high low : ℕ) → high * 2 ^ 64 + low < 2 ^ n → low < 2 ^ 64
+    → make (length (bits_of n (high * 2 ^ 64 + low))) wide (number_of (bits_of n (high * 2 ^ 64 + low)) / 2 ^ 64) (number_of (bits_of n (high * 2 ^ 64 + low)) % 2 ^ 64)
+    ≡ make n wide high low
+fields_back make n wide high low small below =
+    let number : ℕ = high * 2 ^ 64 + low in
+    let back = number_back n (high * 2 ^ 64 + low) small in
+    ap (λ (len : ℕ). make len wide (number_of (bits_of n (high * 2 ^ 64 + low)) / 2 ^ 64) (number_of (bits_of n (high * 2 ^ 64 + low)) % 2 ^ 64)) (length-bits_of n (high * 2 ^ 64 + low))
+    ∙ (ap (λ (k : ℕ). make n wide (k / 2 ^ 64) (k % 2 ^ 64)) back
+    ∙ (ap (λ (k : ℕ). make n wide k ((high * 2 ^ 64 + low) % 2 ^ 64)) (upper_half high low below)
+    ∙ ap (λ (k : ℕ). make n wide high k) (lower_half high low below)))

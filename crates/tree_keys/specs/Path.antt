@@ -59,6 +59,12 @@ abbrev pub key_of : List Bool → ℕ
 key_of [] = 0
 key_of (wide ∷ bits) = number_of bits
 
+-- The fields of a path: how many bits lead to it, its tree, and the upper and the lower half of the number that they spell. No
+-- other path has all four, and those of the empty list are of no tree's path.
+abbrev pub with_fields : {X : Type 0} → (ℕ → Bool → ℕ → ℕ → X) → List Bool → X
+with_fields make [] = make 0 false 0 1
+with_fields make (wide ∷ bits) = make (length bits) wide (number_of bits / 2 ^ 64) (number_of bits % 2 ^ 64)
+
 -- Two numbers made of a path: how many bits lead to it, and the number that all its bits spell. No other path has both, and
 -- those of the empty list are of no tree's path.
 abbrev pub with_numbers : {X : Type 0} → (ℕ → ℕ → X) → List Bool → X

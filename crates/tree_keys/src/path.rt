@@ -1,78 +1,148 @@
-//! Paths of the tree whose keys have 64 bits, and how they lie to each other.
-ghost use Rattle.std.specs.Prelude.{◌≡◌, ◌+◌, ◌-◌, ◌*◌, ◌/◌, ◌%◌, ◌^◌, ◌<◌, ◌≤◌, ◌==◌, ◌≢◌, ◌↔◌, min, Bool, false, List, [], ◌∷◌, ◌++◌, length, take, slice_get, IsTrue, IfSome, IfNone, Some, None};
+//! Paths of both trees, of keys of 64 bits and of 128, and how they lie to each other.
+ghost use Rattle.std.specs.Prelude.{◌≡◌, ◌+◌, ◌-◌, ◌*◌, ◌/◌, ◌%◌, ◌^◌, ◌<◌, ◌≤◌, ◌==◌, ◌≢◌, ◌↔◌, min, Bool, false, true, List, [], ◌∷◌, ◌++◌, length, take, slice_get, IsTrue, IfSome, IfNone, Some, None};
 ghost use Rattle.tree_keys.specs.Bits.{bits_of, bit_value, number_of};
-ghost use Rattle.tree_keys.specs.Path.{depth, tree_of, IsIn, IsPath, IsData, IsNodePath, root_of, key_path, side, IsBelow, is_prefix, same_path, common, word_of, path_in_word};
+ghost use Rattle.tree_keys.specs.Path.{key_bits, depth, tree_of, IsIn, IsPath, IsData, is_data, IsNodePath, root_of, key_path, key_of, side, IsBelow, is_prefix, same_path, common, word_of, path_in_word};
 
 use std::marker::Model;
 
-/// The number of bits of a key: a path of so many bits is a data path.
-pub const KEY_BITS: u8 = 64;
+/// How many bits the keys of a tree have: a path of so many bits is a data path.
+pub fn key_bits(wide: bool) -> u8
+    ensures value { result ≡ key_bits wide }
+{
+    if wide { 128 } else { 64 }
+}
 
-/// A path of the tree whose keys have 64 bits: 0 to 64 bits that lead to it from the root, the first bit most significant.
-/// Shorter paths come first in their order, and those of one length by their bits.
+/// A path of one of two trees: the bits that lead to it from that tree's root, the first most significant, as many as a key of
+/// the tree has at most. Shorter paths come first in their order, those of one length by their tree, then by their bits.
 #[derive(Clone, Copy, Debug, PartialEq, Eq, PartialOrd, Ord)]
 #[tactic(auto, using(crate::proofs::BitsLaws::path_view))]
 pub struct Path {
     len: u8,
-    // the path's bits as the low bits of a number, those above them 0
-    bits: u64,
+    // whether it is of the tree whose keys have 128 bits
+    wide: bool,
+    // The path's bits as the low bits of a number of 128 bits, those above them 0: its upper half and its lower one. As one
+    // field it would align each path, and all that has one, to 16 bytes.
+    high: u64,
+    low: u64,
 }
 
 impl Model for Path {
-    ghost use Rattle.std.specs.Prelude.{◌≤◌, ◌<◌, ◌^◌, Bool, false, List, ◌∷◌};
+    ghost use Rattle.std.specs.Prelude.{◌+◌, ◌*◌, ◌≤◌, ◌<◌, ◌^◌, Bool, List, ◌∷◌};
     ghost use Rattle.tree_keys.specs.Bits.{bits_of};
     ghost use Rattle.tree_keys.specs.BitsLaws.{fields_back};
-    ghost use Rattle.tree_keys.specs.Path.{with_numbers};
+    ghost use Rattle.tree_keys.specs.Path.{key_bits, with_fields};
 
     ghost Value = { List Bool };
 
-    ghost view = { λ p. false ∷ bits_of p.len p.bits };
+    ghost view = { λ p. p.wide ∷ bits_of p.len (p.high * 2 ^ 64 + p.low) };
 
-    ghost invariant = { λ p. (p.len ≤ 64) × (p.bits < 2 ^ p.len) };
+    ghost invariant = { λ p. (p.len ≤ key_bits p.wide) × (p.high * 2 ^ 64 + p.low < 2 ^ p.len) × (p.low < 2 ^ 64) };
 
-    ghost inverse = { with_numbers (λ len bits. record { len = len; bits = bits }) };
+    ghost inverse = { with_fields (λ len wide high low. record { len = len; wide = wide; high = high; low = low }) };
 
-    ghost inverse_ok = { λ p small. fields_back (λ len bits. record { len = len; bits = bits }) p.len p.bits small.1 };
+    ghost inverse_ok = { λ p small. fields_back (λ len wide high low. record { len = len; wide = wide; high = high; low = low }) p.len p.wide p.high p.low small.1 small.2 };
 }
 
 #[tactic(auto, using(crate::proofs::BitsLaws::path_view))]
 impl Path {
-    /// The root, to which no bits lead.
-    #[tactic(auto, unfolding(crate::specs::Bits::bits_of))]
+    /// The root of the tree whose keys have 64 bits.
     pub fn root() -> Self
         ensures empty { result ≡ root_of false }
     {
-        Path { len: 0, bits: 0 }
+        Self::root_of(false)
     }
 
-    /// The data path of a key: its 64 bits lead to it.
+    /// The root of a tree, to which no bits lead.
+    #[tactic(auto, unfolding(crate::specs::Bits::bits_of))]
+    pub fn root_of(wide: bool) -> Self
+        ensures empty { result ≡ root_of wide }
+    {
+        Path {
+            len: 0,
+            wide,
+            high: 0,
+            low: 0,
+        }
+    }
+
+    /// The data path of a key of 64 bits, which lead to it.
     pub fn of_key(key: u64) -> Self
         ensures bits { result ≡ key_path false key }
         ensures whole { IsData result }
     {
+        Self::of_number(false, u128::from(key))
+    }
+
+    /// The data path of a key of 128 bits, which lead to it.
+    pub fn of_wide(key: u128) -> Self
+        ensures bits { result ≡ key_path true key }
+        ensures whole { IsData result }
+    {
+        Self::of_number(true, key)
+    }
+
+    /// The data path of a key of a tree.
+    pub fn of_number(wide: bool, key: u128) -> Self
+        requires small { key < 2 ^ key_bits wide }
+        ensures bits { result ≡ key_path wide key }
+        ensures whole { IsData result }
+    {
+        Self::of_bits(key_bits(wide), wide, key)
+    }
+
+    // The path of a tree that the low bits of a number lead to, so many of them.
+    fn of_bits(len: u8, wide: bool, bits: u128) -> Self
+        requires fits { len ≤ key_bits wide }
+        requires small { bits < 2 ^ len }
+        ensures bits { result ≡ wide ∷ bits_of len bits }
+    {
         Path {
-            len: KEY_BITS,
-            bits: key,
+            len,
+            wide,
+            high: (bits >> 64) as u64,
+            low: (bits % (1 << 64)) as u64,
         }
     }
 
-    /// How many bits lead to it from the root.
+    // The bits that lead to it, as a number.
+    fn bits(&self) -> u128
+        ensures value { result ≡ key_of self.now }
+        ensures small { result < 2 ^ depth self.now }
+    {
+        u128::from(self.high) * (1 << 64) + u128::from(self.low)
+    }
+
+    /// How many bits lead to it from the root of its tree.
     pub fn len(&self) -> u8
         ensures value { result ≡ depth self.now }
-        ensures fits { result ≤ 64 }
-        ensures tree { tree_of self.now ≡ false }
-        ensures within { IsIn false self.now }
+        ensures fits { result ≤ 128 }
     {
         self.len
     }
 
-    /// The key of a data path. A shorter path has none.
-    pub fn key(&self) -> Option<u64>
-        ensures node { IfNone result (IsNodePath self.now) }
-        ensures spelled { IfSome result (λ key. self.now ≡ key_path false key) }
+    /// Whether it is of the tree whose keys have 128 bits.
+    pub fn is_wide(&self) -> bool
+        ensures value { result ≡ tree_of self.now }
+        ensures within { IsIn result self.now }
     {
-        if self.len == KEY_BITS {
-            Some(self.bits)
+        self.wide
+    }
+
+    /// Whether all bits of a key lead to it.
+    pub fn is_data(&self) -> bool
+        ensures value { result ≡ is_data self.now }
+    {
+        self.len == key_bits(self.wide)
+    }
+
+    /// The key of a data path. A shorter path has none.
+    pub fn key(&self) -> Option<u128>
+        ensures node { IfNone result (IsNodePath self.now) }
+        ensures spelled { IfSome result (λ key. self.now ≡ key_path (tree_of self.now) key) }
+        ensures small { IfSome result (λ key. key < 2 ^ key_bits (tree_of self.now)) }
+    {
+        if self.len == key_bits(self.wide) {
+            Some(self.bits())
         } else {
             None
         }
@@ -84,10 +154,8 @@ impl Path {
         requires short { IsNodePath self.now }
         ensures appended { result ≡ self.now ++ side ∷ [] }
     {
-        Path {
-            len: self.len + 1,
-            bits: with_digit(self.bits, self.len, side),
-        }
+        let bits = with_digit(self.bits(), self.len, side);
+        Self::of_bits(self.len + 1, self.wide, bits)
     }
 
     /// The path that the first bits lead to, so many of them.
@@ -96,10 +164,8 @@ impl Path {
         requires within { len ≤ depth self.now }
         ensures bits { result ≡ take (1 + len) self.now }
     {
-        Path {
-            len,
-            bits: first_bits(self.bits, self.len, len),
-        }
+        let bits = first_bits(self.bits(), self.len, len);
+        Self::of_bits(len, self.wide, bits)
     }
 
     /// The bit at this place of those that lead to it, counted from 0.
@@ -108,7 +174,7 @@ impl Path {
         requires within { index < depth self.now }
         ensures value { slice_get self.now (1 + index) ≡ Some result }
     {
-        (self.bits >> (self.len - 1 - index)) % 2 == 1
+        (self.bits() >> (self.len - 1 - index)) % 2 == 1
     }
 
     /// The side of this path on which the other lies properly below it, or none where it doesn't.
@@ -119,7 +185,10 @@ impl Path {
         if other.len <= self.len {
             return None;
         }
-        if first_bits(other.bits, other.len, self.len) != self.bits {
+        if other.wide != self.wide {
+            return None;
+        }
+        if first_bits(other.bits(), other.len, self.len) != self.bits() {
             return None;
         }
         Some(other.bit(self.len))
@@ -148,7 +217,10 @@ impl Path {
         if other.len > self.len {
             return false;
         }
-        first_bits(self.bits, self.len, other.len) == other.bits
+        if other.wide != self.wide {
+            return false;
+        }
+        first_bits(self.bits(), self.len, other.len) == other.bits()
     }
 
     /// Whether both are the same path.
@@ -160,43 +232,48 @@ impl Path {
         if self.len != other.len {
             return false;
         }
-        self.bits == other.bits
+        if self.wide != other.wide {
+            return false;
+        }
+        self.bits() == other.bits()
     }
 
-    /// The longest path that both begin with.
+    /// The longest path that both begin with, which paths of two trees haven't.
     #[tactic(auto, using(crate::proofs::CommonLemmas::common_view))]
     pub fn common(&self, other: &Path) -> Self
+        requires one_tree { tree_of self.now ≡ tree_of other.now }
         ensures prefix { result ≡ common self.now other.now }
     {
         let within = self.len.min(other.len);
-        let own = first_bits(self.bits, self.len, within);
-        let others = first_bits(other.bits, other.len, within);
+        let own = first_bits(self.bits(), self.len, within);
+        let others = first_bits(other.bits(), other.len, within);
         let shared = shared_bits(within, own, others);
         self.front(shared)
     }
 
-    /// The path in a word of 64 bits: the bits that lead to it come first, the unused bits are 0.
+    /// The path in a word of as many bits as the keys of its tree have: those that lead to it come first, the unused are 0.
     #[tactic(auto, using(crate::proofs::WordLemmas::word_view))]
-    pub fn word(&self) -> u64
+    pub fn word(&self) -> u128
         ensures value { result ≡ word_of self.now }
     {
         if self.len == 0 {
             return 0;
         }
-        self.bits << (KEY_BITS - self.len)
+        self.bits() << (key_bits(self.wide) - self.len)
     }
 
-    /// The path that the first bits of a word of 64 bits lead to, so many of them. There is none past 64 bits, and none where
-    /// an unused bit isn't 0.
+    /// The path of a tree that the first bits of a word lead to, so many of them: of the tree whose keys have 64 bits it is in
+    /// the word's low half. There is none past the bits of a key, and none where an unused bit isn't 0.
     #[tactic(auto, using(crate::proofs::WordLemmas::of_word_view))]
-    pub fn of_word(len: u8, word: u64) -> Option<Self>
-        ensures value { result ≡ path_in_word false len word }
+    pub fn of_word(wide: bool, len: u8, word: u128) -> Option<Self>
+        ensures value { result ≡ path_in_word wide len word }
     {
-        if len > KEY_BITS {
+        if len > key_bits(wide) {
             return None;
         }
-        let bits = first_bits(word, KEY_BITS, len);
-        let path = Path { len, bits };
+        let word = own_bits(wide, word);
+        let bits = first_bits(word, key_bits(wide), len);
+        let path = Self::of_bits(len, wide, bits);
         if path.word() == word {
             Some(path)
         } else {
@@ -205,10 +282,17 @@ impl Path {
     }
 }
 
+// The bits of a word that are those of a tree's.
+fn own_bits(wide: bool, word: u128) -> u128
+    ensures value { result ≡ word % 2 ^ key_bits wide }
+{
+    if wide { word } else { word % (1 << 64) }
+}
+
 // How many first bits two numbers of so many bits share.
 #[tactic(auto, using(crate::proofs::CommonLemmas::shared_view))]
-fn shared_bits(count: u8, first: u64, second: u64) -> u8
-    requires fits { count ≤ 64 }
+fn shared_bits(count: u8, first: u128, second: u128) -> u8
+    requires fits { count ≤ 128 }
     requires first_small { first < 2 ^ count }
     requires second_small { second < 2 ^ count }
     ensures within { result ≤ count }
@@ -216,12 +300,12 @@ fn shared_bits(count: u8, first: u64, second: u64) -> u8
     ensures apart { result < count → first / 2 ^ (count - result - 1) % 2 ≢ second / 2 ^ (count - result - 1) % 2 }
 {
     let unlike = (first ^ second).leading_zeros() as u8;
-    unlike - (KEY_BITS - count)
+    unlike - (128 - count)
 }
 
 // A number with one bit more at its end.
-fn with_digit(bits: u64, len: u8, bit: bool) -> u64
-    requires short { len < 64 }
+fn with_digit(bits: u128, len: u8, bit: bool) -> u128
+    requires short { len < 128 }
     requires small { bits < 2 ^ len }
     ensures value { result ≡ 2 * bits + bit_value bit }
     ensures below { result < 2 ^ (len + 1) }
@@ -230,8 +314,8 @@ fn with_digit(bits: u64, len: u8, bit: bool) -> u64
 }
 
 // The first bits of a path, given and asked for by numbers of bits.
-fn first_bits(bits: u64, len: u8, front: u8) -> u64
-    requires fits { len ≤ 64 }
+fn first_bits(bits: u128, len: u8, front: u8) -> u128
+    requires fits { len ≤ 128 }
     requires within { front ≤ len }
     requires small { bits < 2 ^ len }
     ensures value { result ≡ bits / 2 ^ (len - front) }

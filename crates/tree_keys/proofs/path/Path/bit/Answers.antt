@@ -1,0 +1,16 @@
+use Rattle.std.proofs.Common.{◌≡◌, ◌+◌, ◌*◌, ◌^◌, Bool, List, ◌∷◌, slice_get, ◌∙◌, ap, arith}
+use Rattle.tree_keys.specs.Bits.{bits_of}
+use Rattle.tree_keys.proofs.BitsLaws.{opened, bit-behind}
+use Rattle.tree_keys.specs.BitsLaws.{length-bits_of}
+use Rattle.tree_keys.specs.Path.{depth}
+use Rattle.tree_keys.proofs.path.Path.bit.Goals as goal
+
+pub returns : goal.returns
+returns c =
+    let p = c.self.inside in
+    let is : c.args.self.now ≡ p.wide ∷ bits_of p.len c.bits.result =
+    opened p.wide p.len (p.high * 2 ^ 64 + p.low) c.bits.result c.args.self.now c.self.view_is c.self.invariant.1 c.bits.ensures.value in
+    let count : depth c.args.self.now ≡ p.len = ap depth is ∙ length-bits_of p.len c.bits.result in
+    record {
+      value = ap (λ (path : List Bool). slice_get path (1 + c.args.index)) is ∙ bit-behind p.wide p.len c.args.index c.bits.result (omega arith);
+    }
