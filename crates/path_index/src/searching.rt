@@ -10,13 +10,13 @@ use std::marker::Brand;
 use std::sync::ledger::{Blank, Ledger};
 use tree_keys::Path;
 
-// How one path lies to another in the order of an index: shorter ones first, and those of one length by
-// their bits.
+// How one path lies to another in the order of an index: shorter ones first, those of one length by their words, and those of
+// one word by their trees.
 fn order(one: &Path, other: &Path) -> Ordering
     ensures order { Compared result one.now other.now }
 {
-    let (len, word) = (one.len(), one.word());
-    let (others_len, others_word) = (other.len(), other.word());
+    let (len, word, wide) = (one.len(), one.word(), one.is_wide());
+    let (others_len, others_word, others_wide) = (other.len(), other.word(), other.is_wide());
     if len < others_len {
         return Ordering::Less;
     }
@@ -29,7 +29,14 @@ fn order(one: &Path, other: &Path) -> Ordering
     if others_word < word {
         return Ordering::Greater;
     }
-    Ordering::Equal
+    if wide == others_wide {
+        return Ordering::Equal;
+    }
+    if wide {
+        Ordering::Greater
+    } else {
+        Ordering::Less
+    }
 }
 
 // The same, counted.

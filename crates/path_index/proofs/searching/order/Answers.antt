@@ -1,30 +1,46 @@
-use Rattle.std.proofs.Common.{◌≡◌, ◌^◌, ◌<◌, false, sym, ◌∙◌, rules, arith}
+use Rattle.std.proofs.Common.{◌≡◌, Bool, sym, ◌∙◌, subst, rules, arith}
+use Rattle.tree_keys.specs.Path.{IsIn}
 use Rattle.tree_keys.proofs.TreeLaws.{one_word}
-use Rattle.path_index.proofs.OrderLemmas.{before_by_len, before_by_word}
+use Rattle.path_index.proofs.OrderLemmas.{told, before_by_len, before_by_word, before_by_tree, trees_apart, other_tree}
 use Rattle.path_index.proofs.searching.order.Goals as goal
 
 pub returns-then-len-others_len : goal.returns-then-len-others_len
 returns-then-len-others_len c =
-    let fits : c.word-word.result < 2 ^ 64 = search rules in
-    record { order = before_by_len _ _ _ _ _ _ c.len-len.ensures.tree c.len-others_len.ensures.tree c.len-len.ensures.value c.len-others_len.ensures.value c.word-word.ensures.value c.word-others_word.ensures.value fits c.if-len-others_len.true }
+    record { order = before_by_len _ _ _ _ _ _ _ _ (told c.len-len.ensures.value c.word-word.ensures.value c.is_wide-wide.ensures.value) (told c.len-others_len.ensures.value c.word-others_word.ensures.value c.is_wide-others_wide.ensures.value) c.word-word.type_inv c.if-len-others_len.true }
 
 pub returns-then-others_len-len : goal.returns-then-others_len-len
 returns-then-others_len-len c =
-    let fits : c.word-others_word.result < 2 ^ 64 = search rules in
-    record { order = before_by_len _ _ _ _ _ _ c.len-others_len.ensures.tree c.len-len.ensures.tree c.len-others_len.ensures.value c.len-len.ensures.value c.word-others_word.ensures.value c.word-word.ensures.value fits c.if-others_len-len.true }
+    record { order = before_by_len _ _ _ _ _ _ _ _ (told c.len-others_len.ensures.value c.word-others_word.ensures.value c.is_wide-others_wide.ensures.value) (told c.len-len.ensures.value c.word-word.ensures.value c.is_wide-wide.ensures.value) c.word-others_word.type_inv c.if-others_len-len.true }
 
 pub returns-then-word-others_word : goal.returns-then-word-others_word
 returns-then-word-others_word c =
     let same : c.len-len.result ≡ c.len-others_len.result = omega (arith, c.if-len-others_len.false, c.if-others_len-len.false) in
-    record { order = before_by_word _ _ _ _ _ _ c.len-len.ensures.tree c.len-others_len.ensures.tree c.len-len.ensures.value c.len-others_len.ensures.value c.word-word.ensures.value c.word-others_word.ensures.value same c.if-word-others_word.true }
+    record { order = before_by_word _ _ _ _ _ _ _ _ (told c.len-len.ensures.value c.word-word.ensures.value c.is_wide-wide.ensures.value) (told c.len-others_len.ensures.value c.word-others_word.ensures.value c.is_wide-others_wide.ensures.value) same c.if-word-others_word.true }
 
 pub returns-then-others_word-word : goal.returns-then-others_word-word
 returns-then-others_word-word c =
     let same : c.len-others_len.result ≡ c.len-len.result = omega (arith, c.if-len-others_len.false, c.if-others_len-len.false) in
-    record { order = before_by_word _ _ _ _ _ _ c.len-others_len.ensures.tree c.len-len.ensures.tree c.len-others_len.ensures.value c.len-len.ensures.value c.word-others_word.ensures.value c.word-word.ensures.value same c.if-others_word-word.true }
+    record { order = before_by_word _ _ _ _ _ _ _ _ (told c.len-others_len.ensures.value c.word-others_word.ensures.value c.is_wide-others_wide.ensures.value) (told c.len-len.ensures.value c.word-word.ensures.value c.is_wide-wide.ensures.value) same c.if-others_word-word.true }
 
-pub returns : goal.returns
-returns c =
+pub returns-then-wide-others_wide : goal.returns-then-wide-others_wide
+returns-then-wide-others_wide c =
     let same : c.len-len.result ≡ c.len-others_len.result = omega (arith, c.if-len-others_len.false, c.if-others_len-len.false) in
     let words : c.word-word.result ≡ c.word-others_word.result = omega (arith, c.if-word-others_word.false, c.if-others_word-word.false) in
-    record { order = one_word false _ _ c.len-len.ensures.within c.len-others_len.ensures.within (sym c.len-len.ensures.value ∙ (same ∙ c.len-others_len.ensures.value)) (sym c.word-word.ensures.value ∙ (words ∙ c.word-others_word.ensures.value)) }
+    let trees : c.is_wide-wide.result ≡ c.is_wide-others_wide.result = search rules in
+    record {
+      order = one_word c.is_wide-others_wide.result _ _ (subst (λ (b : Bool). IsIn b c.args.one.now) trees c.is_wide-wide.ensures.within) c.is_wide-others_wide.ensures.within
+          (sym c.len-len.ensures.value ∙ (same ∙ c.len-others_len.ensures.value)) (sym c.word-word.ensures.value ∙ (words ∙ c.word-others_word.ensures.value));
+    }
+
+pub returns-then-wide : goal.returns-then-wide
+returns-then-wide c =
+    let same : c.len-others_len.result ≡ c.len-len.result = omega (arith, c.if-len-others_len.false, c.if-others_len-len.false) in
+    let words : c.word-others_word.result ≡ c.word-word.result = omega (arith, c.if-word-others_word.false, c.if-others_word-word.false) in
+    let apart = trees_apart c.is_wide-wide.result c.is_wide-others_wide.result c.if-wide-others_wide.false in
+    record { order = before_by_tree _ _ _ _ _ _ _ _ (told c.len-others_len.ensures.value c.word-others_word.ensures.value c.is_wide-others_wide.ensures.value) (told c.len-len.ensures.value c.word-word.ensures.value c.is_wide-wide.ensures.value) same words (other_tree _ _ c.if-wide.true apart) (λ one. apart (sym one)) }
+
+pub returns-else-wide : goal.returns-else-wide
+returns-else-wide c =
+    let same : c.len-len.result ≡ c.len-others_len.result = omega (arith, c.if-len-others_len.false, c.if-others_len-len.false) in
+    let words : c.word-word.result ≡ c.word-others_word.result = omega (arith, c.if-word-others_word.false, c.if-others_word-word.false) in
+    record { order = before_by_tree _ _ _ _ _ _ _ _ (told c.len-len.ensures.value c.word-word.ensures.value c.is_wide-wide.ensures.value) (told c.len-others_len.ensures.value c.word-others_word.ensures.value c.is_wide-others_wide.ensures.value) same words c.if-wide.false (trees_apart _ _ c.if-wide-others_wide.false) }
