@@ -116,6 +116,7 @@ impl Path {
     pub fn len(&self) -> u8
         ensures value { result ≡ depth self.now }
         ensures fits { result ≤ 128 }
+        ensures path { IsPath self.now }
     {
         self.len
     }
@@ -131,6 +132,8 @@ impl Path {
     /// Whether all bits of a key lead to it.
     pub fn is_data(&self) -> bool
         ensures value { result ≡ is_data self.now }
+        ensures whole { result ≡ true → IsData self.now }
+        ensures node { result ≡ false → IsNodePath self.now }
     {
         self.len == key_bits(self.wide)
     }
