@@ -2,6 +2,7 @@
 pub mod Tree
 pub mod Longest
 pub mod Format
+pub mod Blob
 pub mod Value
 pub mod Same
 pub mod Element

@@ -4,8 +4,8 @@ use Rattle.lamport_clocks.specs.declared.header.Header.{Header}
 
 -- the most bytes that a data value of the code can have
 abbrev pub longest_blob : ℕ
-longest_blob = 64
+longest_blob = 255
 
--- the most bytes of a data value in a bundle with this header
+-- the most bytes of a data value in a bundle with this header: those of versions 1 and 2
 abbrev pub longest_of : Header → ℕ
-longest_of header = longest_blob
+longest_of header = 64

@@ -7,7 +7,7 @@ use crate::value::{Blob, LONGEST_BLOB};
 use lamport_clocks::Stamp;
 use std::marker::Model;
 
-/// A data value that stands elsewhere: none, or 0 to 64 bytes.
+/// A data value that stands elsewhere: none, or 0 to 255 bytes.
 #[derive(Debug, Drop)]
 pub struct BlobRef<'a> {
     bytes: Option<&'a [u8]>,
@@ -21,11 +21,11 @@ impl<'a> Model for BlobRef<'a> {
 
     ghost view = { λ b. option_map (λ bytes. bytes.now) b.bytes };
 
-    ghost invariant = { λ b. ForSome b.bytes (λ bytes. length bytes.now ≤ 64) };
+    ghost invariant = { λ b. ForSome b.bytes (λ bytes. length bytes.now ≤ 255) };
 }
 
 impl<'a> BlobRef<'a> {
-    /// No value, or these bytes, of which there are at most 64.
+    /// No value, or these bytes, of which there are at most 255.
     pub fn new(bytes: Option<&'a [u8]>) -> Self
         requires fits { IfSome bytes (λ bytes. length bytes.now ≤ LONGEST_BLOB) }
         ensures value { result ≡ option_map (λ bytes. bytes.now) bytes.entry }
@@ -45,10 +45,9 @@ impl<'a> BlobRef<'a> {
     pub fn to_blob(&self) -> Blob
         ensures value { result ≡ self.now }
     {
-        match self.bytes {
-            Some(bytes) => Blob::of_bytes(bytes).unwrap(),
-            None => Blob::none(),
-        }
+        let mut blob = Blob::none();
+        blob.assign_from(self);
+        blob
     }
 }
 
@@ -59,7 +58,8 @@ pub struct OperationRef<'a> {
     verifier: u16,
     index: u64,
     put: bool,
-    key: u64,
+    wide: bool,
+    key: u128,
     value: BlobRef<'a>,
 }
 
@@ -68,7 +68,7 @@ impl<'a> Model for OperationRef<'a> {
 
     ghost Value = { Operation };
 
-    ghost view = { λ o. record { stamp = o.stamp; verifier = o.verifier; index = o.index; put = o.put; key = o.key; value = o.value } };
+    ghost view = { λ o. record { stamp = o.stamp; verifier = o.verifier; index = o.index; put = o.put; wide = o.wide; key = o.key; value = o.value } };
 }
 
 impl<'a> OperationRef<'a> {
@@ -78,16 +78,18 @@ impl<'a> OperationRef<'a> {
         verifier: u16,
         index: u64,
         put: bool,
-        key: u64,
+        wide: bool,
+        key: u128,
         value: BlobRef<'a>,
     ) -> Self
-        ensures value { result ≡ record { stamp = stamp; verifier = verifier; index = index; put = put; key = key; value = value.entry } }
+        ensures value { result ≡ record { stamp = stamp; verifier = verifier; index = index; put = put; wide = wide; key = key; value = value.entry } }
     {
         OperationRef {
             stamp,
             verifier,
             index,
             put,
+            wide,
             key,
             value,
         }
@@ -120,7 +122,14 @@ impl<'a> OperationRef<'a> {
         self.put
     }
 
-    pub fn key(&self) -> u64
+    /// Of which tree the key is.
+    pub fn is_wide(&self) -> bool
+        ensures value { result ≡ self.now.wide }
+    {
+        self.wide
+    }
+
+    pub fn key(&self) -> u128
         ensures value { result ≡ self.now.key }
     {
         self.key
@@ -142,6 +151,7 @@ impl<'a> OperationRef<'a> {
             self.verifier,
             self.index,
             self.put,
+            self.wide,
             self.key,
             self.value.to_blob(),
         )

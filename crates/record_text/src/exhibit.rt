@@ -8,7 +8,7 @@ use crate::writing::{LONGEST_VALUE_TEXT, value_text};
 use arrayvec::ArrayVec;
 use std::marker::Model;
 
-/// The text of a value, of at most 84 bytes. Contracts see its bytes.
+/// The text of a value, of at most 257 bytes. Contracts see its bytes.
 #[derive(Clone, Debug, PartialEq, Eq, Drop)]
 pub struct ValueText {
     bytes: ArrayVec<u8, LONGEST_VALUE_TEXT>,
@@ -21,7 +21,7 @@ impl Model for ValueText {
 
     ghost view = { λ t. t.bytes.items };
 
-    ghost invariant = { λ t. length t.bytes.items ≤ 84 };
+    ghost invariant = { λ t. length t.bytes.items ≤ 257 };
 
     ghost inverse = { λ bytes. record { bytes = record { items = bytes } } };
 }

@@ -1,7 +1,8 @@
 //! The records of the tree and their texts: each path, value, stamp and element has one spelling as bytes.
 //!
 //! A data value stands at a data path, and a node, with a pointer for each side, at a shorter one. What
-//! bytes mean and what each thing is written as is defined in `specs/Reading.antt` and `specs/Texts.antt`.
+//! bytes mean and what each thing is written as is defined in `specs/Reading.antt` and `specs/Texts.antt`; of which tree the
+//! paths of a bundle are, and how long its data values, `format.rt` says by its header.
 //! The crate stands on `tree_keys`, `lamport_clocks` and the kit's `arrayvec`. Begin with the types in
 //! `value.rt`, then `Reader` in `reader.rt` and the writers in `writing.rt`; `laws.rt` says that no text
 //! begins another, and what a text that is cut short is read as. What a get or put reports stands in
@@ -13,6 +14,7 @@ mod blob_ref;
 mod cause;
 mod element;
 mod exhibit;
+mod format;
 mod laws;
 mod operation;
 mod reader;
@@ -26,6 +28,7 @@ pub use blob_ref::{BlobRef, OperationRef};
 pub use cause::Cause;
 pub use element::Element;
 pub use exhibit::{Elements, Exhibit, ValueText};
+pub use format::{longest_of, wide_of};
 pub use laws::{
     fronts_are_truncated, initial_values_are_of_their_paths, no_text_begins_another,
     readers_keep_on,
@@ -37,6 +40,6 @@ pub use refusal::Refusal;
 pub use request::Request;
 pub use value::{Blob, LONGEST_BLOB, Node, Pointer, Value, initial};
 pub use writing::{
-    LONGEST_ELEMENT_TEXT, LONGEST_VALUE_TEXT, PATH_TEXT_LEN, element_text, push_blob, push_element,
-    push_path, push_stamp, push_u16, push_value, value_text,
+    LONGEST_ELEMENT_TEXT, LONGEST_PATH_TEXT, LONGEST_VALUE_TEXT, element_text, push_blob,
+    push_element, push_path, push_stamp, push_u16, push_value, value_text,
 };

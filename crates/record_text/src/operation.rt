@@ -15,7 +15,9 @@ pub struct Operation {
     pub index: u64,
     /// Whether it is a put.
     pub put: bool,
-    pub key: u64,
+    /// Of which tree the key is: false of the one whose keys have 64 bits, true of the one whose keys have 128.
+    pub wide: bool,
+    pub key: u128,
     /// What was got or put.
     pub value: Blob,
 }
@@ -27,16 +29,18 @@ impl Operation {
         verifier: u16,
         index: u64,
         put: bool,
-        key: u64,
+        wide: bool,
+        key: u128,
         value: Blob,
     ) -> Self
-        ensures value { result ≡ record { stamp = stamp; verifier = verifier; index = index; put = put; key = key; value = value } }
+        ensures value { result ≡ record { stamp = stamp; verifier = verifier; index = index; put = put; wide = wide; key = key; value = value } }
     {
         Operation {
             stamp,
             verifier,
             index,
             put,
+            wide,
             key,
             value,
         }
@@ -51,6 +55,7 @@ impl Operation {
             self.verifier,
             self.index,
             self.put,
+            self.wide,
             self.key,
             self.value.by_ref(),
         )

@@ -1,19 +1,18 @@
 //! A reader over bytes, field by field.
-ghost use Rattle.std.specs.Prelude.{◌≡◌, ℕ, ◌<◌, ◌≤◌, ◌∷◌, [], ◌++◌, length, false, None, Ok, Err, IfOk, IfErr, OnOk, IfSome, IsTrue};
-ghost use Rattle.std.specs.Int.{w64, from_be_bytes};
+ghost use Rattle.std.specs.Prelude.{◌≡◌, ℕ, ◌+◌, ◌<◌, ◌≤◌, ◌∷◌, [], ◌++◌, length, false, true, None, Ok, Err, IfOk, IfErr, OnOk, IfSome, IsTrue};
+ghost use Rattle.std.specs.Int.{byte_len, from_be_bytes};
 ghost use Rattle.tree_keys.specs.Path.{IsIn, IsPath, IsNodePath, is_prefix};
+ghost use Rattle.record_text.specs.Tree.{word_width};
 ghost use Rattle.record_text.specs.Value.{IsBlob, IsSide, IsOf};
 ghost use Rattle.record_text.specs.Fields.{Takes, TakesInto, field};
 ghost use Rattle.record_text.specs.Reading.{run_at, byte_at, flag_in, count_in, path_at, path_below_at, blob_at, path_in, pointer_tag_in, pointer_at, node_at, value_at, u16_at, u32_at, stamp_at, element_at};
-ghost use Rattle.record_text.specs.Longest.{longest_blob};
 
 use crate::blob_ref::BlobRef;
 use crate::element::Element;
-use crate::value::{Blob, LONGEST_BLOB, Node, Pointer, Value};
-use crate::writing::PATH_TEXT_LEN;
+use crate::value::{Blob, Node, Pointer, Value};
 use lamport_clocks::Stamp;
 use std::marker::Model;
-use tree_keys::{KEY_BITS, Path};
+use tree_keys::Path;
 
 /// Why bytes are no text: the first fault from left to right.
 #[derive(Clone, Copy, Debug, PartialEq, Eq)]
@@ -91,15 +90,15 @@ impl<'a> Reader<'a> {
         Ok(Stamp { epoch, counter })
     }
 
-    /// A path: at most 64 bits, the unused bits 0.
+    /// A path of this tree: no longer than its keys, the unused bits 0.
     #[tactic(auto, unfolding(crate::specs::Reading::path_at))]
-    pub fn path(&mut self) -> Result<Path, TextFault>
-        ensures takes { Takes result self.new (path_at false self.old) }
+    pub fn path(&mut self, wide: bool) -> Result<Path, TextFault>
+        ensures takes { Takes result self.new (path_at wide self.old) }
         ensures fits { IfOk result IsPath }
-        ensures tree { IfOk result (IsIn false) }
+        ensures tree { IfOk result (IsIn wide) }
     {
-        let bytes = self.run(PATH_TEXT_LEN)?;
-        match path_in(bytes) {
+        let bytes = self.run(path_text_len(wide))?;
+        match path_in(wide, bytes) {
             Some(path) => Ok(path),
             None => Err(TextFault::Malformed),
         }
@@ -108,13 +107,13 @@ impl<'a> Reader<'a> {
     // A path that begins with this prefix.
     #[tactic(auto, unfolding(crate::specs::Reading::path_below_at))]
     fn path_below(&mut self, prefix: &Path) -> Result<Path, TextFault>
-        requires tree { IsIn false prefix.now }
         ensures takes { Takes result self.new (path_below_at prefix.now self.old) }
         ensures fits { IfOk result IsPath }
         ensures below { IfOk result (λ path. IsTrue (is_prefix prefix.now path)) }
     {
-        let bytes = self.run(PATH_TEXT_LEN)?;
-        let Some(path) = path_in(bytes) else {
+        let wide = prefix.is_wide();
+        let bytes = self.run(path_text_len(wide))?;
+        let Some(path) = path_in(wide, bytes) else {
             return Err(TextFault::Malformed);
         };
         if path.starts_with(prefix) {
@@ -124,16 +123,16 @@ impl<'a> Reader<'a> {
         }
     }
 
-    /// A data value, where its bytes stand: none, or at most 64 of them.
+    /// A data value, where its bytes stand: none, or at most so many of them.
     #[tactic(auto, unfolding(crate::specs::Reading::blob_at))]
-    pub fn blob(&mut self) -> Result<BlobRef<'a>, TextFault>
-        ensures takes { Takes result self.new (blob_at longest_blob self.old) }
-        ensures kind { IfOk result (IsBlob longest_blob) }
+    pub fn blob(&mut self, longest: u8) -> Result<BlobRef<'a>, TextFault>
+        ensures takes { Takes result self.new (blob_at longest self.old) }
+        ensures kind { IfOk result (IsBlob longest) }
     {
         if !self.flag()? {
             return Ok(BlobRef::new(None));
         }
-        let count = self.count()?;
+        let count = self.count(longest)?;
         let bytes = self.run(count)?;
         Ok(BlobRef::new(Some(bytes)))
     }
@@ -142,7 +141,6 @@ impl<'a> Reader<'a> {
     #[tactic(auto, unfolding(crate::specs::Reading::pointer_at))]
     fn pointer(&mut self, node: &Path, side: bool) -> Result<Option<Pointer>, TextFault>
         requires short { IsNodePath node.now }
-        requires tree { IsIn false node.now }
         ensures takes { Takes result self.new
             (pointer_at (node.now ++ side ∷ []) self.old) }
         ensures kind { IfOk result (IsSide node.now side) }
@@ -163,23 +161,28 @@ impl<'a> Reader<'a> {
     #[tactic(auto, unfolding(crate::specs::Reading::node_at))]
     fn node(&mut self, path: &Path) -> Result<Node, TextFault>
         requires short { IsNodePath path.now }
-        requires tree { IsIn false path.now }
         ensures takes { Takes result self.new (node_at path.now self.old) }
-        ensures kind { IfOk result (λ node. IsOf longest_blob path.now (Value.Node node)) }
+        ensures kind0 { IfOk result (λ node. IsSide path.now false node.side0) }
+        ensures kind1 { IfOk result (λ node. IsSide path.now true node.side1) }
     {
         let side0 = self.pointer(path, false)?;
         let side1 = self.pointer(path, true)?;
         Ok(Node { side0, side1 })
     }
 
-    /// The value of this path, into a place: a data value at a key, and a node at a shorter path. After a fault nothing is
-    /// said of the place.
-    pub fn value_into(&mut self, path: &Path, place: &mut Value) -> Result<(), TextFault>
-        ensures takes { TakesInto result place.new self.new (value_at longest_blob path.now self.old) }
-        ensures kind { OnOk result (IsOf longest_blob path.now place.new) }
+    /// The value of this path, into a place: a data value of at most so many bytes at a key, and a node at a shorter path.
+    /// After a fault nothing is said of the place.
+    pub fn value_into(
+        &mut self,
+        longest: u8,
+        path: &Path,
+        place: &mut Value,
+    ) -> Result<(), TextFault>
+        ensures takes { TakesInto result place.new self.new (value_at longest path.now self.old) }
+        ensures kind { OnOk result (IsOf longest path.now place.new) }
     {
-        if path.len() == KEY_BITS {
-            *place = Value::Blob(self.blob()?.to_blob());
+        if path.is_data() {
+            place.assign_blob(&self.blob(longest)?);
         } else {
             *place = Value::Node(self.node(path)?);
         }
@@ -187,23 +190,23 @@ impl<'a> Reader<'a> {
     }
 
     /// The same, as a value.
-    pub fn value(&mut self, path: &Path) -> Result<Value, TextFault>
-        ensures takes { Takes result self.new (value_at longest_blob path.now self.old) }
-        ensures kind { IfOk result (IsOf longest_blob path.now) }
+    pub fn value(&mut self, longest: u8, path: &Path) -> Result<Value, TextFault>
+        ensures takes { Takes result self.new (value_at longest path.now self.old) }
+        ensures kind { IfOk result (IsOf longest path.now) }
     {
         let mut value = Value::Blob(Blob::none());
-        self.value_into(path, &mut value)?;
+        self.value_into(longest, path, &mut value)?;
         Ok(value)
     }
 
-    /// An element: its path, its value, its stamp, and the verifier that evicted it.
+    /// An element: its path, of this tree, its value, its stamp, and the verifier that evicted it.
     #[tactic(auto, unfolding(crate::specs::Reading::element_at))]
-    pub fn element(&mut self) -> Result<Element, TextFault>
-        ensures takes { Takes result self.new (element_at false longest_blob self.old) }
-        ensures kind { IfOk result (λ element. IsOf longest_blob element.path element.value) }
+    pub fn element(&mut self, wide: bool, longest: u8) -> Result<Element, TextFault>
+        ensures takes { Takes result self.new (element_at wide longest self.old) }
+        ensures kind { IfOk result (λ element. IsOf longest element.path element.value) }
     {
-        let path = self.path()?;
-        let value = self.value(&path)?;
+        let path = self.path(wide)?;
+        let value = self.value(longest, &path)?;
         let stamp = self.stamp()?;
         let verifier = self.u16()?;
         Ok(Element {
@@ -226,17 +229,17 @@ impl<'a> Reader<'a> {
         }
     }
 
-    // The number of bytes of a data value.
+    // The number of bytes of a data value that has at most so many.
     #[tactic(auto, unfolding(crate::specs::Reading::byte_at))]
-    fn count(&mut self) -> Result<usize, TextFault>
-        ensures takes { Takes result self.new (field 1 (count_in longest_blob) self.old) }
-        ensures fits { IfOk result (λ count. count ≤ LONGEST_BLOB) }
+    fn count(&mut self, longest: u8) -> Result<usize, TextFault>
+        ensures takes { Takes result self.new (field 1 (count_in longest) self.old) }
+        ensures fits { IfOk result (λ count. count ≤ longest) }
     {
-        let count = usize::from(self.byte()?);
-        if count > LONGEST_BLOB {
+        let count = self.byte()?;
+        if count > longest {
             return Err(TextFault::Malformed);
         }
-        Ok(count)
+        Ok(usize::from(count))
     }
 
     // Nothing for an empty pointer, else whether it is deferred.
@@ -277,22 +280,42 @@ impl<'a> Reader<'a> {
     }
 }
 
-// The path that nine bytes spell, if they spell one.
-fn path_in(bytes: &[u8]) -> Option<Path>
-    requires whole { length bytes.now ≡ PATH_TEXT_LEN }
-    ensures value { result ≡ path_in false bytes.now }
-    ensures fits { IfSome result IsPath }
-    ensures tree { IfSome result (IsIn false) }
+// How many bytes the text of a path of this tree has.
+fn path_text_len(wide: bool) -> usize
+    ensures value { result ≡ 1 + byte_len (word_width wide) }
 {
-    Path::of_word(bytes[0], word_in(&bytes[1..]))
+    if wide { 17 } else { 9 }
 }
 
-// The number of eight bytes.
-fn word_in(bytes: &[u8]) -> u64
-    requires whole { length bytes.now ≡ 8 }
-    ensures value { result ≡ from_be_bytes w64 bytes.now }
+// The path of this tree that a path's bytes spell, if they spell one.
+fn path_in(wide: bool, bytes: &[u8]) -> Option<Path>
+    requires whole { length bytes.now ≡ 1 + byte_len (word_width wide) }
+    ensures value { result ≡ path_in wide bytes.now }
+    ensures fits { IfSome result IsPath }
+    ensures tree { IfSome result (IsIn wide) }
 {
-    u64::from_be_bytes([
-        bytes[0], bytes[1], bytes[2], bytes[3], bytes[4], bytes[5], bytes[6], bytes[7],
-    ])
+    Path::of_word(wide, bytes[0], word_in(wide, &bytes[1..]))
+}
+
+// The number that the bytes of a word spell.
+fn word_in(wide: bool, bytes: &[u8]) -> u128
+    requires whole { length bytes.now ≡ byte_len (word_width wide) }
+    ensures value { result ≡ from_be_bytes (word_width wide) bytes.now }
+{
+    if wide {
+        u128::from_be_bytes(whole_word(bytes))
+    } else {
+        u128::from(u64::from_be_bytes(whole_word(bytes)))
+    }
+}
+
+// So many bytes as an array.
+fn whole_word<const LEN: usize>(bytes: &[u8]) -> [u8; LEN]
+    requires whole { length bytes.now ≡ LEN }
+    ensures value { result ≡ bytes.now }
+{
+    match <[u8; LEN]>::try_from(bytes) {
+        Ok(word) => word,
+        Err(_) => unreachable!(),
+    }
 }

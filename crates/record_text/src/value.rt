@@ -7,28 +7,32 @@ ghost use Rattle.record_text.specs.Longest.{longest_blob};
 use crate::blob_ref::BlobRef;
 use arrayvec::ArrayVec;
 use std::marker::Model;
-use tree_keys::{KEY_BITS, Path};
+use tree_keys::Path;
 
 /// The most bytes of a data value.
-pub const LONGEST_BLOB: usize = 64;
+pub const LONGEST_BLOB: usize = 255;
 
-/// A data value: none, or 0 to 64 bytes.
+/// A data value: none, or 0 to 255 bytes.
 #[derive(Clone, Debug, PartialEq, Eq, Drop)]
 pub struct Blob {
-    bytes: Option<ArrayVec<u8, 64>>,
+    is_some: bool,
+    // Empty where there is none, so that a value is written where one stands.
+    bytes: ArrayVec<u8, 255>,
 }
 
 impl Model for Blob {
-    ghost use Rattle.std.specs.Prelude.{ℕ, ◌≤◌, List, length, Option, Some, None};
-    ghost use Rattle.std.specs.Option.{option_map, ForSome};
+    ghost use Rattle.std.specs.Prelude.{◌≡◌, ℕ, ◌≤◌, false, List, [], length, Option};
+    ghost use Rattle.record_text.specs.Blob.{blob_of, with_blob, blob_back};
 
     ghost Value = { Option (List ℕ) };
 
-    ghost view = { λ b. option_map (λ v. v.items) b.bytes };
+    ghost view = { λ b. blob_of b.is_some b.bytes.items };
 
-    ghost invariant = { λ b. ForSome b.bytes (λ v. length v.items ≤ 64) };
+    ghost invariant = { λ b. (length b.bytes.items ≤ 255) × (b.is_some ≡ false → b.bytes.items ≡ []) };
 
-    ghost inverse = { λ o. record { bytes = option_map (λ xs. record { items = xs }) o } };
+    ghost inverse = { with_blob (λ is_some bytes. record { is_some = is_some; bytes = record { items = bytes } }) };
+
+    ghost inverse_ok = { λ b fits. blob_back (λ is_some bytes. record { is_some = is_some; bytes = record { items = bytes } }) b.is_some b.bytes.items fits.1 };
 }
 
 impl Blob {
@@ -36,19 +40,21 @@ impl Blob {
     pub fn none() -> Self
         ensures none { result ≡ None }
     {
-        Blob { bytes: None }
+        Blob {
+            is_some: false,
+            bytes: ArrayVec::new(),
+        }
     }
 
-    /// These bytes. Past 64 of them there is no such data value.
+    /// These bytes. Past 255 of them there is no such data value.
     pub fn of_bytes(bytes: &[u8]) -> Option<Self>
         ensures long { IsNone result ↔ (LONGEST_BLOB < length bytes.now) }
         ensures value { IfSome result (λ blob. blob ≡ Some bytes.now) }
     {
-        let mut items = ArrayVec::new();
-        match items.try_extend_from_slice(bytes) {
-            Ok(()) => Some(Blob { bytes: Some(items) }),
-            Err(_) => None,
+        if bytes.len() > LONGEST_BLOB {
+            return None;
         }
+        Some(BlobRef::new(Some(bytes)).to_blob())
     }
 
     /// The bytes, or none.
@@ -56,9 +62,10 @@ impl Blob {
         ensures value { option_map (λ bytes. bytes.now) result ≡ self.now }
         ensures fits { IfSome result (λ bytes. length bytes.now ≤ LONGEST_BLOB) }
     {
-        match &self.bytes {
-            Some(items) => Some(items.as_slice()),
-            None => None,
+        if self.is_some {
+            Some(self.bytes.as_slice())
+        } else {
+            None
         }
     }
 
@@ -80,13 +87,20 @@ impl Blob {
     pub fn assign(&mut self, other: &Blob)
         ensures value { self.new ≡ other.now }
     {
-        match (&mut self.bytes, other.bytes()) {
-            (Some(items), Some(bytes)) => {
-                items.clear();
-                items.try_extend_from_slice(bytes).unwrap();
+        self.assign_from(&other.by_ref());
+    }
+
+    /// Becomes the data value whose bytes stand elsewhere.
+    pub fn assign_from(&mut self, other: &BlobRef<'_>)
+        ensures value { self.new ≡ other.now }
+    {
+        self.bytes.clear();
+        match other.bytes() {
+            Some(bytes) => {
+                self.is_some = true;
+                self.bytes.try_extend_from_slice(bytes).unwrap();
             }
-            (_, Some(bytes)) => *self = Blob::of_bytes(bytes).unwrap(),
-            (_, None) => self.bytes = None,
+            None => self.is_some = false,
         }
     }
 
@@ -203,7 +217,7 @@ pub fn initial(path: &Path) -> Value
     ensures value { result ≡ initial_value path.now }
     ensures kind { IsOf longest_blob path.now result }
 {
-    if path.len() == KEY_BITS {
+    if path.is_data() {
         Value::Blob(Blob::none())
     } else {
         Value::Node(Node::empty())
@@ -225,11 +239,21 @@ impl Value {
     pub fn assign(&mut self, other: &Value)
         ensures value { self.new ≡ other.now }
     {
-        if let (Value::Blob(blob), Value::Blob(others)) = (&mut *self, other) {
-            blob.assign(others);
+        match other {
+            Value::Blob(blob) => self.assign_blob(&blob.by_ref()),
+            Value::Node(node) => *self = Value::Node(*node),
+        }
+    }
+
+    /// Becomes the data value whose bytes stand elsewhere: over data where it stands.
+    pub fn assign_blob(&mut self, blob: &BlobRef<'_>)
+        ensures value { self.new ≡ Value.Blob blob.now }
+    {
+        if let Value::Blob(own) = self {
+            own.assign_from(blob);
             return;
         }
-        *self = other.copy();
+        *self = Value::Blob(blob.to_blob());
     }
 
     /// Whether both are the same value.

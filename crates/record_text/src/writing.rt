@@ -1,7 +1,9 @@
 //! Writes paths, values, stamps and elements as texts.
 ghost use Rattle.std.specs.Prelude.{◌≡◌, ◌+◌, ◌≤◌, [], ◌++◌, length, Option, Some, None};
-ghost use Rattle.std.specs.Int.{w16, w32, w64, to_be_bytes};
+ghost use Rattle.std.specs.Int.{w16, w32, to_be_bytes};
 ghost use Rattle.arrayvec.specs.ArrayVec.{array_vec_len};
+ghost use Rattle.tree_keys.specs.Path.{IsPath, tree_of, word_of};
+ghost use Rattle.record_text.specs.Tree.{word_width};
 ghost use Rattle.record_text.specs.Texts.{path_text, blob_text, deferred_tag, pointer_text, value_text, stamp_text, element_text};
 
 use crate::blob_ref::BlobRef;
@@ -11,14 +13,14 @@ use arrayvec::ArrayVec;
 use lamport_clocks::Stamp;
 use tree_keys::Path;
 
-/// How many bytes the text of a path has.
-pub const PATH_TEXT_LEN: usize = 9;
+/// The most bytes of a path's text: a path of the tree whose keys have 128 bits.
+pub const LONGEST_PATH_TEXT: usize = 17;
 
-/// The most bytes of a value's text: a node with two pointers.
-pub const LONGEST_VALUE_TEXT: usize = 84;
+/// The most bytes of a value's text: the longest data value.
+pub const LONGEST_VALUE_TEXT: usize = 257;
 
 /// The most bytes of an element's text.
-pub const LONGEST_ELEMENT_TEXT: usize = 103;
+pub const LONGEST_ELEMENT_TEXT: usize = 284;
 
 /// The text of a value.
 pub fn value_text(value: &Value) -> ArrayVec<u8, LONGEST_VALUE_TEXT>
@@ -44,7 +46,7 @@ pub fn element_text(element: &Element) -> ArrayVec<u8, LONGEST_ELEMENT_TEXT>
     text
 }
 
-/// Appends the text of the element with these parts, of at most 103 bytes.
+/// Appends the text of the element with these parts, of at most 284 bytes.
 pub fn push_element<const CAP: usize>(
     items: &mut ArrayVec<u8, CAP>,
     path: &Path,
@@ -62,17 +64,32 @@ pub fn push_element<const CAP: usize>(
     push_u16(items, verifier);
 }
 
-/// Appends the text of a path, of 9 bytes.
+/// Appends the text of a path, of 9 bytes or of 17 by its tree.
 pub fn push_path<const CAP: usize>(items: &mut ArrayVec<u8, CAP>, path: &Path)
-    requires room { array_vec_len items.old + PATH_TEXT_LEN ≤ CAP }
+    requires room { array_vec_len items.old + LONGEST_PATH_TEXT ≤ CAP }
     ensures text { items.new.items ≡ items.old.items ++ path_text path.now }
-    ensures len { array_vec_len items.new ≡ array_vec_len items.old + PATH_TEXT_LEN }
+    ensures len { array_vec_len items.new ≤ array_vec_len items.old + LONGEST_PATH_TEXT }
 {
     items.push(path.len());
-    push_u64(items, path.word());
+    push_word(items, path);
 }
 
-/// Appends the text of a value, of at most 84 bytes.
+// Appends the word that holds a path, of 8 bytes or of 16.
+fn push_word<const CAP: usize>(items: &mut ArrayVec<u8, CAP>, path: &Path)
+    requires fits { IsPath path.now }
+    requires room { array_vec_len items.old + 16 ≤ CAP }
+    ensures text { items.new.items
+        ≡ items.old.items ++ to_be_bytes (word_width (tree_of path.now)) (word_of path.now) }
+    ensures len { array_vec_len items.new ≤ array_vec_len items.old + 16 }
+{
+    if path.is_wide() {
+        push_all(items, &path.word().to_be_bytes());
+    } else {
+        push_all(items, &(path.word() as u64).to_be_bytes());
+    }
+}
+
+/// Appends the text of a value, of at most 257 bytes.
 pub fn push_value<const CAP: usize>(items: &mut ArrayVec<u8, CAP>, value: &Value)
     requires room { array_vec_len items.old + LONGEST_VALUE_TEXT ≤ CAP }
     ensures text { items.new.items ≡ items.old.items ++ value_text value.now }
@@ -115,20 +132,11 @@ fn push_u32<const CAP: usize>(items: &mut ArrayVec<u8, CAP>, number: u32)
     push_all(items, &number.to_be_bytes());
 }
 
-// Appends a number of eight bytes.
-fn push_u64<const CAP: usize>(items: &mut ArrayVec<u8, CAP>, number: u64)
-    requires room { array_vec_len items.old + 8 ≤ CAP }
-    ensures text { items.new.items ≡ items.old.items ++ to_be_bytes w64 number }
-    ensures len { array_vec_len items.new ≡ array_vec_len items.old + 8 }
-{
-    push_all(items, &number.to_be_bytes());
-}
-
-/// Appends the text of a data value, of at most 66 bytes.
+/// Appends the text of a data value, of at most 257 bytes.
 pub fn push_blob<const CAP: usize>(items: &mut ArrayVec<u8, CAP>, blob: &BlobRef)
-    requires room { array_vec_len items.old + 66 ≤ CAP }
+    requires room { array_vec_len items.old + LONGEST_VALUE_TEXT ≤ CAP }
     ensures text { items.new.items ≡ items.old.items ++ blob_text blob.now }
-    ensures len { array_vec_len items.new ≤ array_vec_len items.old + 66 }
+    ensures len { array_vec_len items.new ≤ array_vec_len items.old + LONGEST_VALUE_TEXT }
 {
     match blob.bytes() {
         None => items.push(0),
@@ -140,11 +148,11 @@ pub fn push_blob<const CAP: usize>(items: &mut ArrayVec<u8, CAP>, blob: &BlobRef
     }
 }
 
-// Appends the text of a side's pointer, of at most 42 bytes.
+// Appends the text of a side's pointer, of at most 50 bytes.
 fn push_pointer<const CAP: usize>(items: &mut ArrayVec<u8, CAP>, pointer: &Option<Pointer>)
-    requires room { array_vec_len items.old + 42 ≤ CAP }
+    requires room { array_vec_len items.old + 50 ≤ CAP }
     ensures text { items.new.items ≡ items.old.items ++ pointer_text pointer.now }
-    ensures len { array_vec_len items.new ≤ array_vec_len items.old + 42 }
+    ensures len { array_vec_len items.new ≤ array_vec_len items.old + 50 }
 {
     match pointer {
         None => items.push(0),

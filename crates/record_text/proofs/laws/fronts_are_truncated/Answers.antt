@@ -1,11 +1,10 @@
 use Rattle.record_text.proofs.OneTextLaws.{path_front, value_front, stamp_front, element_front}
-use Rattle.record_text.specs.Longest.{longest_blob}
 use Rattle.record_text.proofs.laws.fronts_are_truncated.Goals as goal
 
 pub returns : goal.returns
 returns c = record {
   paths = path_front;
-  values = value_front longest_blob;
+  values = value_front;
   stamps = stamp_front;
-  elements = λ wide. element_front wide longest_blob;
+  elements = element_front;
 }

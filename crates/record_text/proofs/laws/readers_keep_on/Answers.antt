@@ -1,11 +1,10 @@
 use Rattle.record_text.proofs.KeepsOnLaws.{keeps_on-path, keeps_on-value, keeps_on-stamp, keeps_on-element}
-use Rattle.record_text.specs.Longest.{longest_blob}
 use Rattle.record_text.proofs.laws.readers_keep_on.Goals as goal
 
 pub returns : goal.returns
 returns c = record {
   paths = keeps_on-path;
-  values = keeps_on-value longest_blob;
+  values = keeps_on-value;
   stamps = keeps_on-stamp;
-  elements = λ wide. keeps_on-element wide longest_blob;
+  elements = keeps_on-element;
 }

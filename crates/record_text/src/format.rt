@@ -1,0 +1,20 @@
+//! Of which tree the paths of a bundle are, and how long its data values may be.
+ghost use Rattle.std.specs.Prelude.{◌≡◌};
+ghost use Rattle.record_text.specs.Tree.{wide_of};
+ghost use Rattle.record_text.specs.Longest.{longest_of};
+
+use lamport_clocks::Header;
+
+/// The tree of a bundle with this header: that whose keys have 64 bits.
+pub fn wide_of(_header: &Header) -> bool
+    ensures value { result ≡ wide_of _header.now }
+{
+    false
+}
+
+/// The most bytes of a data value in a bundle with this header.
+pub fn longest_of(_header: &Header) -> u8
+    ensures value { result ≡ longest_of _header.now }
+{
+    64
+}
