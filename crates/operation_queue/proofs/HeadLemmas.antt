@@ -1,5 +1,5 @@
 -- What follows for heads from how operations are spelled.
-use Rattle.std.proofs.Common.{◌≡◌, ℕ, zero, suc, ◌+◌, ◌≤◌, List, [], ◌∷◌, ◌++◌, length, take, drop, cond, nat_le, Option, Some, None, refl, ap, sym, ◌∙◌, arith}
+use Rattle.std.proofs.Common.{◌≡◌, ℕ, zero, suc, ◌+◌, ◌/◌, ◌%◌, ◌^◌, ◌≤◌, List, [], ◌∷◌, ◌++◌, length, take, drop, cond, nat_le, Option, Some, None, refl, ap, sym, ◌∙◌, arith}
 use Rattle.std.specs.Prelude.{take_while}
 use Rattle.std.specs.List.{AllByRecursion, prefix_len}
 use Rattle.std.specs.Option.{option_map}
@@ -8,7 +8,7 @@ use Rattle.std.proofs.lemmas.List.Folds.{length-prefix_len}
 use Rattle.std.proofs.Math.Seq.{take-length}
 use Rattle.record_text.specs.declared.operation.Operation.{Operation}
 use Rattle.operation_queue.specs.declared.head.Head.{Head}
-use Rattle.operation_queue.specs.Heads.{bytes_of_len, operation_of, head_of, bytes_in, spelled, bytes_of, FitsBlob, AreSpelled, AreWhole}
+use Rattle.operation_queue.specs.Heads.{bytes_of_len, key_of_words, operation_of, head_of, bytes_in, spelled, bytes_of, FitsBlob, AreSpelled, AreWhole}
 
 -- ---- one head
 
@@ -26,7 +26,7 @@ value_in_front (Some n) bytes more within = ap (λ (value : List ℕ). Some valu
 operation_in_front : (head : Head) (bytes more : List ℕ) → bytes_of_len head.len ≤ length bytes
     → operation_of head (bytes ++ more) ≡ operation_of head bytes
 operation_in_front head bytes more within =
-    ap (λ (value : Option (List ℕ)). record { stamp = head.stamp; verifier = head.verifier; index = head.index; put = head.put; key = head.key; value = value })
+    ap (λ (value : Option (List ℕ)). record { stamp = head.stamp; verifier = head.verifier; index = head.index; put = head.put; wide = head.wide; key = key_of_words head.key_high head.key_low; value = value })
     (value_in_front head.len bytes more within)
 
 -- a value and its length
@@ -34,9 +34,15 @@ value_again : (value : Option (List ℕ)) → option_map (λ n. take n (bytes_in
 value_again None = refl
 value_again (Some bytes) = ap (λ (value : List ℕ). Some value) (take-length bytes)
 
+-- a key and its words
+words_again : (key : ℕ) → key_of_words (key / 2 ^ 64) (key % 2 ^ 64) ≡ key
+words_again key = omega arith
+
 pub operation_again : (operation : Operation) → operation_of (head_of operation) (bytes_in operation.value) ≡ operation
 operation_again operation =
-    ap (λ (value : Option (List ℕ)). record operation { value = value }) (value_again operation.value)
+    ap (λ (value : Option (List ℕ)). record operation { key = key_of_words (operation.key / 2 ^ 64) (operation.key % 2 ^ 64); value = value })
+    (value_again operation.value)
+    ∙ ap (λ (key : ℕ). record operation { key = key }) (words_again operation.key)
 
 pub value_len : (value : Option (List ℕ)) → bytes_of_len (option_map (λ bytes. length bytes) value) ≡ length (bytes_in value)
 value_len None = refl

@@ -1,19 +1,23 @@
 //! What is kept of an operation beside its value's bytes.
-ghost use Rattle.std.specs.Prelude.{◌≡◌, ◌≤◌, length, take_while, nat_le};
+ghost use Rattle.std.specs.Prelude.{◌≡◌, ◌≤◌, ◌/◌, ◌%◌, ◌^◌, length, take_while, nat_le};
 ghost use Rattle.std.specs.Option.{option_map};
-ghost use Rattle.operation_queue.specs.Heads.{FitsBlob, bytes_in, bytes_of, bytes_of_len, head_of, operation_of};
+ghost use Rattle.record_text.specs.Longest.{longest_blob};
+ghost use Rattle.operation_queue.specs.Heads.{FitsBlob, bytes_in, bytes_of, bytes_of_len, head_of, key_of_words, operation_of};
 
 use lamport_clocks::Stamp;
 use record_text::{BlobRef, LONGEST_BLOB, OperationRef};
 
-/// An operation without its value's bytes: 32 bytes.
+/// An operation without its value's bytes: 40 bytes. Its key is kept as two words, since a number of 128 bits would have it take
+/// 48.
 #[derive(Clone, Copy, Debug)]
 pub(crate) struct Head {
     index: u64,
-    key: u64,
+    key_high: u64,
+    key_low: u64,
     stamp: Stamp,
     verifier: u16,
     put: bool,
+    wide: bool,
     // the length of its value, if it has one
     len: Option<u8>,
 }
@@ -26,12 +30,21 @@ impl Head {
     {
         Head {
             index: operation.index(),
-            key: operation.key(),
+            key_high: high_word(operation.key()),
+            key_low: low_word(operation.key()),
             stamp: operation.stamp(),
             verifier: operation.verifier(),
             put: operation.is_put(),
+            wide: operation.is_wide(),
             len: len_of(operation.value()),
         }
+    }
+
+    // The key of its operation.
+    fn key(&self) -> u128
+        ensures value { result ≡ key_of_words self.now.key_high self.now.key_low }
+    {
+        u128::from(self.key_high) * (1 << 64) + u128::from(self.key_low)
     }
 
     /// How many bytes its value has: none, if it has no value.
@@ -59,16 +72,31 @@ impl Head {
             self.verifier,
             self.index,
             self.put,
-            self.key,
+            self.wide,
+            self.key(),
             value,
         )
     }
 }
 
+// The higher word of a key.
+fn high_word(key: u128) -> u64
+    ensures value { result ≡ key / 2 ^ 64 }
+{
+    (key / (1 << 64)) as u64
+}
+
+// The lower word of a key.
+fn low_word(key: u128) -> u64
+    ensures value { result ≡ key % 2 ^ 64 }
+{
+    (key % (1 << 64)) as u64
+}
+
 // The length of a data value, if there is one.
 fn len_of(value: &BlobRef) -> Option<u8>
     ensures value { result ≡ option_map (λ bytes. length bytes) value.now }
-    ensures fits { bytes_of_len result ≤ 64 }
+    ensures fits { bytes_of_len result ≤ longest_blob }
 {
     match value.bytes() {
         Some(bytes) => Some(bytes.len() as u8),

@@ -19,12 +19,13 @@ pub struct OperationQueue {
 impl Model for OperationQueue {
     ghost use Rattle.std.specs.Prelude.{◌/◌, min};
     ghost use Rattle.record_text.specs.declared.operation.Operation.{Operation};
+    ghost use Rattle.record_text.specs.Longest.{longest_blob};
     ghost use Rattle.slice_queue.specs.Waiting.{Waiting};
     ghost use Rattle.operation_queue.specs.Heads.{AreWhole, spelled};
 
     ghost Value = { Waiting Operation };
 
-    ghost view = { λ q. record { items = spelled q.heads.items q.bytes.items; room = min q.heads.room (q.bytes.room / 64) } };
+    ghost view = { λ q. record { items = spelled q.heads.items q.bytes.items; room = min q.heads.room (q.bytes.room / longest_blob) } };
 
     ghost invariant = { λ q. AreWhole q.heads.items q.bytes.items };
 }
