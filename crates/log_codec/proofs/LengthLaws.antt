@@ -14,7 +14,6 @@ use Rattle.record_text.specs.Tree.{word_width}
 use Rattle.record_text.specs.Fields.{Parsed, field, ranged}
 use Rattle.record_text.specs.Reading.{first_byte, byte_at, run_at, path_in, path_at, flag_in, count_in, blob_behind, blob_at, pointer_tag_in, path_below_in, path_below_at, pointer_behind, pointer_at, node_at, value_by, value_at, u16_at, u32_at, stamp_at}
 use Rattle.record_text.proofs.FieldLaws.{field_ok, Ok-is}
-use Rattle.record_text.specs.Longest.{longest_blob}
 use Rattle.log_codec.specs.declared.command.Command.{Command}
 use Rattle.log_codec.specs.declared.command.Command.TheVariants.{AddM, EvictM, AddB, EvictB, EvictBM, Get, Put, NextEpoch, Absent}
 use Rattle.log_codec.specs.Command.{add_m_at, evict_m_at, add_b_at, evict_b_at, evict_bm_at, get_at, put_at, absent_at, path_command_behind, path_command_at, path_command_text, IsPathCommand, IsCommandIn}
@@ -152,24 +151,24 @@ counted true n count e = (refl, cc)
 counted false n count e = absurd (cc)
 
 -- a count that was read is at most the longest
-count_within : (bytes : List ℕ) (count : ℕ) → count_in longest_blob bytes ≡ Some count → count ≤ 64
+count_within : (bytes : List ℕ) (count : ℕ) → count_in 64 bytes ≡ Some count → count ≤ 64
 count_within bytes count e =
     let is = counted (nat_le (first_byte bytes) 64) (first_byte bytes) count e in
     let least : first_byte bytes ≤ 64 = leb-true _ _ is.0 in
     omega (arith, is.1)
 
-pub Spans-blob_behind : (present : Bool) → Spans 65 (λ bytes. blob_behind longest_blob present bytes)
+pub Spans-blob_behind : (present : Bool) → Spans 65 (λ bytes. blob_behind 64 present bytes)
 Spans-blob_behind false = Spans-done 65 None
 Spans-blob_behind true =
-    Spans-then_found 1 64 (λ bytes. field 1 (count_in longest_blob) bytes) (λ count left. then_at (run_at count left) (λ text rest. Ok (Some text, rest))) (Spans-field 1 (count_in longest_blob))
+    Spans-then_found 1 64 (λ bytes. field 1 (count_in 64) bytes) (λ count left. then_at (run_at count left) (λ text rest. Ok (Some text, rest))) (Spans-field 1 (count_in 64))
     (λ count bytes left is.
-    let f = field_ok 1 (count_in longest_blob) bytes count left is in
+    let f = field_ok 1 (count_in 64) bytes count left is in
     let most : count ≤ 64 = count_within (take 1 bytes) count f.1 in
     Spans-wider (count + 0) 64 _ (omega arith) (Spans-then count 0 (λ bytes. run_at count bytes) (λ text rest. Ok (Some text, rest)) (Spans-field count (λ run. Some run)) (λ text. Spans-done 0 (Some text))))
 
-pub Spans-blob : Spans 66 (λ bytes. blob_at longest_blob bytes)
+pub Spans-blob : Spans 66 (λ bytes. blob_at 64 bytes)
 unfolding blob_at
-Spans-blob = Spans-then 1 65 (λ bytes. field 1 flag_in bytes) (λ present bytes. blob_behind longest_blob present bytes) (Spans-field 1 flag_in) Spans-blob_behind
+Spans-blob = Spans-then 1 65 (λ bytes. field 1 flag_in bytes) (λ present bytes. blob_behind 64 present bytes) (Spans-field 1 flag_in) Spans-blob_behind
 
 pub Spans-pointer_behind : (prefix : List Bool) → IsIn false prefix → (tag : Option Bool) → Spans 41 (λ bytes. pointer_behind prefix tag bytes)
 Spans-pointer_behind prefix within None = Spans-done 41 None
@@ -188,17 +187,17 @@ Spans-node path within =
     Spans-two 42 42 node (λ bytes. pointer_at (path ++ false ∷ []) bytes) (λ side0 bytes. pointer_at (path ++ true ∷ []) bytes)
     (Spans-pointer (path ++ false ∷ []) (in-child false path false within)) (λ side0. Spans-pointer (path ++ true ∷ []) (in-child false path true within))
 
-pub Spans-value_by : (path : List Bool) → IsIn false path → (data_path : Bool) → Spans 84 (λ bytes. value_by longest_blob path data_path bytes)
+pub Spans-value_by : (path : List Bool) → IsIn false path → (data_path : Bool) → Spans 84 (λ bytes. value_by 64 path data_path bytes)
 Spans-value_by path within true =
-    Spans-then 66 18 (λ bytes. blob_at longest_blob bytes) (λ blob rest. Ok (values.Blob blob, rest)) Spans-blob (λ blob. Spans-done 18 (values.Blob blob))
+    Spans-then 66 18 (λ bytes. blob_at 64 bytes) (λ blob rest. Ok (values.Blob blob, rest)) Spans-blob (λ blob. Spans-done 18 (values.Blob blob))
 Spans-value_by path within false =
     Spans-then 84 0 (λ bytes. node_at path bytes) (λ node rest. Ok (values.Node node, rest)) (Spans-node path within) (λ node. Spans-done 0 (values.Node node))
 
-pub Spans-value : (path : List Bool) → IsIn false path → Spans 84 (λ bytes. value_at longest_blob path bytes)
+pub Spans-value : (path : List Bool) → IsIn false path → Spans 84 (λ bytes. value_at 64 path bytes)
 Spans-value path within = Spans-value_by path within (is_data path)
 
 -- the value of a path that was read
-pub Spans-value_of : (path : List Bool) (bytes left : List ℕ) → path_at false bytes ≡ Ok (path, left) → Spans 84 (λ bytes. value_at longest_blob path bytes)
+pub Spans-value_of : (path : List Bool) (bytes left : List ℕ) → path_at false bytes ≡ Ok (path, left) → Spans 84 (λ bytes. value_at 64 path bytes)
 Spans-value_of path bytes left is = Spans-value path (path_at-in false bytes path left is)
 
 -- ---- the commands
@@ -215,30 +214,30 @@ text_spans grammar exact n spans command is =
 
 -- ---- commands that name paths
 
-pub Spans-behind : (tag : ℕ) → Spans 103 (λ bytes. path_command_behind false longest_blob tag bytes)
+pub Spans-behind : (tag : ℕ) → Spans 103 (λ bytes. path_command_behind false 64 tag bytes)
 Spans-behind tag =
-    Spans-if 103 (tag == 1) (λ bytes. add_m_at false longest_blob bytes) _ (Spans-wider 102 103 _ (omega arith) (Spans-three_found 9 84 9 AddM (path_at false) (value_at longest_blob) (path_at false) Spans-path Spans-value_of Spans-path))
+    Spans-if 103 (tag == 1) (λ bytes. add_m_at false 64 bytes) _ (Spans-wider 102 103 _ (omega arith) (Spans-three_found 9 84 9 AddM (path_at false) (value_at 64) (path_at false) Spans-path Spans-value_of Spans-path))
     (Spans-if 103 (tag == 2) (λ bytes. evict_m_at false bytes) _ (Spans-wider 18 103 _ (omega arith) (Spans-two 9 9 EvictM (path_at false) (λ p. path_at false) Spans-path (λ p. Spans-path)))
-    (Spans-if 103 (tag == 3) (λ bytes. add_b_at false longest_blob bytes) _ (Spans-four_found 9 84 8 2 AddB (path_at false) (value_at longest_blob) stamp_at u16_at Spans-path Spans-value_of Spans-stamp Spans-u16)
+    (Spans-if 103 (tag == 3) (λ bytes. add_b_at false 64 bytes) _ (Spans-four_found 9 84 8 2 AddB (path_at false) (value_at 64) stamp_at u16_at Spans-path Spans-value_of Spans-stamp Spans-u16)
     (Spans-if 103 (tag == 4) (λ bytes. evict_b_at false bytes) _ (Spans-wider 17 103 _ (omega arith) (Spans-two 9 8 EvictB (path_at false) (λ p. stamp_at) Spans-path (λ p. Spans-stamp)))
     (Spans-if 103 (tag == 5) (λ bytes. evict_bm_at false bytes) _ (Spans-wider 26 103 _ (omega arith) (Spans-three 9 9 8 EvictBM (path_at false) (λ p. path_at false) stamp_at Spans-path (λ p. Spans-path) Spans-stamp))
-    (Spans-if 103 (tag == 6) (λ bytes. get_at false longest_blob bytes) _ (Spans-wider 93 103 _ (omega arith) (Spans-two_found 9 84 Get (path_at false) (value_at longest_blob) Spans-path Spans-value_of))
-    (Spans-if 103 (tag == 7) (λ bytes. put_at false longest_blob bytes) _ (Spans-wider 93 103 _ (omega arith) (Spans-two_found 9 84 Put (path_at false) (value_at longest_blob) Spans-path Spans-value_of))
+    (Spans-if 103 (tag == 6) (λ bytes. get_at false 64 bytes) _ (Spans-wider 93 103 _ (omega arith) (Spans-two_found 9 84 Get (path_at false) (value_at 64) Spans-path Spans-value_of))
+    (Spans-if 103 (tag == 7) (λ bytes. put_at false 64 bytes) _ (Spans-wider 93 103 _ (omega arith) (Spans-two_found 9 84 Put (path_at false) (value_at 64) Spans-path Spans-value_of))
     (Spans-if 103 (tag == 8) (λ bytes. Ok (NextEpoch, bytes)) _ (Spans-done 103 NextEpoch)
     (Spans-if 103 (tag == 9) (λ bytes. absent_at false bytes) (λ bytes. Err faults.Malformed) (Spans-wider 18 103 _ (omega arith) (Spans-two 9 9 Absent (path_at false) (λ p. path_at false) Spans-path (λ p. Spans-path))) (Spans-malformed 103)))))))))
 
-pub Spans-path_command : Spans 104 (λ bytes. path_command_at false longest_blob bytes)
+pub Spans-path_command : Spans 104 (λ bytes. path_command_at false 64 bytes)
 unfolding path_command_at
-Spans-path_command = Spans-tagged 103 (λ tag left. path_command_behind false longest_blob tag left) Spans-behind
+Spans-path_command = Spans-tagged 103 (λ tag left. path_command_behind false 64 tag left) Spans-behind
 
 -- A command that was read takes at most 104 bytes.
-pub path_command_taken : (bytes : List ℕ) (command : Command) (rest : List ℕ) → path_command_at false longest_blob bytes ≡ Ok (command, rest) → length bytes ≤ 104 + length rest
+pub path_command_taken : (bytes : List ℕ) (command : Command) (rest : List ℕ) → path_command_at false 64 bytes ≡ Ok (command, rest) → length bytes ≤ 104 + length rest
 path_command_taken bytes command rest e = Spans-path_command.takes bytes command rest e
 
 -- A command that is cut has fewer than 104 bytes.
-pub path_command_cut : (bytes : List ℕ) → path_command_at false longest_blob bytes ≡ Err faults.Truncated → length bytes < 104
+pub path_command_cut : (bytes : List ℕ) → path_command_at false 64 bytes ≡ Err faults.Truncated → length bytes < 104
 path_command_cut bytes e = Spans-path_command.cut bytes e
 
 -- A command's text has at most 104 bytes.
-pub path_text_within : (command : Command) → IsCommandIn false command → IsPathCommand longest_blob command → length (path_command_text command) ≤ 104
-path_text_within command inside is = text_spans (path_grammar false longest_blob) (path_exact false longest_blob) 104 Spans-path_command command (inside, is)
+pub path_text_within : (command : Command) → IsCommandIn false command → IsPathCommand 64 command → length (path_command_text command) ≤ 104
+path_text_within command inside is = text_spans (path_grammar false 64) (path_exact false 64) 104 Spans-path_command command (inside, is)

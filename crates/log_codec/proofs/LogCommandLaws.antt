@@ -6,7 +6,6 @@ use Rattle.lamport_clocks.specs.Header.{names_paths}
 use Rattle.record_text.specs.declared.reader.TextFault.TheVariants.{Truncated}
 use Rattle.record_text.specs.Fields.{Parsed, KeepsOn}
 use Rattle.record_text.specs.Format.{LogFormat, format_of}
-use Rattle.record_text.specs.Longest.{longest_blob}
 use Rattle.record_text.proofs.FieldLaws.{AreBytes, Begins, Ok-is}
 use Rattle.record_text.proofs.KeepsOnLaws.{keeps_on-nothing, keeps_on-then}
 use Rattle.log_codec.specs.declared.log_command.LogCommand.{LogCommand}
@@ -85,9 +84,9 @@ command_shorter format = (log_exact format).shorter
 
 -- ---- at most 106 bytes
 
-Spans-by : (by_path : Bool) → Spans 106 (λ bytes. command_by by_path false longest_blob bytes)
-Spans-by true = Spans-then 104 2 (λ bytes. path_command_at false longest_blob bytes) (λ command rest. Ok (ByPath command, rest)) Spans-path_command (λ command. Spans-done 2 (ByPath command))
-Spans-by false = Spans-then 106 0 (λ bytes. slot_command_at false longest_blob bytes) (λ command rest. Ok (BySlot command, rest)) Spans-slot_command (λ command. Spans-done 0 (BySlot command))
+Spans-by : (by_path : Bool) → Spans 106 (λ bytes. command_by by_path false 64 bytes)
+Spans-by true = Spans-then 104 2 (λ bytes. path_command_at false 64 bytes) (λ command rest. Ok (ByPath command, rest)) Spans-path_command (λ command. Spans-done 2 (ByPath command))
+Spans-by false = Spans-then 106 0 (λ bytes. slot_command_at false 64 bytes) (λ command rest. Ok (BySlot command, rest)) Spans-slot_command (λ command. Spans-done 0 (BySlot command))
 
 Spans-command : (header : Header) → Spans 106 (λ bytes. command_at (format_of header) bytes)
 unfolding command_at

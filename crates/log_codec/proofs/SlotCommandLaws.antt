@@ -4,7 +4,6 @@ use Rattle.std.proofs.Common.{◌≡◌, ℕ, ◌+◌, ◌<◌, ◌≤◌, ◌==
 use Rattle.std.specs.Int.{w16, to_be_bytes}
 use Rattle.record_text.specs.declared.reader.TextFault.TheVariants.{Malformed, Truncated}
 use Rattle.record_text.specs.Fields.{KeepsOn}
-use Rattle.record_text.specs.Longest.{longest_blob}
 use Rattle.record_text.specs.Reading.{path_at, value_at, blob_at, stamp_at, u16_at}
 use Rattle.record_text.specs.Texts.{path_text, value_text, blob_text, stamp_text}
 use Rattle.record_text.proofs.FieldLaws.{AreBytes, Begins}
@@ -191,30 +190,30 @@ slot_exact wide longest = record {
 
 -- ---- at most 106 bytes
 
-Spans-behind : (tag : ℕ) → Spans 105 (λ bytes. slot_command_behind false longest_blob tag bytes)
+Spans-behind : (tag : ℕ) → Spans 105 (λ bytes. slot_command_behind false 64 tag bytes)
 Spans-behind tag =
-    Spans-if 105 (tag == 1) (λ bytes. add_m_at false longest_blob bytes) _ (Spans-wider 97 105 _ (omega arith) (Spans-then 2 95 u16_at (λ slot left. three_at (AddM slot) (path_at false) (value_at longest_blob) u16_at left) Spans-u16 (λ slot. Spans-three_found 9 84 2 (AddM slot) (path_at false) (value_at longest_blob) u16_at Spans-path Spans-value_of Spans-u16)))
+    Spans-if 105 (tag == 1) (λ bytes. add_m_at false 64 bytes) _ (Spans-wider 97 105 _ (omega arith) (Spans-then 2 95 u16_at (λ slot left. three_at (AddM slot) (path_at false) (value_at 64) u16_at left) Spans-u16 (λ slot. Spans-three_found 9 84 2 (AddM slot) (path_at false) (value_at 64) u16_at Spans-path Spans-value_of Spans-u16)))
     (Spans-if 105 (tag == 2) (λ bytes. evict_m_at bytes) _ (Spans-wider 4 105 _ (omega arith) (Spans-two 2 2 EvictM u16_at (λ s. u16_at) Spans-u16 (λ s. Spans-u16)))
-    (Spans-if 105 (tag == 3) (λ bytes. add_b_at false longest_blob bytes) _ (Spans-then 2 103 u16_at (λ slot left. four_at (AddB slot) (path_at false) (value_at longest_blob) stamp_at u16_at left) Spans-u16 (λ slot. Spans-four_found 9 84 8 2 (AddB slot) (path_at false) (value_at longest_blob) stamp_at u16_at Spans-path Spans-value_of Spans-stamp Spans-u16))
+    (Spans-if 105 (tag == 3) (λ bytes. add_b_at false 64 bytes) _ (Spans-then 2 103 u16_at (λ slot left. four_at (AddB slot) (path_at false) (value_at 64) stamp_at u16_at left) Spans-u16 (λ slot. Spans-four_found 9 84 8 2 (AddB slot) (path_at false) (value_at 64) stamp_at u16_at Spans-path Spans-value_of Spans-stamp Spans-u16))
     (Spans-if 105 (tag == 4) (λ bytes. evict_b_at bytes) _ (Spans-wider 10 105 _ (omega arith) (Spans-two 2 8 EvictB u16_at (λ s. stamp_at) Spans-u16 (λ s. Spans-stamp)))
     (Spans-if 105 (tag == 5) (λ bytes. evict_bm_at bytes) _ (Spans-wider 12 105 _ (omega arith) (Spans-three 2 2 8 EvictBM u16_at (λ s. u16_at) stamp_at Spans-u16 (λ s. Spans-u16) Spans-stamp))
-    (Spans-if 105 (tag == 6) (λ bytes. get_at longest_blob bytes) _ (Spans-wider 68 105 _ (omega arith) (Spans-two 2 66 Get u16_at (λ s. blob_at longest_blob) Spans-u16 (λ s. Spans-blob)))
-    (Spans-if 105 (tag == 7) (λ bytes. put_at longest_blob bytes) _ (Spans-wider 68 105 _ (omega arith) (Spans-two 2 66 Put u16_at (λ s. blob_at longest_blob) Spans-u16 (λ s. Spans-blob)))
+    (Spans-if 105 (tag == 6) (λ bytes. get_at 64 bytes) _ (Spans-wider 68 105 _ (omega arith) (Spans-two 2 66 Get u16_at (λ s. blob_at 64) Spans-u16 (λ s. Spans-blob)))
+    (Spans-if 105 (tag == 7) (λ bytes. put_at 64 bytes) _ (Spans-wider 68 105 _ (omega arith) (Spans-two 2 66 Put u16_at (λ s. blob_at 64) Spans-u16 (λ s. Spans-blob)))
     (Spans-if 105 (tag == 8) (λ bytes. Ok (NextEpoch, bytes)) _ (Spans-done 105 NextEpoch)
     (Spans-if 105 (tag == 9) (λ bytes. absent_at false bytes) (λ bytes. Err Malformed) (Spans-wider 11 105 _ (omega arith) (Spans-two 9 2 Absent (path_at false) (λ p. u16_at) Spans-path (λ p. Spans-u16))) (Spans-malformed 105)))))))))
 
-pub Spans-slot_command : Spans 106 (λ bytes. slot_command_at false longest_blob bytes)
+pub Spans-slot_command : Spans 106 (λ bytes. slot_command_at false 64 bytes)
 unfolding slot_command_at
-Spans-slot_command = Spans-tagged 105 (λ tag left. slot_command_behind false longest_blob tag left) Spans-behind
+Spans-slot_command = Spans-tagged 105 (λ tag left. slot_command_behind false 64 tag left) Spans-behind
 
 -- A command that was read takes at most 106 bytes.
-pub slot_command_taken : (bytes : List ℕ) (command : SlotCommand) (rest : List ℕ) → slot_command_at false longest_blob bytes ≡ Ok (command, rest) → length bytes ≤ 106 + length rest
+pub slot_command_taken : (bytes : List ℕ) (command : SlotCommand) (rest : List ℕ) → slot_command_at false 64 bytes ≡ Ok (command, rest) → length bytes ≤ 106 + length rest
 slot_command_taken bytes command rest e = Spans-slot_command.takes bytes command rest e
 
 -- A command that is cut has fewer than 106 bytes.
-pub slot_command_cut : (bytes : List ℕ) → slot_command_at false longest_blob bytes ≡ Err Truncated → length bytes < 106
+pub slot_command_cut : (bytes : List ℕ) → slot_command_at false 64 bytes ≡ Err Truncated → length bytes < 106
 slot_command_cut bytes e = Spans-slot_command.cut bytes e
 
 -- A command's text has at most 106 bytes.
-pub slot_text_within : (command : SlotCommand) → IsSlotCommandIn false command → IsSlotCommand longest_blob command → length (slot_command_text command) ≤ 106
-slot_text_within command inside is = text_spans (slot_grammar false longest_blob) (slot_exact false longest_blob) 106 Spans-slot_command command (inside, is)
+pub slot_text_within : (command : SlotCommand) → IsSlotCommandIn false command → IsSlotCommand 64 command → length (slot_command_text command) ≤ 106
+slot_text_within command inside is = text_spans (slot_grammar false 64) (slot_exact false 64) 106 Spans-slot_command command (inside, is)

@@ -1,7 +1,5 @@
 //! Reads a command that names paths, field by field.
-ghost use Rattle.std.specs.Prelude.{false};
 ghost use Rattle.record_text.specs.Fields.{TakesInto};
-ghost use Rattle.record_text.specs.Longest.{longest_blob};
 ghost use Rattle.log_codec.specs.Command.{add_m_at, evict_m_at, add_b_at, evict_b_at, evict_bm_at, get_at, put_at, absent_at, path_command_behind, path_command_at};
 ghost use Rattle.log_codec.specs.LogCommand.{naming_paths};
 
@@ -11,13 +9,18 @@ use record_text::{Blob, Reader, TextFault, Value};
 
 // The fields of each command, behind its tag: the command goes into a place, once.
 
-fn add_m(reader: &mut Reader<'_>, place: &mut LogCommand) -> Result<(), TextFault>
-    ensures takes { TakesInto result place.new reader.new (naming_paths (add_m_at false longest_blob reader.old)) }
+fn add_m(
+    reader: &mut Reader<'_>,
+    wide: bool,
+    longest: u8,
+    place: &mut LogCommand,
+) -> Result<(), TextFault>
+    ensures takes { TakesInto result place.new reader.new (naming_paths (add_m_at wide longest reader.old)) }
 {
-    let path = reader.path()?;
+    let path = reader.path(wide)?;
     let mut value = Value::Blob(Blob::none());
-    reader.value_into(&path, &mut value)?;
-    let parent = reader.path()?;
+    reader.value_into(longest, &path, &mut value)?;
+    let parent = reader.path(wide)?;
     *place = LogCommand::ByPath(Command::AddM {
         path,
         value,
@@ -26,21 +29,26 @@ fn add_m(reader: &mut Reader<'_>, place: &mut LogCommand) -> Result<(), TextFaul
     Ok(())
 }
 
-fn evict_m(reader: &mut Reader<'_>, place: &mut LogCommand) -> Result<(), TextFault>
-    ensures takes { TakesInto result place.new reader.new (naming_paths (evict_m_at false reader.old)) }
+fn evict_m(reader: &mut Reader<'_>, wide: bool, place: &mut LogCommand) -> Result<(), TextFault>
+    ensures takes { TakesInto result place.new reader.new (naming_paths (evict_m_at wide reader.old)) }
 {
-    let path = reader.path()?;
-    let parent = reader.path()?;
+    let path = reader.path(wide)?;
+    let parent = reader.path(wide)?;
     *place = LogCommand::ByPath(Command::EvictM { path, parent });
     Ok(())
 }
 
-fn add_b(reader: &mut Reader<'_>, place: &mut LogCommand) -> Result<(), TextFault>
-    ensures takes { TakesInto result place.new reader.new (naming_paths (add_b_at false longest_blob reader.old)) }
+fn add_b(
+    reader: &mut Reader<'_>,
+    wide: bool,
+    longest: u8,
+    place: &mut LogCommand,
+) -> Result<(), TextFault>
+    ensures takes { TakesInto result place.new reader.new (naming_paths (add_b_at wide longest reader.old)) }
 {
-    let path = reader.path()?;
+    let path = reader.path(wide)?;
     let mut value = Value::Blob(Blob::none());
-    reader.value_into(&path, &mut value)?;
+    reader.value_into(longest, &path, &mut value)?;
     let stamp = reader.stamp()?;
     let verifier = reader.u16()?;
     *place = LogCommand::ByPath(Command::AddB {
@@ -52,20 +60,20 @@ fn add_b(reader: &mut Reader<'_>, place: &mut LogCommand) -> Result<(), TextFaul
     Ok(())
 }
 
-fn evict_b(reader: &mut Reader<'_>, place: &mut LogCommand) -> Result<(), TextFault>
-    ensures takes { TakesInto result place.new reader.new (naming_paths (evict_b_at false reader.old)) }
+fn evict_b(reader: &mut Reader<'_>, wide: bool, place: &mut LogCommand) -> Result<(), TextFault>
+    ensures takes { TakesInto result place.new reader.new (naming_paths (evict_b_at wide reader.old)) }
 {
-    let path = reader.path()?;
+    let path = reader.path(wide)?;
     let stamp = reader.stamp()?;
     *place = LogCommand::ByPath(Command::EvictB { path, stamp });
     Ok(())
 }
 
-fn evict_bm(reader: &mut Reader<'_>, place: &mut LogCommand) -> Result<(), TextFault>
-    ensures takes { TakesInto result place.new reader.new (naming_paths (evict_bm_at false reader.old)) }
+fn evict_bm(reader: &mut Reader<'_>, wide: bool, place: &mut LogCommand) -> Result<(), TextFault>
+    ensures takes { TakesInto result place.new reader.new (naming_paths (evict_bm_at wide reader.old)) }
 {
-    let path = reader.path()?;
-    let parent = reader.path()?;
+    let path = reader.path(wide)?;
+    let parent = reader.path(wide)?;
     let stamp = reader.stamp()?;
     *place = LogCommand::ByPath(Command::EvictBM {
         path,
@@ -75,61 +83,82 @@ fn evict_bm(reader: &mut Reader<'_>, place: &mut LogCommand) -> Result<(), TextF
     Ok(())
 }
 
-fn get(reader: &mut Reader<'_>, place: &mut LogCommand) -> Result<(), TextFault>
-    ensures takes { TakesInto result place.new reader.new (naming_paths (get_at false longest_blob reader.old)) }
+fn get(
+    reader: &mut Reader<'_>,
+    wide: bool,
+    longest: u8,
+    place: &mut LogCommand,
+) -> Result<(), TextFault>
+    ensures takes { TakesInto result place.new reader.new (naming_paths (get_at wide longest reader.old)) }
 {
-    let path = reader.path()?;
+    let path = reader.path(wide)?;
     let mut value = Value::Blob(Blob::none());
-    reader.value_into(&path, &mut value)?;
+    reader.value_into(longest, &path, &mut value)?;
     *place = LogCommand::ByPath(Command::Get { path, value });
     Ok(())
 }
 
-fn put(reader: &mut Reader<'_>, place: &mut LogCommand) -> Result<(), TextFault>
-    ensures takes { TakesInto result place.new reader.new (naming_paths (put_at false longest_blob reader.old)) }
+fn put(
+    reader: &mut Reader<'_>,
+    wide: bool,
+    longest: u8,
+    place: &mut LogCommand,
+) -> Result<(), TextFault>
+    ensures takes { TakesInto result place.new reader.new (naming_paths (put_at wide longest reader.old)) }
 {
-    let path = reader.path()?;
+    let path = reader.path(wide)?;
     let mut value = Value::Blob(Blob::none());
-    reader.value_into(&path, &mut value)?;
+    reader.value_into(longest, &path, &mut value)?;
     *place = LogCommand::ByPath(Command::Put { path, value });
     Ok(())
 }
 
-fn absent(reader: &mut Reader<'_>, place: &mut LogCommand) -> Result<(), TextFault>
-    ensures takes { TakesInto result place.new reader.new (naming_paths (absent_at false reader.old)) }
+fn absent(reader: &mut Reader<'_>, wide: bool, place: &mut LogCommand) -> Result<(), TextFault>
+    ensures takes { TakesInto result place.new reader.new (naming_paths (absent_at wide reader.old)) }
 {
-    let path = reader.path()?;
-    let parent = reader.path()?;
+    let path = reader.path(wide)?;
+    let parent = reader.path(wide)?;
     *place = LogCommand::ByPath(Command::Absent { path, parent });
     Ok(())
 }
 
 // The command of this tag.
-fn behind(reader: &mut Reader<'_>, tag: u8, place: &mut LogCommand) -> Result<(), TextFault>
-    ensures takes { TakesInto result place.new reader.new (naming_paths (path_command_behind false longest_blob tag reader.old)) }
+fn behind(
+    reader: &mut Reader<'_>,
+    wide: bool,
+    longest: u8,
+    tag: u8,
+    place: &mut LogCommand,
+) -> Result<(), TextFault>
+    ensures takes { TakesInto result place.new reader.new (naming_paths (path_command_behind wide longest tag reader.old)) }
 {
     match tag {
-        1 => add_m(reader, place),
-        2 => evict_m(reader, place),
-        3 => add_b(reader, place),
-        4 => evict_b(reader, place),
-        5 => evict_bm(reader, place),
-        6 => get(reader, place),
-        7 => put(reader, place),
+        1 => add_m(reader, wide, longest, place),
+        2 => evict_m(reader, wide, place),
+        3 => add_b(reader, wide, longest, place),
+        4 => evict_b(reader, wide, place),
+        5 => evict_bm(reader, wide, place),
+        6 => get(reader, wide, longest, place),
+        7 => put(reader, wide, longest, place),
         8 => {
             *place = LogCommand::ByPath(Command::NextEpoch);
             Ok(())
         }
-        9 => absent(reader, place),
+        9 => absent(reader, wide, place),
         _ => Err(TextFault::Malformed),
     }
 }
 
 /// A command, into a place. After a fault nothing is said of the place.
 #[tactic(auto, unfolding(crate::specs::Command::path_command_at))]
-pub(crate) fn path_command(reader: &mut Reader<'_>, place: &mut LogCommand) -> Result<(), TextFault>
-    ensures takes { TakesInto result place.new reader.new (naming_paths (path_command_at false longest_blob reader.old)) }
+pub(crate) fn path_command(
+    reader: &mut Reader<'_>,
+    wide: bool,
+    longest: u8,
+    place: &mut LogCommand,
+) -> Result<(), TextFault>
+    ensures takes { TakesInto result place.new reader.new (naming_paths (path_command_at wide longest reader.old)) }
 {
     let tag = reader.byte()?;
-    behind(reader, tag, place)
+    behind(reader, wide, longest, tag, place)
 }

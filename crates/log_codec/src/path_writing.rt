@@ -9,8 +9,8 @@ use arrayvec::ArrayVec;
 use record_text::{Value, push_path, push_stamp, push_u16, push_value};
 use tree_keys::Path;
 
-/// The most bytes of a command's text: an add of a node with two pointers, by its stamp.
-pub const LONGEST_PATH_COMMAND_TEXT: usize = 104;
+/// The most bytes of a command's text: an add of the longest data value by its parent, of paths of 128 bits.
+pub const LONGEST_PATH_COMMAND_TEXT: usize = 292;
 
 /// The text of a command: its tag, and its fields.
 pub fn write_path_command(command: &Command) -> ArrayVec<u8, LONGEST_PATH_COMMAND_TEXT>
@@ -72,7 +72,7 @@ fn tag_alone(tag: u8) -> ArrayVec<u8, LONGEST_PATH_COMMAND_TEXT>
 // A tag and a path.
 fn tagged(tag: u8, path: &Path) -> ArrayVec<u8, LONGEST_PATH_COMMAND_TEXT>
     ensures text { result.items ≡ tag ∷ path_text path.now }
-    ensures len { array_vec_len result ≡ 10 }
+    ensures len { array_vec_len result ≤ 18 }
 {
     let mut text = tag_alone(tag);
     push_path(&mut text, path);
@@ -83,7 +83,7 @@ fn tagged(tag: u8, path: &Path) -> ArrayVec<u8, LONGEST_PATH_COMMAND_TEXT>
 fn with_parent(tag: u8, path: &Path, parent: &Path) -> ArrayVec<u8, LONGEST_PATH_COMMAND_TEXT>
     ensures text { result.items
         ≡ tag ∷ path_text path.now ++ path_text parent.now }
-    ensures len { array_vec_len result ≡ 19 }
+    ensures len { array_vec_len result ≤ 35 }
 {
     let mut text = tagged(tag, path);
     push_path(&mut text, parent);
@@ -94,7 +94,7 @@ fn with_parent(tag: u8, path: &Path, parent: &Path) -> ArrayVec<u8, LONGEST_PATH
 fn with_value(tag: u8, path: &Path, value: &Value) -> ArrayVec<u8, LONGEST_PATH_COMMAND_TEXT>
     ensures text { result.items
         ≡ tag ∷ path_text path.now ++ value_text value.now }
-    ensures len { array_vec_len result ≤ 94 }
+    ensures len { array_vec_len result ≤ 275 }
 {
     let mut text = tagged(tag, path);
     push_value(&mut text, value);

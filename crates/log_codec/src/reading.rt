@@ -12,10 +12,11 @@ use crate::log_command::LogCommand;
 use crate::path_reading::path_command;
 use crate::slot_reading::slot_command;
 use lamport_clocks::Header;
-use record_text::{Reader, TextFault};
+use record_text::{Reader, TextFault, longest_of, wide_of};
 
-/// The most bytes of a command's text, whatever it names: an add of a node with two pointers, by its stamp.
-pub const LONGEST_COMMAND_TEXT: usize = 106;
+/// The most bytes of a command's text, whatever it names: an add of the longest data value by its parent, whose paths are of
+/// the tree whose keys have 128 bits.
+pub const LONGEST_COMMAND_TEXT: usize = 292;
 
 /// The command whose text these bytes of a log begin with, in a bundle with this header, and the length of its text.
 /// Others may follow it.
@@ -79,9 +80,11 @@ fn command_into(
 ) -> Result<(), TextFault>
     ensures takes { TakesInto result place.new reader.new (command_at (format_of header.now) reader.old) }
 {
+    let wide = wide_of(header);
+    let longest = longest_of(header);
     if header.names_paths() {
-        path_command(reader, place)
+        path_command(reader, wide, longest, place)
     } else {
-        slot_command(reader, place)
+        slot_command(reader, wide, longest, place)
     }
 }

@@ -1,7 +1,5 @@
 //! Reads a command that names slots, field by field.
-ghost use Rattle.std.specs.Prelude.{false};
 ghost use Rattle.record_text.specs.Fields.{TakesInto};
-ghost use Rattle.record_text.specs.Longest.{longest_blob};
 ghost use Rattle.log_codec.specs.SlotCommand.{add_m_at, evict_m_at, add_b_at, evict_b_at, evict_bm_at, get_at, put_at, absent_at, slot_command_behind, slot_command_at};
 ghost use Rattle.log_codec.specs.LogCommand.{naming_slots};
 
@@ -11,13 +9,18 @@ use record_text::{Blob, Reader, TextFault, Value};
 
 // The fields of each command, behind its tag: the command goes into a place, once.
 
-fn add_m(reader: &mut Reader<'_>, place: &mut LogCommand) -> Result<(), TextFault>
-    ensures takes { TakesInto result place.new reader.new (naming_slots (add_m_at false longest_blob reader.old)) }
+fn add_m(
+    reader: &mut Reader<'_>,
+    wide: bool,
+    longest: u8,
+    place: &mut LogCommand,
+) -> Result<(), TextFault>
+    ensures takes { TakesInto result place.new reader.new (naming_slots (add_m_at wide longest reader.old)) }
 {
     let slot = reader.u16()?;
-    let path = reader.path()?;
+    let path = reader.path(wide)?;
     let mut value = Value::Blob(Blob::none());
-    reader.value_into(&path, &mut value)?;
+    reader.value_into(longest, &path, &mut value)?;
     let parent = reader.u16()?;
     *place = LogCommand::BySlot(SlotCommand::AddM {
         slot,
@@ -37,13 +40,18 @@ fn evict_m(reader: &mut Reader<'_>, place: &mut LogCommand) -> Result<(), TextFa
     Ok(())
 }
 
-fn add_b(reader: &mut Reader<'_>, place: &mut LogCommand) -> Result<(), TextFault>
-    ensures takes { TakesInto result place.new reader.new (naming_slots (add_b_at false longest_blob reader.old)) }
+fn add_b(
+    reader: &mut Reader<'_>,
+    wide: bool,
+    longest: u8,
+    place: &mut LogCommand,
+) -> Result<(), TextFault>
+    ensures takes { TakesInto result place.new reader.new (naming_slots (add_b_at wide longest reader.old)) }
 {
     let slot = reader.u16()?;
-    let path = reader.path()?;
+    let path = reader.path(wide)?;
     let mut value = Value::Blob(Blob::none());
-    reader.value_into(&path, &mut value)?;
+    reader.value_into(longest, &path, &mut value)?;
     let stamp = reader.stamp()?;
     let verifier = reader.u16()?;
     *place = LogCommand::BySlot(SlotCommand::AddB {
@@ -79,59 +87,70 @@ fn evict_bm(reader: &mut Reader<'_>, place: &mut LogCommand) -> Result<(), TextF
     Ok(())
 }
 
-fn get(reader: &mut Reader<'_>, place: &mut LogCommand) -> Result<(), TextFault>
-    ensures takes { TakesInto result place.new reader.new (naming_slots (get_at longest_blob reader.old)) }
+fn get(reader: &mut Reader<'_>, longest: u8, place: &mut LogCommand) -> Result<(), TextFault>
+    ensures takes { TakesInto result place.new reader.new (naming_slots (get_at longest reader.old)) }
 {
     let slot = reader.u16()?;
-    let value = reader.blob()?.to_blob();
+    let value = reader.blob(longest)?.to_blob();
     *place = LogCommand::BySlot(SlotCommand::Get { slot, value });
     Ok(())
 }
 
-fn put(reader: &mut Reader<'_>, place: &mut LogCommand) -> Result<(), TextFault>
-    ensures takes { TakesInto result place.new reader.new (naming_slots (put_at longest_blob reader.old)) }
+fn put(reader: &mut Reader<'_>, longest: u8, place: &mut LogCommand) -> Result<(), TextFault>
+    ensures takes { TakesInto result place.new reader.new (naming_slots (put_at longest reader.old)) }
 {
     let slot = reader.u16()?;
-    let value = reader.blob()?.to_blob();
+    let value = reader.blob(longest)?.to_blob();
     *place = LogCommand::BySlot(SlotCommand::Put { slot, value });
     Ok(())
 }
 
-fn absent(reader: &mut Reader<'_>, place: &mut LogCommand) -> Result<(), TextFault>
-    ensures takes { TakesInto result place.new reader.new (naming_slots (absent_at false reader.old)) }
+fn absent(reader: &mut Reader<'_>, wide: bool, place: &mut LogCommand) -> Result<(), TextFault>
+    ensures takes { TakesInto result place.new reader.new (naming_slots (absent_at wide reader.old)) }
 {
-    let path = reader.path()?;
+    let path = reader.path(wide)?;
     let parent = reader.u16()?;
     *place = LogCommand::BySlot(SlotCommand::Absent { path, parent });
     Ok(())
 }
 
 // The command of this tag.
-fn behind(reader: &mut Reader<'_>, tag: u8, place: &mut LogCommand) -> Result<(), TextFault>
-    ensures takes { TakesInto result place.new reader.new (naming_slots (slot_command_behind false longest_blob tag reader.old)) }
+fn behind(
+    reader: &mut Reader<'_>,
+    wide: bool,
+    longest: u8,
+    tag: u8,
+    place: &mut LogCommand,
+) -> Result<(), TextFault>
+    ensures takes { TakesInto result place.new reader.new (naming_slots (slot_command_behind wide longest tag reader.old)) }
 {
     match tag {
-        1 => add_m(reader, place),
+        1 => add_m(reader, wide, longest, place),
         2 => evict_m(reader, place),
-        3 => add_b(reader, place),
+        3 => add_b(reader, wide, longest, place),
         4 => evict_b(reader, place),
         5 => evict_bm(reader, place),
-        6 => get(reader, place),
-        7 => put(reader, place),
+        6 => get(reader, longest, place),
+        7 => put(reader, longest, place),
         8 => {
             *place = LogCommand::BySlot(SlotCommand::NextEpoch);
             Ok(())
         }
-        9 => absent(reader, place),
+        9 => absent(reader, wide, place),
         _ => Err(TextFault::Malformed),
     }
 }
 
 /// A command, into a place. After a fault nothing is said of the place.
 #[tactic(auto, unfolding(crate::specs::SlotCommand::slot_command_at))]
-pub(crate) fn slot_command(reader: &mut Reader<'_>, place: &mut LogCommand) -> Result<(), TextFault>
-    ensures takes { TakesInto result place.new reader.new (naming_slots (slot_command_at false longest_blob reader.old)) }
+pub(crate) fn slot_command(
+    reader: &mut Reader<'_>,
+    wide: bool,
+    longest: u8,
+    place: &mut LogCommand,
+) -> Result<(), TextFault>
+    ensures takes { TakesInto result place.new reader.new (naming_slots (slot_command_at wide longest reader.old)) }
 {
     let tag = reader.byte()?;
-    behind(reader, tag, place)
+    behind(reader, wide, longest, tag, place)
 }

@@ -9,8 +9,8 @@ use arrayvec::ArrayVec;
 use record_text::{Blob, Value, push_blob, push_path, push_stamp, push_u16, push_value};
 use tree_keys::Path;
 
-/// The most bytes of a command's text: an add of a node with two pointers, by its stamp.
-pub const LONGEST_SLOT_COMMAND_TEXT: usize = 106;
+/// The most bytes of a command's text: an add of the longest data value by its stamp, at a path of 128 bits.
+pub const LONGEST_SLOT_COMMAND_TEXT: usize = 287;
 
 /// The text of a command: its tag, and its fields.
 pub fn write_slot_command(command: &SlotCommand) -> ArrayVec<u8, LONGEST_SLOT_COMMAND_TEXT>
@@ -100,7 +100,7 @@ fn with_value(
 ) -> ArrayVec<u8, LONGEST_SLOT_COMMAND_TEXT>
     ensures text { result.items
         ≡ tag ∷ slot_text slot ++ path_text path.now ++ value_text value.now }
-    ensures len { array_vec_len result ≤ 96 }
+    ensures len { array_vec_len result ≤ 277 }
 {
     let mut text = tagged(tag, slot);
     push_path(&mut text, path);

@@ -1,8 +1,7 @@
-use Rattle.record_text.specs.Longest.{longest_blob}
 use Rattle.log_codec.proofs.CommandLaws.{path_grammar}
 use Rattle.log_codec.proofs.CommandKeepsOnLaws.{path_exact}
 use Rattle.log_codec.proofs.GrammarLaws.{one_of}
 use Rattle.log_codec.proofs.path_laws.no_path_command_begins_another.Goals as goal
 
 pub returns : goal.returns
-returns c = record { one = λ wide a b x y in_a is_a in_b is_b. one_of (path_grammar wide longest_blob) (path_exact wide longest_blob) a b x y (in_a, is_a) (in_b, is_b) }
+returns c = record { one = λ wide longest a b x y in_a is_a in_b is_b. one_of (path_grammar wide longest) (path_exact wide longest) a b x y (in_a, is_a) (in_b, is_b) }

@@ -1,12 +1,11 @@
-use Rattle.record_text.specs.Longest.{longest_blob}
 use Rattle.log_codec.proofs.SlotCommandLaws.{slot_command_begins, slot_command_again}
 use Rattle.log_codec.proofs.LogLaws.{AreBytes-from_all}
 use Rattle.log_codec.proofs.slot_laws.slot_commands_are_read_as_spelled.Goals as goal
 
 pub returns : goal.returns
 returns c = record {
-  spelled = λ wide bytes command rest fits read.
-      let begins = slot_command_begins wide longest_blob bytes command rest (AreBytes-from_all bytes fits) read in
+  spelled = λ wide longest bytes command rest fits read.
+      let begins = slot_command_begins wide longest bytes command rest (AreBytes-from_all bytes fits) read in
       (begins.0.parts, begins.1.0, begins.1.1);
-  read = λ wide command rest inside is. slot_command_again wide longest_blob command rest (inside, is);
+  read = λ wide longest command rest inside is. slot_command_again wide longest command rest (inside, is);
 }
