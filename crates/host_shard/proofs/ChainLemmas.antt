@@ -2,22 +2,29 @@
 use Rattle.std.proofs.Common.{◌≡◌, ◌≢◌, ◌⊎◌, ℕ, suc, ◌+◌, ◌-◌, ◌<◌, ◌≤◌, Bool, true, false, List, [], ◌∷◌, ◌++◌, length, Option, Some, None, IsSome, refl, sym, ◌∙◌, ap, subst, inl, inr, append_assoc, append-nil, length-append, arith}
 use Rattle.std.proofs.lemmas.Bool.{false≢true}
 use Rattle.tree_keys.specs.BitsLaws.{length-bits_of}
-use Rattle.tree_keys.specs.Path.{depth, key_path, side, is_prefix, IsBelow, IsData}
+use Rattle.tree_keys.specs.Path.{depth, tree_of, key_path, side, is_prefix, IsBelow, IsData}
 use Rattle.record_text.specs.declared.value.Pointer.{Pointer}
 use Rattle.record_text.specs.declared.value.Value.{Value}
 use Rattle.record_text.specs.Value.{IsSide, IsOf}
 use Rattle.host_shard.specs.declared.link.Link.{Link}
 use Rattle.host_shard.specs.Tree.{Tree, pointer_of}
-use Rattle.host_shard.specs.Chain.{next_link, pointer_toward, last_value, end_path, IsChain}
+use Rattle.host_shard.specs.Chain.{next_link, pointer_toward, StaysInTree, last_value, end_path, IsChain}
 use Rattle.std.specs.List.{slice_get}
 use Rattle.std.proofs.lemmas.Option.{none-some, same_Some}
 use Rattle.tree_keys.proofs.SideLaws.{prefix_of_side, prefix_cases}
-use Rattle.merkle_records.proofs.KindLaws.{length-side}
+use Rattle.tree_keys.proofs.TreeLaws.{tree-in, in-prefix}
+use Rattle.merkle_records.proofs.KindLaws.{is_prefix-side, length-side}
 use Rattle.host_shard.proofs.ChainLaws.{AreOf, IsLinkOf, next_link_of, pointer_of-kind}
 
 -- the path of a key of 64 bits
 pub length_of_key : (path : List Bool) (key : ℕ) → path ≡ key_path false key → length path ≡ 65
 length_of_key path key is = ap length is ∙ ap (λ (n : ℕ). suc n) (length-bits_of 64 key)
+
+-- two paths that begin with a path and a bit more are of one tree
+one_tree : (at p k : List Bool) (on : Bool) → is_prefix (at ++ on ∷ []) p ≡ true → is_prefix (at ++ on ∷ []) k ≡ true → tree_of p ≡ tree_of k
+one_tree [] p k on first second = tree-in on p (in-prefix on (on ∷ []) p refl first) ∙ sym (tree-in on k (in-prefix on (on ∷ []) k refl second))
+one_tree (wide ∷ bits) p k on first second =
+    tree-in wide p (in-prefix wide (wide ∷ (bits ++ on ∷ [])) p refl first) ∙ sym (tree-in wide k (in-prefix wide (wide ∷ (bits ++ on ∷ [])) k refl second))
 
 -- The links from a path whose pointer toward the key is this one.
 abbrev pub IsAhead : Tree → List Bool → List Bool → Option Pointer → List Link → Type 0
@@ -90,6 +97,19 @@ begun_next longest tree key start value links at ahead link whole kinds so apart
           },
           longer,
         )
+
+-- where the key isn't reached yet, the pointer ahead leads to a path of its tree
+pub begun_tree : (tree : Tree) (key start : List Bool) (value : Value) (links : List Link) (at : List Bool) (ahead : Option Pointer)
+    → IsBegun tree key start value links at ahead → at ≢ key → StaysInTree key ahead
+begun_tree tree key start value links at ahead so apart = go (prefix_cases at key so.toward)
+  where
+    stays : (on : Bool) → side at key ≡ Some on → (pointer : Option Pointer) → IsSide at on pointer → StaysInTree key pointer
+    stays on below None kind = tt
+    stays on below (Some pointer) kind = sym (one_tree at key pointer.path on (is_prefix-side at key on below) kind.below)
+
+    go : (at ≡ key) ⊎ ((on : Bool) × (side at key ≡ Some on)) → StaysInTree key ahead
+    go (inl same) = absurd (apart same)
+    go (inr below) = stays below.0 below.1 ahead (so.kind below.0 below.1)
 
 -- at the key
 pub begun_end : (tree : Tree) (key start : List Bool) (value : Value) (links : List Link) (at : List Bool) (ahead : Option Pointer)

@@ -1,75 +1,102 @@
 -- Records by their paths, as std's ordered map has them.
-use Rattle.std.proofs.Common.{◌≡◌, ◌≢◌, ◌⊎◌, ℕ, suc, ◌<◌, ◌^◌, Bool, true, false, List, [], ◌∷◌, length, Option, Some, None, IsSome, is_some, unwrap_or, cond, if◌then◌else◌, refl, sym, ◌∙◌, ap, subst, inl, inr, arith}
+use Rattle.std.proofs.Common.{◌≡◌, ℕ, ◌/◌, ◌%◌, ◌<◌, ◌^◌, Bool, true, false, List, [], ◌∷◌, length, Option, Some, None, IsSome, is_some, unwrap_or, cond, if◌then◌else◌, refl, sym, ◌∙◌, ap, subst, arith}
 use Rattle.std.specs.Option.{option_map}
 use Rattle.std.proofs.Math.Path.{fun_ext}
 use Rattle.std.proofs.lemmas.Bool.{false≢true, true≢false}
-use Rattle.std.proofs.lemmas.Bool.Decides.{nat_tests, eqb_tells}
-use Rattle.std.specs.Ordering.{is_eq, nat_cmp, ordering_then}
+use Rattle.std.proofs.lemmas.Bool.Decides.{nat_tests}
+use Rattle.std.specs.Ordering.{is_eq, nat_cmp, bool_cmp, ordering_then}
+use Rattle.std.specs.declared.cmp.Ordering.{Ordering}
+use Rattle.std.specs.declared.cmp.Ordering.TheVariants.{Less, Equal, Greater}
 use Rattle.std.specs.Map.{lookup}
 use Rattle.std.specs.BTreeMap.{is_at}
-use Rattle.std.proofs.Math.Dec.{eqb}
 use Rattle.tree_keys.specs.Bits.{bits_of, number_of}
-use Rattle.tree_keys.specs.Path.{depth, same_path}
+use Rattle.tree_keys.specs.Path.{same_path}
 use Rattle.tree_keys.proofs.BitsLaws.{number_of-lt, bits_of-number_of}
 use Rattle.tree_keys.proofs.PathLaws.{same_path-self, same_path-true}
 use Rattle.host_shard.specs.declared.record.Record.{Record}
 use Rattle.host_shard.specs.Records.{Listed, Kept, record_at, with_kept}
 use Rattle.tree_keys.specs.contracts.path.PathOrd.TheImpl as block
 
--- two pairs of numbers are in one place of the order exactly if they are equal
-equal_pairs : (a b c d : ℕ) → a ≡ b → c ≡ d → is_eq (ordering_then (nat_cmp a b) (nat_cmp c d)) ≡ true
-equal_pairs a b c d h g = grind (arith, nat_tests)
+-- the order of the fields of two paths
+abbrev cmp_fields : ℕ → ℕ → Bool → Bool → ℕ → ℕ → ℕ → ℕ → Ordering
+cmp_fields m n s t a b c d = ordering_then (nat_cmp m n) (ordering_then (bool_cmp s t) (ordering_then (nat_cmp a b) (nat_cmp c d)))
 
-other_first : (a b c d : ℕ) → a ≢ b → is_eq (ordering_then (nat_cmp a b) (nat_cmp c d)) ≡ false
-other_first a b c d h = grind (arith, nat_tests)
+same_number : (n : ℕ) → nat_cmp n n ≡ Equal
+same_number n = grind (arith, nat_tests)
 
-other_second : (a b c d : ℕ) → c ≢ d → is_eq (ordering_then (nat_cmp a b) (nat_cmp c d)) ≡ false
-other_second a b c d h = grind (arith, nat_tests)
+same_tree : (s : Bool) (rest : Ordering) → ordering_then (bool_cmp s s) rest ≡ rest
+same_tree true rest = refl
+same_tree false rest = refl
 
--- one bit alone spells no 2
-below_two : (b : Bool) (k : List Bool) → length k ≡ 0 → 2 ≢ number_of (b ∷ k)
-below_two b k short is = absurd (omega (arith, subst (λ (n : ℕ). number_of (b ∷ k) < 2 ^ suc n) short (number_of-lt (b ∷ k)), is))
+-- each field is in one place of the order with itself
+same_fields : (m : ℕ) (s : Bool) (a c : ℕ) → is_eq (cmp_fields m m s s a a c c) ≡ true
+same_fields m s a c =
+    ap (λ (o : Ordering). is_eq (ordering_then o (ordering_then (bool_cmp s s) (ordering_then (nat_cmp a a) (nat_cmp c c))))) (same_number m)
+    ∙ ap is_eq (same_tree s (ordering_then (nat_cmp a a) (nat_cmp c c)))
+    ∙ ap (λ (o : Ordering). is_eq (ordering_then o (nat_cmp c c))) (same_number a)
+    ∙ ap is_eq (same_number c)
+
+both_equal : (first rest : Ordering) → is_eq (ordering_then first rest) ≡ true → (is_eq first ≡ true) × (is_eq rest ≡ true)
+both_equal Less rest is = absurd (false≢true is)
+both_equal Equal rest is = (refl, is)
+both_equal Greater rest is = absurd (false≢true is)
+
+equal_numbers : (a b : ℕ) → is_eq (nat_cmp a b) ≡ true → a ≡ b
+equal_numbers a b is = grind (arith, nat_tests)
+
+equal_trees : (s t : Bool) → is_eq (bool_cmp s t) ≡ true → s ≡ t
+equal_trees true true is = refl
+equal_trees true false is = absurd (false≢true is)
+equal_trees false true is = absurd (false≢true is)
+equal_trees false false is = refl
+
+-- and with no other
+equal_fields : (m n : ℕ) (s t : Bool) (a b c d : ℕ) → is_eq (cmp_fields m n s t a b c d) ≡ true → (m ≡ n) × (s ≡ t) × (a ≡ b) × (c ≡ d)
+equal_fields m n s t a b c d is =
+    let one = both_equal (nat_cmp m n) _ is in
+    let two = both_equal (bool_cmp s t) _ one.1 in
+    let three = both_equal (nat_cmp a b) (nat_cmp c d) two.1 in
+    (equal_numbers m n one.0, equal_trees s t two.0, equal_numbers a b three.0, equal_numbers c d three.1)
+
+-- no bits spell a number that isn't 0
+none_spelled : (k : List Bool) → 0 ≡ length k → 1 ≡ number_of k % 2 ^ 64 → ⊥
+none_spelled k short is =
+    let small : number_of k < 1 = subst (λ (n : ℕ). number_of k < 2 ^ n) (sym short) (number_of-lt k) in
+    omega (arith, small, is)
 
 -- lists of one length with one number are the same
 one_list : (p k : List Bool) → length p ≡ length k → number_of p ≡ number_of k → p ≡ k
 one_list p k h g = sym (bits_of-number_of p) ∙ ap (λ (n : ℕ). bits_of n (number_of p)) h ∙ ap (λ (n : ℕ). bits_of (length k) n) g ∙ bits_of-number_of k
 
+-- paths that the order has equal are the same
+told : (p k : List Bool) → is_eq (block.ghosts.cmp p k) ≡ true → p ≡ k
+told [] [] is = refl
+told [] (b ∷ k) is =
+    let same = equal_fields 0 (length k) false b 0 (number_of k / 2 ^ 64) 1 (number_of k % 2 ^ 64) is in absurd (none_spelled k same.0 same.3)
+told (a ∷ p) [] is =
+    let same = equal_fields (length p) 0 a false (number_of p / 2 ^ 64) 0 (number_of p % 2 ^ 64) 1 is in absurd (none_spelled p (sym same.0) (sym same.3))
+told (a ∷ p) (b ∷ k) is =
+    let same = equal_fields (length p) (length k) a b (number_of p / 2 ^ 64) (number_of k / 2 ^ 64) (number_of p % 2 ^ 64) (number_of k % 2 ^ 64) is in
+    let numbers : number_of p ≡ number_of k = omega (arith, same.2, same.3) in
+    let bits : p ≡ k = one_list p k same.0 numbers in
+    let tree : a ≡ b = same.1 in
+    cc
+
+itself : (p : List Bool) → is_eq (block.ghosts.cmp p p) ≡ true
+itself [] = same_fields 0 false 0 1
+itself (a ∷ p) = same_fields (length p) a (number_of p / 2 ^ 64) (number_of p % 2 ^ 64)
+
 -- the order of paths has them equal where they are the same
 pub cmp-same : (p k : List Bool) → is_eq (block.ghosts.cmp p k) ≡ same_path p k
-cmp-same [] [] = equal_pairs 0 0 2 2 refl refl
-cmp-same [] (b ∷ k) = by_length (eqb_tells 0 (length k))
+cmp-same p k = go (same_path p k) refl (is_eq (block.ghosts.cmp p k)) refl
   where
-    by_length : ((eqb 0 (length k) ≡ true) × (0 ≡ length k)) ⊎ ((eqb 0 (length k) ≡ false) × (0 ≢ length k)) → is_eq (block.ghosts.cmp [] (b ∷ k)) ≡ false
-    by_length (inl one) = other_second 0 (length k) 2 (number_of (b ∷ k)) (below_two b k (sym one.1))
-    by_length (inr two) = other_first 0 (length k) 2 (number_of (b ∷ k)) two.1
-cmp-same (a ∷ p) [] = by_length (eqb_tells (length p) 0)
-  where
-    by_length : ((eqb (length p) 0 ≡ true) × (length p ≡ 0)) ⊎ ((eqb (length p) 0 ≡ false) × (length p ≢ 0)) → is_eq (block.ghosts.cmp (a ∷ p) []) ≡ false
-    by_length (inl one) = other_second (length p) 0 (number_of (a ∷ p)) 2 (λ is. below_two a p one.1 (sym is))
-    by_length (inr two) = other_first (length p) 0 (number_of (a ∷ p)) 2 two.1
-cmp-same (a ∷ p) (b ∷ k) = go (same_path (a ∷ p) (b ∷ k)) refl
-  where
-    apart : same_path (a ∷ p) (b ∷ k) ≡ false → (a ∷ p) ≢ (b ∷ k)
-    apart is same = true≢false (sym (same_path-self (b ∷ k)) ∙ subst (λ (q : List Bool). same_path q (b ∷ k) ≡ false) same is)
+    apart : same_path p k ≡ false → p ≡ k → ⊥
+    apart is same = true≢false (sym (same_path-self k) ∙ subst (λ (q : List Bool). same_path q k ≡ false) same is)
 
-    by_number : same_path (a ∷ p) (b ∷ k) ≡ false → length p ≡ length k
-        → ((eqb (number_of (a ∷ p)) (number_of (b ∷ k)) ≡ true) × (number_of (a ∷ p) ≡ number_of (b ∷ k)))
-        ⊎ ((eqb (number_of (a ∷ p)) (number_of (b ∷ k)) ≡ false) × (number_of (a ∷ p) ≢ number_of (b ∷ k)))
-        → is_eq (block.ghosts.cmp (a ∷ p) (b ∷ k)) ≡ false
-    by_number is long (inl one) = absurd (apart is (one_list (a ∷ p) (b ∷ k) (ap (λ (n : ℕ). suc n) long) one.1))
-    by_number is long (inr two) = other_second (length p) (length k) (number_of (a ∷ p)) (number_of (b ∷ k)) two.1
-
-    by_length : same_path (a ∷ p) (b ∷ k) ≡ false
-        → ((eqb (length p) (length k) ≡ true) × (length p ≡ length k)) ⊎ ((eqb (length p) (length k) ≡ false) × (length p ≢ length k))
-        → is_eq (block.ghosts.cmp (a ∷ p) (b ∷ k)) ≡ false
-    by_length is (inl one) = by_number is one.1 (eqb_tells (number_of (a ∷ p)) (number_of (b ∷ k)))
-    by_length is (inr two) = other_first (length p) (length k) (number_of (a ∷ p)) (number_of (b ∷ k)) two.1
-
-    go : (s : Bool) → same_path (a ∷ p) (b ∷ k) ≡ s → is_eq (block.ghosts.cmp (a ∷ p) (b ∷ k)) ≡ s
-    go true is =
-        let same = same_path-true (a ∷ p) (b ∷ k) is in
-        equal_pairs (length p) (length k) (number_of (a ∷ p)) (number_of (b ∷ k)) (ap depth same) (ap number_of same)
-    go false is = by_length is (eqb_tells (length p) (length k))
+    go : (s : Bool) → same_path p k ≡ s → (o : Bool) → is_eq (block.ghosts.cmp p k) ≡ o → is_eq (block.ghosts.cmp p k) ≡ s
+    go true is o found = subst (λ (q : List Bool). is_eq (block.ghosts.cmp p q) ≡ true) (same_path-true p k is) (itself p)
+    go false is true found = absurd (apart is (told p k found))
+    go false is false found = found
 
 -- ---- what is kept of a path
 

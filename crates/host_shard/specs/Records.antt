@@ -2,8 +2,8 @@
 use Rattle.std.specs.List.{AllByRecursion}
 use Rattle.std.specs.Map.{lookup}
 use Rattle.std.specs.Option.{option_map, option_map_or}
-use Rattle.std.specs.Prelude.{◌≡◌, ℕ, ◌<◌, ◌⊎◌, Bool, List, [], ◌∷◌, Option, if◌then◌else◌}
-use Rattle.tree_keys.specs.Path.{with_numbers, same_path}
+use Rattle.std.specs.Prelude.{◌≡◌, ℕ, ◌+◌, ◌*◌, ◌^◌, ◌<◌, ◌⊎◌, Bool, true, false, List, [], ◌∷◌, Option, if◌then◌else◌}
+use Rattle.tree_keys.specs.Path.{with_fields, same_path}
 use Rattle.record_text.specs.Value.{initial_value}
 use Rattle.host_shard.specs.declared.record.Record.{Record}
 use Rattle.host_shard.specs.Tree.{Tree}
@@ -45,15 +45,23 @@ touches_in kept = λ path. option_map_or (λ r. r.touches) (kept path) 0
 abbrev pub touches_of : Listed → List Bool → ℕ
 touches_of listed = touches_in (record_at listed)
 
--- how many bits lead to a path, and the number that its bits spell
-abbrev pub numbers_of : List Bool → ℕ × ℕ
-numbers_of path = with_numbers (λ len bits. (len, bits)) path
+-- how many bits lead to a path, its tree, and the number that the bits spell
+abbrev pub numbers_of : List Bool → ℕ × Bool × ℕ
+numbers_of path = with_fields (λ len wide high low. (len, wide, high * 2 ^ 64 + low)) path
 
--- the first path stands before the second: it is shorter, or as long and of lower bits
+-- of two trees that of the shorter keys is the first, and in one tree the lower number
+abbrev pub IsLower : Bool → ℕ → Bool → ℕ → Type 0
+IsLower false a true b = Unit {0}
+IsLower true a false b = ⊥
+IsLower false a false b = a < b
+IsLower true a true b = a < b
+
+-- the first path stands before the second: it is shorter, or as long and of the first tree, or of the same tree and of lower bits
 abbrev pub IsBefore : List Bool → List Bool → Type 0
 IsBefore path other =
     ((numbers_of path).0 < (numbers_of other).0)
-    ⊎ (((numbers_of path).0 ≡ (numbers_of other).0) × ((numbers_of path).1 < (numbers_of other).1))
+    ⊎ (((numbers_of path).0 ≡ (numbers_of other).0)
+    × IsLower (numbers_of path).1 (numbers_of path).2 (numbers_of other).1 (numbers_of other).2)
 
 -- each record stands before those behind it
 abbrev pub AreInOrder : Listed → Type 0

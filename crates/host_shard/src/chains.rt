@@ -2,7 +2,7 @@
 ghost use Rattle.std.specs.Prelude.{◌≡◌, ◌↔◌, ◌≤◌, ◌<◌, true, false, length, take, vec_len, IfOk};
 ghost use Rattle.tree_keys.specs.Path.{key_path, side};
 ghost use Rattle.record_text.specs.Longest.{longest_blob};
-ghost use Rattle.host_shard.specs.Chain.{next_link, pointer_toward, last_value, end_path, known_links, ends_new, IsChain};
+ghost use Rattle.host_shard.specs.Chain.{next_link, pointer_toward, StaysInTree, last_value, end_path, known_links, ends_new, IsChain};
 ghost use Rattle.host_shard.specs.Mirrors.{IsShard, IsKeyOf};
 ghost use Rattle.host_shard.specs.Shard.{tree_of};
 ghost use Rattle.host_shard.specs.Shown.{shown};
@@ -51,6 +51,7 @@ fn toward(value: &Value, at: &Path, key: &Path) -> Option<Pointer>
 
 // The link behind a pointer.
 fn next_link(shard: &Shard, key: &Path, ahead: Option<Pointer>) -> Link
+    requires one_tree { StaysInTree key.now ahead }
     ensures value { result ≡ next_link (tree_of (shown shard.now)) key.now ahead }
 {
     let pointer = match ahead {

@@ -1,5 +1,6 @@
 //! The links of a chain.
 ghost use Rattle.std.specs.Prelude.{◌≡◌};
+ghost use Rattle.tree_keys.specs.Path.{tree_of};
 ghost use Rattle.host_shard.specs.Chain.{new_link, fork_link};
 
 use record_text::{Node, Pointer, Value, initial};
@@ -39,6 +40,7 @@ impl Link {
 
     // The node at which a key parts from a pointer that leads past it.
     pub(crate) fn fork(key: &Path, pointer: &Pointer) -> Self
+        requires one_tree { tree_of pointer.now.path ≡ tree_of key.now }
         ensures value { result ≡ fork_link key.now pointer.now }
     {
         let path = pointer.path.common(key);

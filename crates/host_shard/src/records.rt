@@ -45,7 +45,7 @@ impl Records {
         self.map.get(path)
     }
 
-    /// The records with their paths, in the order of the paths: shorter ones first, then by their bits.
+    /// The records with their paths, in the order of the paths: shorter ones first, then by their tree, then by their bits.
     pub fn iter(&self) -> Iter<'_, Path, Record>
         ensures rest { result ≡ self.now }
         ensures in_order { AreInOrder self.now }

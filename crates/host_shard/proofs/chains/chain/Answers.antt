@@ -7,7 +7,7 @@ use Rattle.host_shard.specs.Chain.{IsChain}
 use Rattle.host_shard.specs.Shard.{tree_of}
 use Rattle.host_shard.specs.Shown.{shown}
 use Rattle.host_shard.proofs.ChainLaws.{frontier_kind}
-use Rattle.host_shard.proofs.ChainLemmas.{begun_with, begun_next, next_with, begun_end, begun_few, length_of_key}
+use Rattle.host_shard.proofs.ChainLemmas.{begun_with, begun_tree, begun_next, next_with, begun_end, begun_few, length_of_key}
 use Rattle.host_shard.proofs.chains.chain.Goals as goal
 
 pub loop-end-init : goal.loop-end-init
@@ -15,6 +15,12 @@ loop-end-init c =
     begun_with longest_blob (tree_of (shown c.args.shard.now)) c.of_key-end.result c.args.shard.now.frontier c.args.shard.now.value c.in_ok-links.links.items c.toward-ahead.result
     c.in_ok-links.ensures.items c.toward-ahead.ensures.value (frontier_kind longest_blob (shown c.args.shard.now) c.requires.fits.kinds)
     (subst (λ (end : List Bool). IsBelow c.args.shard.now.frontier end) (sym c.of_key-end.ensures.bits) c.requires.own.below)
+
+pub next_link-link-requires : goal.next_link-link-requires
+next_link-link-requires c = record {
+  one_tree = begun_tree (tree_of (shown c.args.shard.now)) c.of_key-end.result c.args.shard.now.frontier c.args.shard.now.value c.loop-end.links.items c.loop-end.at c.loop-end.ahead c.loop-end.invariant
+      (λ same. true≢false (sym (c.is_same.ensures.same.1 same) ∙ c.loop-end-test.true));
+}
 
 pub loop-end-smaller : goal.loop-end-smaller
 loop-end-smaller c =
