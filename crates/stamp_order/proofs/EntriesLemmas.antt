@@ -18,7 +18,7 @@ some-mapped None value answer same is there = absurd (true≢false (sym there �
 some-mapped (Some bytes) value answer same is there = ap is_some (sym same)
 
 -- one more
-pub entries-inserted : (entries : List (ℕ × Option (List ℕ))) (key : ℕ) (value : Option (List ℕ)) → key < 2 ^ 64 → is_some value ≡ true
+pub entries-inserted : (entries : List (ℕ × Option (List ℕ))) (key : ℕ) (value : Option (List ℕ)) → key < 2 ^ 128 → is_some value ≡ true
     → AllByRecursion IsEntry entries → AllByRecursion IsEntry (insert_entry nat_cmp entries key value)
 entries-inserted [] key value within some all = ((within, some), tt)
 entries-inserted (entry ∷ entries) key value within some all =

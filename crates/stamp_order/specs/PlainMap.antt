@@ -12,7 +12,7 @@ value_at entries key = unwrap_or (lookup (is_at (nat_cmp key)) entries) None
 
 -- an entry of a key, which has a value
 abbrev pub IsEntry : ℕ × Option (List ℕ) → Type 0
-IsEntry entry = (entry.0 < 2 ^ 64) × (is_some entry.1 ≡ true)
+IsEntry entry = (entry.0 < 2 ^ 128) × (is_some entry.1 ≡ true)
 
 -- each key is below all behind it
 abbrev pub AreRising : List (ℕ × Option (List ℕ)) → Type 0

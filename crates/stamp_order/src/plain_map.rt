@@ -17,7 +17,7 @@ use std::marker::Model;
 /// see it as its entries, and read them as a function by `value_at`.
 #[derive(Drop)]
 pub struct PlainMap {
-    values: BTreeMap<u64, Blob>,
+    values: BTreeMap<u128, Blob>,
 }
 
 impl Model for PlainMap {
@@ -43,7 +43,7 @@ impl PlainMap {
     }
 
     /// Sets the value of a key, and leaves the others. For want of memory the map is as before.
-    pub fn put(&mut self, key: u64, value: Blob) -> Result<(), Memory>
+    pub fn put(&mut self, key: u128, value: Blob) -> Result<(), Memory>
         ensures ok { OnOk result (value_at self.new ≡ update nat_eq (value_at self.old) key value) }
         ensures err { OnErr result (self.new ≡ self.old) }
     {
@@ -56,7 +56,7 @@ impl PlainMap {
     }
 
     /// The value of a key.
-    pub fn get(&self, key: u64) -> Blob
+    pub fn get(&self, key: u128) -> Blob
         ensures value { result ≡ value_at self.now key }
     {
         match self.values.get(&key) {
@@ -66,7 +66,7 @@ impl PlainMap {
     }
 
     /// Each key that has a value, with it, by key in rising order. Contracts see the entries that are left.
-    pub fn entries(&self) -> Iter<'_, u64, Blob>
+    pub fn entries(&self) -> Iter<'_, u128, Blob>
         ensures list { result ≡ self.now }
         ensures rising { AreRising self.now }
         ensures valued { AllByRecursion IsEntry self.now }
