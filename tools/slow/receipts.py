@@ -1,9 +1,6 @@
 """Receipts and certificates by docs/FORMATS.md, plain and slow: what a client keeps, and how it is accepted."""
 import re
 
-from tools.slow.bundles import magic_of
-from tools.slow.known import is_known
-
 from tools.slow.script import BadScript
 from tools.slow.texts import Bytes, Fault, data_path, key_of, test, value_text, width
 from tools.slow.verifier import Event
@@ -29,7 +26,7 @@ def tagged(digests, text):
 
 
 def read_receipt(text):
-    bits = WIDTHS.get(text.number(1)) if is_known(magic_of(3)) or text.data[:1] == b"\1" else None
+    bits = WIDTHS.get(text.number(1))
     test(bits is None, "no receipt")
     moment = text.number(4), text.number(4), text.number(2), text.number(8)
     kind, key = text.number(1), text.number(bits // 8)
@@ -49,7 +46,7 @@ def read_line(digests, lines, number, word, read):
         raise BadScript(number, "Shape")
     if not re.fullmatch(rb"([0-9a-f]{2})*", words[1]):
         raise BadScript(number, "Hex")
-    text = Bytes(bytes.fromhex(words[1].decode()), longest=255 if is_known(magic_of(3)) else 64)
+    text = Bytes(bytes.fromhex(words[1].decode()), longest=255)
     try:
         said, end = read(text), text.at
         tag = text.run(TAG_BYTES)

@@ -1,17 +1,21 @@
 -- Texts of receipts and certificates, field by field.
-use Rattle.std.proofs.Common.{◌≡◌, ◌≢◌, true, false, append-nil, ℕ, ◌+◌, ◌-◌, ◌<◌, ◌≤◌, ◌^◌, Bool, List, [], ◌∷◌, ◌++◌, length, take, drop, get_or, Option, Some, refl, sym, ap, ◌∙◌, arith, length-drop, length-take, length-append}
-use Rattle.std.specs.Int.{w16, w32, w64, from_be_bytes, to_be_bytes}
-use Rattle.std.proofs.lemmas.List.{take_all}
+use Rattle.std.proofs.Common.{◌≡◌, ◌≢◌, true, false, append-nil, ℕ, ◌+◌, ◌-◌, ◌<◌, ◌≤◌, ◌^◌, Bool, List, [], ◌∷◌, ◌++◌, length, take, drop, get_or, Option, Some, Result, Ok, Err, refl, sym, ap, subst, ◌∙◌, arith, length-drop, length-take, length-append}
+use Rattle.std.specs.Int.{w16, w32, w64, byte_len, from_be_bytes, to_be_bytes}
+use Rattle.std.proofs.lemmas.List.{take_all, take_at, drop_at, take-append-drop}
 use Rattle.std.proofs.Math.Seq.{take-append_seam, drop-append_seam}
 use Rattle.record_text.specs.declared.operation.Operation.{Operation}
 use Rattle.record_text.specs.Texts.{blob_text}
 use Rattle.record_text.specs.Value.{IsBlob}
+use Rattle.record_text.specs.Tree.{word_width}
+use Rattle.record_text.specs.declared.reader.TextFault.{TextFault}
+use Rattle.record_text.specs.Fields.{Parsed, Takes}
 use Rattle.record_text.specs.Reading.{blob_at}
-use Rattle.record_text.proofs.ValueTextLaws.{blob_again}
+use Rattle.record_text.proofs.ValueTextLaws.{blob_begins, blob_again}
+use Rattle.record_text.proofs.WideWordLaws.{wide_word}
 use Rattle.record_text.proofs.FieldLaws.{Ok-is, AreBytes, AreBytes-take, AreBytes-drop, wide16, wide32, wide64}
 use Rattle.record_text.specs.Longest.{longest_blob}
 use Rattle.receipts.specs.declared.tagged_texts.Certificate.{Certificate}
-use Rattle.receipts.specs.Receipts.{IsOperation, kind_tag, receipt_text, certificate_text}
+use Rattle.receipts.specs.Receipts.{IsOperation, receipt_tag, kind_tag, receipt_text, certificate_text}
 
 -- all that is left behind so many
 pub rest-is : (n : ℕ) (bytes : List ℕ) → take (length bytes - n) (drop n bytes) ≡ drop n bytes
@@ -19,7 +23,7 @@ rest-is n bytes = take_all (length bytes - n) (drop n bytes) (omega (arith, leng
 
 -- ---- what is spelled so, field by field
 
-pub first-of : (operation : Operation) (text : List ℕ) → text ≡ receipt_text operation → get_or text 0 0 ≡ 1
+pub first-of : (operation : Operation) (text : List ℕ) → text ≡ receipt_text operation → get_or text 0 0 ≡ receipt_tag operation.wide
 unfolding receipt_text
 first-of operation text is = ap (λ (t : List ℕ). get_or t 0 0) is
 
@@ -27,9 +31,11 @@ pub kind-of : (operation : Operation) (text : List ℕ) → text ≡ receipt_tex
 unfolding receipt_text
 kind-of operation text is = ap (λ (t : List ℕ). get_or t 19 0) is
 
-pub value-of : (operation : Operation) (text : List ℕ) → text ≡ receipt_text operation → take (length text - 28) (drop 28 text) ≡ blob_text operation.value
+-- the key and the value stand behind 20 bytes
+pub behind-of : (operation : Operation) (text : List ℕ) → text ≡ receipt_text operation
+    → drop 20 text ≡ to_be_bytes (word_width operation.wide) operation.key ++ blob_text operation.value
 unfolding receipt_text
-value-of operation text is = rest-is 28 text ∙ ap (λ (t : List ℕ). drop 28 t) is
+behind-of operation text is = ap (λ (t : List ℕ). drop 20 t) is
 
 pub epoch-of : (operation : Operation) (text : List ℕ) → text ≡ receipt_text operation → IsOperation operation → from_be_bytes w32 (take 4 (drop 1 text)) ≡ operation.stamp.epoch
 unfolding receipt_text
@@ -47,34 +53,51 @@ pub index-of : (operation : Operation) (text : List ℕ) → text ≡ receipt_te
 unfolding receipt_text
 index-of operation text is fits = ap (λ (t : List ℕ). from_be_bytes w64 (take 8 (drop 11 t))) is ∙ wide64.again operation.index fits.index
 
-pub key-of : (operation : Operation) (text : List ℕ) → text ≡ receipt_text operation → IsOperation operation → from_be_bytes w64 (take 8 (drop 20 text)) ≡ operation.key
-unfolding receipt_text
-key-of operation text is fits = ap (λ (t : List ℕ). from_be_bytes w64 (take 8 (drop 20 t))) is ∙ wide64.again operation.key fits.key
+-- what stands there is long enough for the key of its tree, and begins with it
+pub key-fits : (operation : Operation) (behind : List ℕ) → behind ≡ to_be_bytes (word_width operation.wide) operation.key ++ blob_text operation.value
+    → byte_len (word_width operation.wide) ≤ length behind
+key-fits operation behind is =
+    let key : List ℕ = to_be_bytes (word_width operation.wide) operation.key in
+    omega (arith, ap length is, length-append key (blob_text operation.value), (wide_word operation.wide).len operation.key)
+
+pub key-of : (operation : Operation) (behind : List ℕ) → behind ≡ to_be_bytes (word_width operation.wide) operation.key ++ blob_text operation.value → IsOperation operation
+    → from_be_bytes (word_width operation.wide) (take (byte_len (word_width operation.wide)) behind) ≡ operation.key
+key-of operation behind is fits =
+    let width = word_width operation.wide in
+    let word = wide_word operation.wide in
+    ap (λ (bytes : List ℕ). from_be_bytes width (take (byte_len width) bytes)) is
+    ∙ (ap (from_be_bytes width) (take_at (to_be_bytes width operation.key) (blob_text operation.value) (byte_len width) (word.len operation.key))
+    ∙ word.again operation.key fits.key)
+
+pub value-of : (operation : Operation) (behind : List ℕ) → behind ≡ to_be_bytes (word_width operation.wide) operation.key ++ blob_text operation.value
+    → drop (byte_len (word_width operation.wide)) behind ≡ blob_text operation.value
+value-of operation behind is =
+    let width = word_width operation.wide in
+    ap (drop (byte_len width)) is
+    ∙ drop_at (to_be_bytes width operation.key) (blob_text operation.value) (byte_len width) ((wide_word operation.wide).len operation.key)
+
+-- of a tree that is the key's
+pub in_tree : (wide own : Bool) → Some wide ≡ Some own → wide ≡ own
+in_tree wide own same = cc
 
 -- an operation of these fields
-made : (epoch counter verifier index key : ℕ) (put : Bool) (value : Option (List ℕ)) → Operation
-made epoch counter verifier index key put value = record { stamp = record { epoch = epoch; counter = counter }; verifier = verifier; index = index; put = put; key = key; value = value }
+made : (epoch counter verifier index key : ℕ) (put wide : Bool) (value : Option (List ℕ)) → Operation
+made epoch counter verifier index key put wide value = record { stamp = record { epoch = epoch; counter = counter }; verifier = verifier; index = index; put = put; wide = wide; key = key; value = value }
 
-made-same : (e e' c c' v v' i i' k k' : ℕ) (p p' : Bool) (o o' : Option (List ℕ)) → e ≡ e' → c ≡ c' → v ≡ v' → i ≡ i' → k ≡ k' → Some p ≡ Some p' → Some o ≡ Some o' → Some (made e c v i k p o) ≡ Some (made e' c' v' i' k' p' o')
-made-same e e' c c' v v' i i' k k' p p' o o' es cs vs is ks ps os = cc
+made-same : (e e' c c' v v' i i' k k' : ℕ) (p p' w w' : Bool) (o o' : Option (List ℕ)) → e ≡ e' → c ≡ c' → v ≡ v' → i ≡ i' → k ≡ k' → Some p ≡ Some p' → Some w ≡ Some w' → Some o ≡ Some o' → Some (made e c v i k p w o) ≡ Some (made e' c' v' i' k' p' w' o')
+made-same e e' c c' v v' i i' k k' p p' w w' o o' es cs vs is ks ps ws os = cc
 
 -- so it is the one whose text it is
-pub operation-is : (operation : Operation) (epoch counter verifier index key : ℕ) (put : Bool) (value : Option (List ℕ)) → epoch ≡ operation.stamp.epoch → counter ≡ operation.stamp.counter → verifier ≡ operation.verifier → index ≡ operation.index → key ≡ operation.key → Some put ≡ Some operation.put → Some value ≡ Some operation.value
-    → (let read : Operation = record { stamp = record { epoch = epoch; counter = counter }; verifier = verifier; index = index; put = put; key = key; value = value } in Some read) ≡ Some operation
+pub operation-is : (operation : Operation) (epoch counter verifier index key : ℕ) (put wide : Bool) (value : Option (List ℕ)) → epoch ≡ operation.stamp.epoch → counter ≡ operation.stamp.counter → verifier ≡ operation.verifier → index ≡ operation.index → key ≡ operation.key → Some put ≡ Some operation.put → Some wide ≡ Some operation.wide → Some value ≡ Some operation.value
+    → (let read : Operation = record { stamp = record { epoch = epoch; counter = counter }; verifier = verifier; index = index; put = put; wide = wide; key = key; value = value } in Some read) ≡ Some operation
 unfolding made
-operation-is operation epoch counter verifier index key put value e c v i k p o =
-    made-same epoch operation.stamp.epoch counter operation.stamp.counter verifier operation.verifier index operation.index key operation.key put operation.put value operation.value e c v i k p o
+operation-is operation epoch counter verifier index key put wide value e c v i k p w o =
+    made-same epoch operation.stamp.epoch counter operation.stamp.counter verifier operation.verifier index operation.index key operation.key put operation.put wide operation.wide value operation.value e c v i k p w o
 
 -- ---- what is read is spelled so
 
-cells : (text : List ℕ) (n k : ℕ) → AreBytes text → AreBytes (take n (drop k text))
+pub cells : (text : List ℕ) (n k : ℕ) → AreBytes text → AreBytes (take n (drop k text))
 cells text n k fits = AreBytes-take n (drop k text) (AreBytes-drop k text fits)
-
--- the fields of 28 cells, one behind another
-in_fields : (text : List ℕ) → 28 ≤ length text
-    → text ≡ (((((get_or text 0 0 ∷ take 4 (drop 1 text)) ++ take 4 (drop 5 text)) ++ take 2 (drop 9 text)) ++ take 8 (drop 11 text)) ++ get_or text 19 0 ∷ take 8 (drop 20 text)) ++ drop 28 text
-in_fields (a ∷ b ∷ c ∷ d ∷ e ∷ f ∷ g ∷ h ∷ i ∷ j ∷ k ∷ l ∷ m ∷ n ∷ o ∷ p ∷ q ∷ r ∷ s ∷ t ∷ u ∷ v ∷ w ∷ x ∷ y ∷ z ∷ aa ∷ bb ∷ rest) long = refl
-in_fields text long = absurd (omega arith)
 
 piece-len : (text : List ℕ) (n k : ℕ) → k + n ≤ length text → length (take n (drop k text)) ≡ n
 piece-len text n k long = omega (arith, length-take n (drop k text), length-drop k text)
@@ -88,6 +111,11 @@ four text k n fits long is = sym (ap (to_be_bytes w32) is ∙ wide32.back (take 
 eight : (text : List ℕ) (k n : ℕ) → AreBytes text → k + 8 ≤ length text → n ≡ from_be_bytes w64 (take 8 (drop k text)) → take 8 (drop k text) ≡ to_be_bytes w64 n
 eight text k n fits long is = sym (ap (to_be_bytes w64) is ∙ wide64.back (take 8 (drop k text)) (piece-len text 8 k long) (cells text 8 k fits))
 
+-- a key's bytes
+pub key-spelled : (wide : Bool) (bytes : List ℕ) (key : ℕ) → AreBytes bytes → length bytes ≡ byte_len (word_width wide) → key ≡ from_be_bytes (word_width wide) bytes
+    → bytes ≡ to_be_bytes (word_width wide) key
+key-spelled wide bytes key fits len is = sym (ap (to_be_bytes (word_width wide)) is ∙ (wide_word wide).back bytes len fits)
+
 -- the fields of a receipt's text, joined
 joined : (first kind : ℕ) (epoch counter verifier index key value : List ℕ) → List ℕ
 joined first kind epoch counter verifier index key value = (((((first ∷ epoch) ++ counter) ++ verifier) ++ index) ++ kind ∷ key) ++ value
@@ -95,16 +123,52 @@ joined first kind epoch counter verifier index key value = (((((first ∷ epoch)
 joined-same : (first first' kind kind' : ℕ) (a a' b b' c c' d d' e e' f f' : List ℕ) → first ≡ first' → kind ≡ kind' → a ≡ a' → b ≡ b' → c ≡ c' → d ≡ d' → e ≡ e' → f ≡ f' → joined first kind a b c d e f ≡ joined first' kind' a' b' c' d' e' f'
 joined-same first first' kind kind' a a' b b' c c' d d' e e' f f' s t u v w x y z = cc
 
-pub spelled : (text : List ℕ) (operation : Operation) → 28 ≤ length text → AreBytes text → get_or text 0 0 ≡ 1
+-- the fields of 20 cells, one behind another, and a key of so many behind them
+in_fields : (text : List ℕ) (count : ℕ) → 20 ≤ length text
+    → text ≡ joined (get_or text 0 0) (get_or text 19 0) (take 4 (drop 1 text)) (take 4 (drop 5 text)) (take 2 (drop 9 text)) (take 8 (drop 11 text))
+    (take count (drop 20 text)) (drop count (drop 20 text))
+unfolding joined
+in_fields (a ∷ b ∷ c ∷ d ∷ e ∷ f ∷ g ∷ h ∷ i ∷ j ∷ k ∷ l ∷ m ∷ n ∷ o ∷ p ∷ q ∷ r ∷ s ∷ t ∷ rest) count long =
+    ap (λ (behind : List ℕ). a ∷ b ∷ c ∷ d ∷ e ∷ f ∷ g ∷ h ∷ i ∷ j ∷ k ∷ l ∷ m ∷ n ∷ o ∷ p ∷ q ∷ r ∷ s ∷ t ∷ behind) (sym (take-append-drop count rest))
+in_fields text count long = absurd (omega arith)
+
+pub spelled : (text : List ℕ) (operation : Operation) (count : ℕ) → 20 ≤ length text → AreBytes text → get_or text 0 0 ≡ receipt_tag operation.wide
     → operation.stamp.epoch ≡ from_be_bytes w32 (take 4 (drop 1 text)) → operation.stamp.counter ≡ from_be_bytes w32 (take 4 (drop 5 text))
     → operation.verifier ≡ from_be_bytes w16 (take 2 (drop 9 text)) → operation.index ≡ from_be_bytes w64 (take 8 (drop 11 text))
-    → get_or text 19 0 ≡ kind_tag operation.put → operation.key ≡ from_be_bytes w64 (take 8 (drop 20 text)) → drop 28 text ≡ blob_text operation.value
+    → get_or text 19 0 ≡ kind_tag operation.put → take count (drop 20 text) ≡ to_be_bytes (word_width operation.wide) operation.key → drop count (drop 20 text) ≡ blob_text operation.value
     → text ≡ receipt_text operation
 unfolding receipt_text joined
-spelled text operation long fits first epoch counter verifier index kind key value =
-    in_fields text long
-    ∙ joined-same _ 1 _ (kind_tag operation.put) _ (to_be_bytes w32 operation.stamp.epoch) _ (to_be_bytes w32 operation.stamp.counter) _ (to_be_bytes w16 operation.verifier) _ (to_be_bytes w64 operation.index) _ (to_be_bytes w64 operation.key) _ (blob_text operation.value)
-    first kind (four text 1 _ fits (omega arith) epoch) (four text 5 _ fits (omega arith) counter) (two text 9 _ fits (omega arith) verifier) (eight text 11 _ fits (omega arith) index) (eight text 20 _ fits (omega arith) key) value
+spelled text operation count long fits first epoch counter verifier index kind key value =
+    in_fields text count long
+    ∙ joined-same _ (receipt_tag operation.wide) _ (kind_tag operation.put) _ (to_be_bytes w32 operation.stamp.epoch) _ (to_be_bytes w32 operation.stamp.counter) _ (to_be_bytes w16 operation.verifier) _ (to_be_bytes w64 operation.index) _ (to_be_bytes (word_width operation.wide) operation.key) _ (blob_text operation.value)
+    first kind (four text 1 _ fits (omega arith) epoch) (four text 5 _ fits (omega arith) counter) (two text 9 _ fits (omega arith) verifier) (eight text 11 _ fits (omega arith) index) key value
+
+-- ---- a data value that bytes are the whole text of
+
+-- what is read of its text, with nothing behind it
+taken : {A : Type 0} (read : Result A TextFault) (left : List ℕ) (parsed : Parsed A) (value : A) → Takes read left parsed → parsed ≡ Ok (value, []) → (read ≡ Ok value) × (left ≡ [])
+taken (Ok found) left parsed value takes is =
+    let both = Ok-is (found, left) (value, []) (sym takes ∙ is) in
+    (ap (λ (p : _ × List ℕ). Ok p.0) both, ap (λ (p : _ × List ℕ). p.1) both)
+taken (Err fault) left parsed value takes is = absurd (let other = sym takes ∙ is in cc)
+
+pub blob-taken : (bytes old left : List ℕ) (read : Result (Option (List ℕ)) TextFault) (blob : Option (List ℕ)) → old ≡ bytes → Takes read left (blob_at longest_blob old)
+    → IsBlob longest_blob blob → bytes ≡ blob_text blob → (read ≡ Ok blob) × (left ≡ [])
+blob-taken bytes old left read blob all takes is spelled =
+    taken read left (blob_at longest_blob old) blob takes
+    (ap (blob_at longest_blob) (all ∙ (spelled ∙ sym (append-nil (blob_text blob)))) ∙ blob_again longest_blob blob [] is)
+
+none-left : (left : List ℕ) → length left ≤ 0 → left ≡ []
+none-left [] none = refl
+none-left (byte ∷ left) none = absurd (omega arith)
+
+-- and what is read so is spelled so
+pub blob-spelled : (bytes old left : List ℕ) (read : Result (Option (List ℕ)) TextFault) (blob : Option (List ℕ)) → AreBytes bytes → old ≡ bytes → Takes read left (blob_at longest_blob old)
+    → read ≡ Ok blob → length left ≤ 0 → bytes ≡ blob_text blob
+blob-spelled bytes old left read blob fits all takes is none =
+    let found : blob_at longest_blob old ≡ Ok (blob, left) = subst (λ (r : Result (Option (List ℕ)) TextFault). Takes r left (blob_at longest_blob old)) is takes in
+    let begins = blob_begins longest_blob bytes blob left fits (ap (blob_at longest_blob) (sym all) ∙ found) in
+    begins.0.parts ∙ (ap (λ (t : List ℕ). blob_text blob ++ t) (none-left left none) ∙ append-nil (blob_text blob))
 
 -- ---- certificates
 
@@ -140,7 +204,7 @@ certificate-epochs bytes tag first last is small_first small_last = (
 
 -- ---- a text with its tag
 
-pub text-len : (operation : Operation) → 28 ≤ length (receipt_text operation)
+pub text-len : (operation : Operation) → 20 ≤ length (receipt_text operation)
 unfolding receipt_text
 text-len operation = omega arith
 
@@ -172,21 +236,36 @@ blob-one a b is_a is_b same =
     let both = Ok-is _ _ (sym (blob_again longest_blob a [] is_a) ∙ ap (λ (t : List ℕ). blob_at longest_blob (t ++ [])) same ∙ blob_again longest_blob b [] is_b) in
     ap (λ (p : Option (List ℕ) × List ℕ). p.0) both
 
+tree-one : (a b : Bool) → receipt_tag a ≡ receipt_tag b → a ≡ b
+tree-one false false same = refl
+tree-one false true same = absurd (omega arith)
+tree-one true false same = absurd (omega arith)
+tree-one true true same = refl
+
 some-one : (a b : Operation) → Some a ≡ Some b → a ≡ b
 some-one a b same = cc
 
 pub receipts-one : (one other : Operation) → IsOperation one → IsOperation other → receipt_text one ≡ receipt_text other → one ≡ other
 receipts-one one other fits fits' same =
     let text = receipt_text one in
+    let tree : one.wide ≡ other.wide = tree-one one.wide other.wide (sym (first-of one text refl) ∙ first-of other text same) in
+    let own = behind-of one text refl in
+    let others = behind-of other text same in
     some-one one other
-    (operation-is other one.stamp.epoch one.stamp.counter one.verifier one.index one.key one.put one.value
+    (operation-is other one.stamp.epoch one.stamp.counter one.verifier one.index one.key one.put one.wide one.value
     (sym (epoch-of one text refl fits) ∙ epoch-of other text same fits')
     (sym (counter-of one text refl fits) ∙ counter-of other text same fits')
     (sym (verifier-of one text refl fits) ∙ verifier-of other text same fits')
     (sym (index-of one text refl fits) ∙ index-of other text same fits')
-    (sym (key-of one text refl fits) ∙ key-of other text same fits')
+    (sym (key-of one (drop 20 text) own fits)
+    ∙ (ap (λ (wide : Bool). from_be_bytes (word_width wide) (take (byte_len (word_width wide)) (drop 20 text))) tree
+    ∙ key-of other (drop 20 text) others fits'))
     (ap Some (kind-one one.put other.put (sym (kind-of one text refl) ∙ kind-of other text same)))
-    (ap Some (blob-one one.value other.value fits.value fits'.value (sym (value-of one text refl) ∙ value-of other text same))))
+    (ap Some tree)
+    (ap Some (blob-one one.value other.value fits.value fits'.value
+    (sym (value-of one (drop 20 text) own)
+    ∙ (ap (λ (wide : Bool). drop (byte_len (word_width wide)) (drop 20 text)) tree
+    ∙ value-of other (drop 20 text) others)))))
 
 pub certificates-one : (first last first' last' : ℕ) → first < 2 ^ 32 → last < 2 ^ 32 → first' < 2 ^ 32 → last' < 2 ^ 32 → certificate_text first last ≡ certificate_text first' last' → (first ≡ first') × (last ≡ last')
 certificates-one first last first' last' f l f' l' same =
@@ -197,7 +276,11 @@ certificates-one first last first' last' f l f' l' same =
 
 pub kinds-apart : (operation : Operation) (first last : ℕ) → receipt_text operation ≢ certificate_text first last
 kinds-apart operation first last same =
-    let one = first-of operation (certificate_text first last) (sym same) in
+    let own = first-of operation (certificate_text first last) (sym same) in
     let two = certificate-first (certificate_text first last ++ []) [] first last refl in
     let head : get_or (certificate_text first last ++ []) 0 0 ≡ get_or (certificate_text first last) 0 0 = ap (λ (t : List ℕ). get_or t 0 0) (append-nil (certificate_text first last)) in
-    omega arith
+    not_two operation.wide (sym own ∙ (sym head ∙ two))
+  where
+    not_two : (wide : Bool) → receipt_tag wide ≢ 2
+    not_two false is = omega arith
+    not_two true is = omega arith

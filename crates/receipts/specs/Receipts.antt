@@ -1,10 +1,12 @@
 -- The texts of receipts and certificates. All numbers are big-endian.
 use Rattle.std.specs.Prelude.{ℕ, ◌<◌, ◌^◌, Bool, true, false, List, ◌∷◌, ◌++◌}
 use Rattle.std.specs.Int.{w16, w32, w64, to_be_bytes}
+use Rattle.tree_keys.specs.Path.{key_bits}
 use Rattle.record_hash.specs.Functions.{DigestFunctions}
 use Rattle.record_text.specs.declared.operation.Operation.{Operation}
 use Rattle.record_text.specs.Value.{IsBlob}
 use Rattle.record_text.specs.Element.{IsStamp}
+use Rattle.record_text.specs.Tree.{word_width}
 use Rattle.record_text.specs.Texts.{stamp_text, blob_text}
 use Rattle.record_text.specs.Longest.{longest_blob}
 
@@ -13,11 +15,16 @@ abbrev pub kind_tag : Bool → ℕ
 kind_tag false = 6
 kind_tag true = 7
 
--- 1; the stamp, the verifier and the index of the command; its kind, the key, and what was got or put
+-- 1 for a key of 64 bits and 3 for one of 128
+abbrev pub receipt_tag : Bool → ℕ
+receipt_tag false = 1
+receipt_tag true = 3
+
+-- of which tree the key is; the stamp, the verifier and the index of the command; its kind, the key, and what was got or put
 unfoldable pub receipt_text : Operation → List ℕ
 receipt_text operation =
-    1 ∷ stamp_text operation.stamp ++ to_be_bytes w16 operation.verifier ++ to_be_bytes w64 operation.index
-    ++ kind_tag operation.put ∷ to_be_bytes w64 operation.key ++ blob_text operation.value
+    receipt_tag operation.wide ∷ stamp_text operation.stamp ++ to_be_bytes w16 operation.verifier ++ to_be_bytes w64 operation.index
+    ++ kind_tag operation.put ∷ to_be_bytes (word_width operation.wide) operation.key ++ blob_text operation.value
 
 -- 2; the first epoch, and the last that is certified
 unfoldable pub certificate_text : ℕ → ℕ → List ℕ
@@ -27,10 +34,10 @@ certificate_text first last = 2 ∷ to_be_bytes w32 first ++ to_be_bytes w32 las
 abbrev pub tagged : DigestFunctions → List ℕ → List ℕ
 tagged functions text = text ++ functions.tag text
 
--- the numbers have their widths, and the data value is not too long
+-- the numbers have their widths, the key that of its tree, and the data value is not too long
 pub record IsOperation (operation : Operation) : Type 0 where
   pub stamp : IsStamp operation.stamp
   pub verifier : operation.verifier < 2 ^ 16
   pub index : operation.index < 2 ^ 64
-  pub key : operation.key < 2 ^ 64
+  pub key : operation.key < 2 ^ key_bits operation.wide
   pub value : IsBlob longest_blob operation.value

@@ -1,18 +1,23 @@
 //! Receipts and certificates are issued: each is its text and the tag of the text.
 ghost use Rattle.std.specs.Prelude.{◌≡◌, ◌+◌, ◌≤◌, ◌++◌, length};
+ghost use Rattle.std.specs.Int.{to_be_bytes};
 ghost use Rattle.arrayvec.specs.ArrayVec.{array_vec_len};
-ghost use Rattle.receipts.specs.Receipts.{kind_tag, receipt_text, certificate_text, tagged};
+ghost use Rattle.record_text.specs.Tree.{word_width};
+ghost use Rattle.receipts.specs.Receipts.{receipt_tag, kind_tag, receipt_text, certificate_text, tagged};
 
 use crate::tagged_texts::TAG_LEN;
 use arrayvec::ArrayVec;
 use record_hash::Digests;
 use record_text::{OperationRef, push_blob, push_stamp, push_u16};
 
-/// The first byte of a receipt.
+/// The first byte of the receipt of a key of 64 bits.
 pub(crate) const RECEIPT: u8 = 1;
 
 /// The first byte of a certificate.
 pub(crate) const CERTIFICATE: u8 = 2;
+
+/// The first byte of the receipt of a key of 128 bits.
+pub(crate) const WIDE_RECEIPT: u8 = 3;
 
 /// The kinds of operations, as the tags of their commands.
 pub(crate) const GET: u8 = 6;
@@ -20,7 +25,7 @@ pub(crate) const GET: u8 = 6;
 pub(crate) const PUT: u8 = 7;
 
 /// The most bytes of a receipt with its tag.
-pub const LONGEST_RECEIPT: usize = 126;
+pub const LONGEST_RECEIPT: usize = 325;
 
 /// How many bytes a certificate with its tag has.
 pub const CERTIFICATE_LEN: usize = 41;
@@ -52,12 +57,12 @@ pub(crate) fn receipt_text(operation: &OperationRef) -> ArrayVec<u8, LONGEST_REC
     ensures room { array_vec_len result + TAG_LEN ≤ LONGEST_RECEIPT }
 {
     let mut text = ArrayVec::new();
-    text.push(RECEIPT);
+    text.push(receipt_tag(operation.is_wide()));
     push_stamp(&mut text, operation.stamp());
     push_u16(&mut text, operation.verifier());
     push_all(&mut text, &operation.index().to_be_bytes());
     text.push(kind_tag(operation.is_put()));
-    push_all(&mut text, &operation.key().to_be_bytes());
+    push_key(&mut text, operation.is_wide(), operation.key());
     push_blob(&mut text, operation.value());
     text
 }
@@ -75,11 +80,32 @@ pub(crate) fn certificate_text(first: u32, last: u32) -> ArrayVec<u8, CERTIFICAT
     text
 }
 
+// The first byte of the receipt of a key of this tree.
+fn receipt_tag(wide: bool) -> u8
+    ensures value { result ≡ receipt_tag wide }
+{
+    if wide { WIDE_RECEIPT } else { RECEIPT }
+}
+
 // The tag of the command of a get or a put.
 fn kind_tag(put: bool) -> u8
     ensures value { result ≡ kind_tag put }
 {
     if put { PUT } else { GET }
+}
+
+// Appends a key of a tree, in as many bytes as its keys have.
+fn push_key<const CAP: usize>(items: &mut ArrayVec<u8, CAP>, wide: bool, key: u128)
+    requires room { array_vec_len items.old + 16 ≤ CAP }
+    ensures text { items.new.items ≡ items.old.items ++ to_be_bytes (word_width wide) key }
+    ensures len { array_vec_len items.new ≤ array_vec_len items.old + 16 }
+{
+    let bytes = key.to_be_bytes();
+    if wide {
+        push_all(items, &bytes);
+    } else {
+        push_all(items, &bytes[8..]);
+    }
 }
 
 // Appends bytes that there is room for.
