@@ -9,7 +9,8 @@ use arrayvec::ArrayVec;
 use lamport_clocks::Stamp;
 use log_codec::{Command, LogCommand, SlotCommand};
 use record_text::{
-    Blob, LONGEST_ELEMENT_TEXT, Value, push_blob, push_path, push_stamp, push_u16, push_value,
+    Blob, LONGEST_ELEMENT_TEXT, LONGEST_VALUE_TEXT, Value, push_blob, push_path, push_stamp,
+    push_u16, push_value,
 };
 use tree_keys::Path;
 
@@ -176,8 +177,8 @@ fn push_element(
 
 // The text of a value that was told.
 fn push_told(text: &mut ArrayVec<u8, LONGEST_ELEMENT_TEXT>, value: &Told<'_>)
-    requires room { array_vec_len text.old + 84 ≤ LONGEST_ELEMENT_TEXT }
-    ensures len { array_vec_len text.new ≤ array_vec_len text.old + 84 }
+    requires room { array_vec_len text.old + LONGEST_VALUE_TEXT ≤ LONGEST_ELEMENT_TEXT }
+    ensures len { array_vec_len text.new ≤ array_vec_len text.old + LONGEST_VALUE_TEXT }
 {
     match value {
         Told::Value(value) => push_value(text, value),

@@ -138,11 +138,13 @@ fn place_of(kept: u8) -> Option<usize> {
     Some(usize::from(kept - 1))
 }
 
-// A hash of a path, by the golden ratio (Knuth 1973).
+// A hash of a path, by the golden ratio (Knuth 1973): of both halves of its word, of which a path of 64 bits has one.
 fn path_hash(path: &Path) -> usize
     ensures within { result < 256 }
 {
-    let spread = path.word().wrapping_mul(0x9e37_79b9_7f4a_7c15);
+    let word = path.word();
+    let folded = (word >> 64) as u64 ^ (word % (1 << 64)) as u64;
+    let spread = folded.wrapping_mul(0x9e37_79b9_7f4a_7c15);
     (((spread >> 56) + u64::from(path.len())) % 256) as usize
 }
 
