@@ -13,6 +13,6 @@ unfoldable pub key_lines : ℕ → ℕ → (ℕ → Option (List ℕ)) → List 
 key_lines from zero map = []
 key_lines from (suc count) map = key_line from (map from) ++ key_lines (from + 1) count map
 
--- those of all keys of 64 bits
+-- those of all keys
 abbrev pub map_text : (ℕ → Option (List ℕ)) → List ℕ
-map_text map = key_lines 0 (2 ^ 64) map
+map_text map = key_lines 0 (2 ^ 128) map

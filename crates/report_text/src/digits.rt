@@ -25,6 +25,16 @@ pub(crate) fn push_decimal<const ROOM: usize>(line: &mut ArrayVec<u8, ROOM>, num
     push_text(line, buffer.format(number).as_bytes());
 }
 
+/// Adds the number of a key in decimal.
+pub(crate) fn push_key<const ROOM: usize>(line: &mut ArrayVec<u8, ROOM>, key: u128)
+    requires room { array_vec_len line.old + 39 ≤ ROOM }
+    ensures appended { line.new.items ≡ line.old.items ++ decimal key }
+    ensures short { array_vec_len line.new ≤ array_vec_len line.old + 39 }
+{
+    let mut buffer = itoa::Buffer::new();
+    push_text(line, buffer.format(key).as_bytes());
+}
+
 /// Adds bytes as lower-case digits.
 pub(crate) fn push_hex<const ROOM: usize>(line: &mut ArrayVec<u8, ROOM>, bytes: &[u8])
     requires room { array_vec_len line.old + 2 * length bytes.now ≤ ROOM }

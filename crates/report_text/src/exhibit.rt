@@ -14,8 +14,8 @@ use arrayvec::ArrayVec;
 use fv_outside::{Failed, Sink, write_all};
 use record_text::{Element, Exhibit, ValueText, element_text};
 
-/// Room for the line of two texts of 84 bytes, and a little more.
-const STRINGS_ROOM: usize = 352;
+/// Room for the line of two texts of 257 bytes, and a little more.
+const STRINGS_ROOM: usize = 1056;
 
 /// Writes what an audit of so many certified epochs shows.
 pub fn write_exhibit<O: Sink>(exhibit: &Exhibit, epochs: u64, sink: &mut O) -> Result<(), Failed>

@@ -1,5 +1,5 @@
 //! The lines of a report, each made whole before it is written.
-ghost use Rattle.std.specs.Prelude.{◌≡◌, ◌+◌, ◌≤◌, ◌++◌, Some, None, OnOk, OnErr};
+ghost use Rattle.std.specs.Prelude.{◌≡◌, ◌+◌, ◌*◌, ◌≤◌, ◌++◌, Some, None, OnOk, OnErr};
 ghost use Rattle.fv_outside.specs.Faults.{Counts};
 ghost use Rattle.fv_outside.specs.Written.{Grows, GrowsByFront};
 ghost use Rattle.arrayvec.specs.ArrayVec.{array_vec_len};
@@ -7,20 +7,20 @@ ghost use Rattle.report_text.specs.Lines.{blob_words, stamp_words, command_words
 ghost use Rattle.report_text.specs.Lines as words;
 ghost use Rattle.report_text.specs.Status as statuses;
 
-use crate::digits::{push_decimal, push_hex, push_text};
+use crate::digits::{push_decimal, push_hex, push_key, push_text};
 use crate::status::Status;
 use arrayvec::ArrayVec;
 use fv_outside::{Failed, Sink, write_all};
 use lamport_clocks::Stamp;
 use receipts::{certificate, issue};
 use record_hash::Digests;
-use record_text::{BlobRef, OperationRef};
+use record_text::{BlobRef, LONGEST_BLOB, OperationRef};
 
 /// Room for the longest line but that of a receipt, and a little more.
-pub const LONGEST_LINE: usize = 224;
+pub const LONGEST_LINE: usize = 640;
 
 /// Room for the line of the longest receipt, and a little more.
-pub const RECEIPT_LINE_ROOM: usize = 264;
+pub const RECEIPT_LINE_ROOM: usize = 664;
 
 /// The head line of a certified epoch with so many operations.
 pub fn epoch_line(epoch: u32, count: u64) -> ArrayVec<u8, LONGEST_LINE>
@@ -44,7 +44,7 @@ pub fn operation_line(op: &OperationRef) -> ArrayVec<u8, LONGEST_LINE>
     push_text(&mut line, b" v");
     push_decimal(&mut line, u64::from(op.verifier()));
     push_command(&mut line, op.is_put());
-    push_decimal(&mut line, op.key());
+    push_key(&mut line, op.key());
     push_text(&mut line, b" ");
     push_blob(&mut line, op.value());
     push_text(&mut line, b"\n");
@@ -103,9 +103,9 @@ fn push_command<const ROOM: usize>(line: &mut ArrayVec<u8, ROOM>, put: bool)
 
 // Adds a data value.
 fn push_blob<const ROOM: usize>(line: &mut ArrayVec<u8, ROOM>, blob: &BlobRef)
-    requires room { array_vec_len line.old + 128 ≤ ROOM }
+    requires room { array_vec_len line.old + 2 * LONGEST_BLOB ≤ ROOM }
     ensures appended { line.new.items ≡ line.old.items ++ blob_words blob.now }
-    ensures short { array_vec_len line.new ≤ array_vec_len line.old + 128 }
+    ensures short { array_vec_len line.new ≤ array_vec_len line.old + 2 * LONGEST_BLOB }
 {
     match blob.bytes() {
         None => push_text(line, b"none"),
