@@ -6,7 +6,10 @@ ghost use Rattle.std.specs.Result.{result_ok};
 ghost use Rattle.hex.specs.Hex.{decode_of};
 ghost use Rattle.script_text.specs.Words.{begins_well, number_in, below, worker_in, key_in, is_lower_digit, is_value, value_in};
 
-use record_text::{Blob, LONGEST_BLOB};
+use record_text::Blob;
+
+// The most bytes of a data value that a line puts.
+const LONGEST_VALUE: usize = 64;
 
 /// The number of a worker, one of so many.
 pub(crate) fn worker(word: &[u8], verifiers: u16) -> Option<u16>
@@ -36,7 +39,7 @@ pub(crate) fn value(word: &[u8]) -> Option<Blob>
     if !is_value(word) {
         return None;
     }
-    let mut room = [0; LONGEST_BLOB];
+    let mut room = [0; LONGEST_VALUE];
     decode(word, &mut room[..word.len() / 2])
 }
 
@@ -73,7 +76,7 @@ fn begins_well(word: &[u8]) -> bool
 fn is_value(word: &[u8]) -> bool
     ensures value { result ≡ is_value word.now }
 {
-    if word.len() < 2 || word.len() > 2 * LONGEST_BLOB {
+    if word.len() < 2 || word.len() > 2 * LONGEST_VALUE {
         return false;
     }
     are_lower_digits(word)
@@ -96,7 +99,7 @@ fn is_lower_digit(digit: u8) -> bool
 // The data value whose bytes an even number of digits spells, by room for half as many bytes.
 fn decode(digits: &[u8], room: &mut [u8]) -> Option<Blob>
     requires half { length room.old ≡ length digits.now / 2 }
-    requires fits { length room.old ≤ LONGEST_BLOB }
+    requires fits { length room.old ≤ LONGEST_VALUE }
     ensures value { result ≡ option_map Some (result_ok (decode_of digits.now)) }
 {
     match hex::decode_to_slice(digits, room) {
