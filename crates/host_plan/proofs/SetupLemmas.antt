@@ -2,12 +2,12 @@
 use Rattle.std.proofs.Common.{◌≡◌, ◌≢◌, ◌⊎◌, ℕ, zero, suc, ◌+◌, ◌-◌, ◌*◌, ◌/◌, ◌^◌, ◌<◌, ◌≤◌, Bool, true, false, List, [], ◌∷◌, ◌++◌, length, refl, sym, ◌∙◌, ap, inl, inr, append_assoc, arith}
 use Rattle.std.proofs.Math.Nat.{pow-le-pow_right, eq-or-lt_of_le, mul-div_cancel}
 use Rattle.std.proofs.lemmas.Nat.{pow_below, pow_pos}
-use Rattle.std.proofs.lemmas.Bool.{cases_lt, true≢false}
+use Rattle.std.proofs.lemmas.Bool.{cases_lt}
 use Rattle.std.proofs.lemmas.List.{map-append}
 use Rattle.std.specs.List.{AllByRecursion}
 use Rattle.std.specs.Prelude.{map}
 use Rattle.tree_keys.specs.Bits.{number_of}
-use Rattle.tree_keys.specs.Path.{depth, tree_of, IsPath, IsNodePath, root_of, key_of, word_of}
+use Rattle.tree_keys.specs.Path.{key_bits, depth, tree_of, IsPath, IsNodePath, root_of, key_of, word_of}
 use Rattle.tree_keys.proofs.BitsLaws.{number_of-lt}
 use Rattle.tree_keys.proofs.TreeLaws.{node-path, depth-child}
 use Rattle.record_text.specs.declared.value.Value.{Value}
@@ -62,14 +62,22 @@ few_numbers (wide ∷ bits) few =
     let more : 2 ^ length bits ≤ 2 ^ 10 = pow-le-pow_right {n = 2} (omega arith) {i = length bits} {j = 10} few in
     omega arith
 
+-- how many bits of its word such a path leaves unused
+pub unused_bits : (wide : Bool) (bits len : ℕ) → bits ≡ key_bits wide → 0 < len → len ≤ 10 → (len ≤ bits) × (bits - len < 128)
+unused_bits true bits len is some few = (omega arith, omega arith)
+unused_bits false bits len is some few = (omega arith, omega arith)
+
 -- the number of a path, from its word
-pub number_in_word : (path : List Bool) (word len : ℕ) → tree_of path ≡ false → word ≡ word_of path → len ≡ depth path → word / 2 ^ (64 - len) ≡ key_of path
-number_in_word [] word len narrow is long =
-    ap (λ (w : ℕ). w / 2 ^ (64 - len)) is ∙ ap (λ (n : ℕ). 0 / 2 ^ (64 - n)) long
-number_in_word (true ∷ bits) word len narrow is long = absurd (true≢false narrow)
-number_in_word (false ∷ bits) word len narrow is long =
-    ap (λ (w : ℕ). w / 2 ^ (64 - len)) is ∙ ap (λ (n : ℕ). word_of (false ∷ bits) / 2 ^ (64 - n)) long
-    ∙ mul-div_cancel (number_of bits) {n = 2 ^ (64 - length bits)} (pow_pos (64 - length bits))
+pub number_in_word : (path : List Bool) (word bits len : ℕ) → word ≡ word_of path → bits ≡ key_bits (tree_of path) → len ≡ depth path → word / 2 ^ (bits - len) ≡ key_of path
+number_in_word path word bits len is many long =
+    ap (λ (w : ℕ). w / 2 ^ (bits - len)) is
+    ∙ ap (λ (n : ℕ). word_of path / 2 ^ (n - len)) many
+    ∙ ap (λ (n : ℕ). word_of path / 2 ^ (key_bits (tree_of path) - n)) long
+    ∙ whole path
+  where
+    whole : (p : List Bool) → word_of p / 2 ^ (key_bits (tree_of p) - depth p) ≡ key_of p
+    whole [] = refl
+    whole (wide ∷ more) = mul-div_cancel (number_of more) {n = 2 ^ (key_bits wide - length more)} (pow_pos (key_bits wide - length more))
 
 -- a number that isn't 0 is one more than the one before
 pub one_before : (n : ℕ) → n ≢ 0 → suc (n - 1) ≡ n

@@ -17,7 +17,7 @@ use lamport_clocks::{Header, Stamp};
 use log_codec::Command;
 use record_text::initial;
 use std::alloc::Global;
-use tree_keys::{KEY_BITS, Path};
+use tree_keys::{Path, key_bits};
 
 /// Sets up so many shards: what worker 0 logs, and the contents behind it, in the order of the shards.
 pub fn setup(
@@ -137,7 +137,8 @@ fn first_stamp(first: u32, frontier: &Path) -> Stamp
     requires few { depth frontier.now ≤ 10 }
     ensures value { result ≡ first_stamp first frontier.now }
 {
-    let number = frontier.word() >> (KEY_BITS - frontier.len());
+    let unused = key_bits(frontier.is_wide()) - frontier.len();
+    let number = frontier.word() >> unused;
     Stamp {
         epoch: first,
         counter: number as u32 + 1,
