@@ -9,7 +9,7 @@ use free_numbers::FreeNumbers;
 use lamport_clocks::{Header, Stamp};
 use log_codec::{Command, SlotCommand};
 use path_index::{Index, Mark, search_uncounted};
-use record_text::{Blob, Value};
+use record_text::{Blob, Value, wide_of};
 use std::alloc::Global;
 use std::marker::Model;
 use tree_keys::Path;
@@ -44,7 +44,7 @@ impl Slots {
     {
         let mut slots = Slots::empty(alloc, header.cache)?;
         if number == 0 {
-            slots.take(&Path::root());
+            slots.take(&Path::root_of(wide_of(header)));
         }
         Ok(slots)
     }
