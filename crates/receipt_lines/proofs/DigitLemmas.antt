@@ -3,6 +3,7 @@ use Rattle.std.proofs.Common.{◌≡◌, ℕ, ◌*◌, ◌/◌, ◌%◌, ◌<◌
 use Rattle.std.specs.List.{list_all}
 use Rattle.std.specs.Option.{option_and_then}
 use Rattle.std.specs.Result.{result_ok}
+use Rattle.std.specs.Int.{byte_len, to_be_bytes}
 use Rattle.record_text.specs.Longest.{longest_blob}
 use Rattle.hex.specs.Hex.{decode_of, decode_pairs, decode_sized}
 use Rattle.hex.specs.declared.error.FromHexError.{FromHexError}
@@ -10,6 +11,9 @@ use Rattle.hex.specs.declared.error.FromHexError.TheVariants.{OddLength, Invalid
 use Rattle.hex.proofs.HexLemmas.{decode_of-ok}
 use Rattle.record_text.specs.declared.operation.Operation.{Operation}
 use Rattle.record_text.specs.Value.{IsBlob}
+use Rattle.record_text.specs.Tree.{word_width}
+use Rattle.record_text.specs.Texts.{blob_text}
+use Rattle.record_text.proofs.WideWordLaws.{wide_word}
 use Rattle.record_text.proofs.FieldLaws.{AreBytes}
 use Rattle.script_text.specs.Words.{is_lower_digit}
 use Rattle.receipts.specs.declared.tagged_texts.Receipt.{Receipt}
@@ -73,29 +77,44 @@ bytes_in-bytes digits bytes is = go (list_all is_lower_digit digits) is where
   go false e = absurd (cc)
 
 -- more digits than those of a receipt spell more bytes
-pub bytes_in-long : (digits : List ℕ) → 252 < length digits → IfSome (bytes_in digits) (λ bytes. 126 < length bytes)
+pub bytes_in-long : (digits : List ℕ) → 650 < length digits → IfSome (bytes_in digits) (λ bytes. 325 < length bytes)
 bytes_in-long digits long = go (bytes_in digits) refl where
-  go : (found : Option (List ℕ)) → bytes_in digits ≡ found → IfSome found (λ bytes. 126 < length bytes)
+  go : (found : Option (List ℕ)) → bytes_in digits ≡ found → IfSome found (λ bytes. 325 < length bytes)
   go None is = tt
   go (Some bytes) is = omega (arith, long, (bytes_in-bytes digits bytes is).1)
 
-pub if-missing : (found : Option (List ℕ)) → found ≡ None → IfSome found (λ bytes. 126 < length bytes)
+pub if-missing : (found : Option (List ℕ)) → found ≡ None → IfSome found (λ bytes. 325 < length bytes)
 if-missing None is = tt
 if-missing (Some bytes) is = absurd (cc)
 
 -- ---- receipts
 
 -- the most bytes of a text, with its tag
-receipt-short : (receipt : Receipt) → IsReceipt receipt → length (receipt_text receipt.operation ++ receipt.tag) ≤ 126
+receipt-short : (receipt : Receipt) → IsReceipt receipt → length (receipt_text receipt.operation ++ receipt.tag) ≤ 325
 unfolding receipt_text
 receipt-short receipt is =
-    omega (arith, length-append (receipt_text receipt.operation) receipt.tag, is.1, text_short receipt.operation.value is.0.value) where
-      text_short : (value : Option (List ℕ)) → IsBlob longest_blob value → length (receipt_text (record receipt.operation { value = value })) ≤ 94
-      text_short None fits = omega arith
-      text_short (Some bytes) fits = omega (arith, fits)
+    let width = word_width receipt.operation.wide in
+    let key : length (to_be_bytes width receipt.operation.key) ≡ byte_len width = (wide_word receipt.operation.wide).len receipt.operation.key in
+    omega (
+      arith,
+      length-append (receipt_text receipt.operation) receipt.tag,
+      is.1,
+      length-append (to_be_bytes width receipt.operation.key) (blob_text receipt.operation.value),
+      key,
+      key_short receipt.operation.wide,
+      blob_short receipt.operation.value is.0.value,
+    )
+  where
+    key_short : (wide : Bool) → byte_len (word_width wide) ≤ 16
+    key_short false = omega arith
+    key_short true = omega arith
+
+    blob_short : (value : Option (List ℕ)) → IsBlob longest_blob value → length (blob_text value) ≤ 257
+    blob_short None fits = omega arith
+    blob_short (Some bytes) fits = omega (arith, fits)
 
 -- nothing longer is read
-receipt-long : (bytes : List ℕ) → AreBytes bytes → 126 < length bytes → whole (receipt_at bytes) ≡ None
+receipt-long : (bytes : List ℕ) → AreBytes bytes → 325 < length bytes → whole (receipt_at bytes) ≡ None
 receipt-long bytes fits long = go (whole (receipt_at bytes)) refl where
   go : (found : Option Receipt) → whole (receipt_at bytes) ≡ found → found ≡ None
   go None is = refl
@@ -104,10 +123,10 @@ receipt-long bytes fits long = go (whole (receipt_at bytes)) refl where
       absurd (omega (arith, long, ap length spelled.0, receipt-short receipt spelled.1))
 
 -- the digits spell no bytes, or too many
-pub receipt_in-missing : (digits : List ℕ) → IfSome (bytes_in digits) (λ bytes. 126 < length bytes) → receipt_in digits ≡ None
+pub receipt_in-missing : (digits : List ℕ) → IfSome (bytes_in digits) (λ bytes. 325 < length bytes) → receipt_in digits ≡ None
 unfolding receipt_in
 receipt_in-missing digits missing = go (bytes_in digits) refl missing where
-  go : (found : Option (List ℕ)) → bytes_in digits ≡ found → IfSome found (λ bytes. 126 < length bytes) → option_and_then (λ bytes. whole (receipt_at bytes)) found ≡ None
+  go : (found : Option (List ℕ)) → bytes_in digits ≡ found → IfSome found (λ bytes. 325 < length bytes) → option_and_then (λ bytes. whole (receipt_at bytes)) found ≡ None
   go None is long = refl
   go (Some bytes) is long = receipt-long bytes (bytes_in-bytes digits bytes is).0 long
 
@@ -132,11 +151,11 @@ receipt_in-found digits bytes found is spelled fits only =
 
 -- ---- certificates
 
-certificate-short : (certificate : Certificate) → IsCertificate certificate → length (certificate_text certificate.first certificate.last ++ certificate.tag) ≤ 126
+certificate-short : (certificate : Certificate) → IsCertificate certificate → length (certificate_text certificate.first certificate.last ++ certificate.tag) ≤ 325
 unfolding certificate_text
 certificate-short certificate is = omega (arith, length-append (certificate_text certificate.first certificate.last) certificate.tag, is.2)
 
-certificate-long : (bytes : List ℕ) → AreBytes bytes → 126 < length bytes → whole (certificate_at bytes) ≡ None
+certificate-long : (bytes : List ℕ) → AreBytes bytes → 325 < length bytes → whole (certificate_at bytes) ≡ None
 certificate-long bytes fits long = go (whole (certificate_at bytes)) refl where
   go : (found : Option Certificate) → whole (certificate_at bytes) ≡ found → found ≡ None
   go None is = refl
@@ -144,10 +163,10 @@ certificate-long bytes fits long = go (whole (certificate_at bytes)) refl where
       let spelled = certificate-spelled bytes certificate fits is in
       absurd (omega (arith, long, ap length spelled.0, certificate-short certificate spelled.1))
 
-pub certificate_in-missing : (digits : List ℕ) → IfSome (bytes_in digits) (λ bytes. 126 < length bytes) → certificate_in digits ≡ None
+pub certificate_in-missing : (digits : List ℕ) → IfSome (bytes_in digits) (λ bytes. 325 < length bytes) → certificate_in digits ≡ None
 unfolding certificate_in
 certificate_in-missing digits missing = go (bytes_in digits) refl missing where
-  go : (found : Option (List ℕ)) → bytes_in digits ≡ found → IfSome found (λ bytes. 126 < length bytes) → option_and_then (λ bytes. whole (certificate_at bytes)) found ≡ None
+  go : (found : Option (List ℕ)) → bytes_in digits ≡ found → IfSome found (λ bytes. 325 < length bytes) → option_and_then (λ bytes. whole (certificate_at bytes)) found ≡ None
   go None is long = refl
   go (Some bytes) is long = certificate-long bytes (bytes_in-bytes digits bytes is).0 long
 

@@ -3,6 +3,7 @@ use Rattle.std.proofs.Common.{◌≡◌, ℕ, ◌<◌, ◌^◌, Bool, true, fals
 use Rattle.std.specs.Int.{w16, w32, w64, to_be_bytes}
 use Rattle.std.proofs.lemmas.Bool.{eqb-true}
 use Rattle.lamport_clocks.specs.declared.stamp.Stamp.{Stamp}
+use Rattle.tree_keys.specs.Path.{key_bits}
 use Rattle.record_text.specs.Value.{IsBlob}
 use Rattle.record_text.specs.Element.{IsStamp}
 use Rattle.record_text.specs.Texts.{stamp_text, blob_text}
@@ -12,10 +13,12 @@ use Rattle.record_text.proofs.FieldLaws.{AreBytes, Begins, Begins-then, wide64, 
 use Rattle.record_text.proofs.ValueTextLaws.{blob_begins, blob_again}
 use Rattle.record_text.proofs.ElementTextLaws.{u16_begins, u16_again, u32_begins, u32_again, stamp_begins, stamp_again}
 use Rattle.record_text.specs.Longest.{longest_blob}
+use Rattle.record_text.specs.Tree.{word_width}
+use Rattle.record_text.proofs.WideWordLaws.{wide_word}
 use Rattle.receipts.specs.declared.tagged_texts.Receipt.{Receipt}
 use Rattle.receipts.specs.declared.tagged_texts.Certificate.{Certificate}
-use Rattle.receipts.specs.Receipts.{IsOperation, kind_tag, receipt_text, certificate_text}
-use Rattle.receipt_lines.specs.Tagged.{mark_in, kind_in, u64_at, moment_at, access_at, receipt_at, certificate_at, whole}
+use Rattle.receipts.specs.Receipts.{IsOperation, receipt_tag, kind_tag, receipt_text, certificate_text}
+use Rattle.receipt_lines.specs.Tagged.{mark_in, tree_in, kind_in, u64_at, key_at, moment_at, access_at, receipt_at, certificate_at, whole}
 
 -- ---- single fields
 
@@ -29,6 +32,16 @@ mark_byte mark b found e =
     elim (tested (eqb b mark) (Some tt) None found e) [
       | inl h ↦ eqb-true b mark h.0
       | inr h ↦ absurd (cc (h.1))
+    ]
+
+tree_byte : (b : ℕ) (wide : Bool) → tree_in (b ∷ []) ≡ Some wide → b ≡ receipt_tag wide
+tree_byte b wide e =
+    elim (tested (eqb b 1) (Some false) (cond (eqb b 3) (Some true) None) wide e) [
+      | inl h ↦ let is : false ≡ wide = cc (h.1) in eqb-true b 1 h.0 ∙ ap receipt_tag is
+      | inr h ↦ elim (tested (eqb b 3) (Some true) None wide h.1) [
+        | inl k ↦ let is : true ≡ wide = cc (k.1) in eqb-true b 3 k.0 ∙ ap receipt_tag is
+        | inr k ↦ absurd (cc (k.1))
+      ]
     ]
 
 kind_byte : (b : ℕ) (put : Bool) → kind_in (b ∷ []) ≡ Some put → b ≡ kind_tag put
@@ -46,6 +59,15 @@ mark_begins mark bytes found rest fits e =
     let first = byte_field_begins (mark_in mark) bytes found rest fits e in
     subst (λ (n : ℕ). Begins bytes (n ∷ []) rest) (mark_byte mark first.0 found first.2) first.1
 
+tree_begins : (bytes : List ℕ) (wide : Bool) (rest : List ℕ) → AreBytes bytes → field 1 tree_in bytes ≡ Ok (wide, rest) → Begins bytes (receipt_tag wide ∷ []) rest
+tree_begins bytes wide rest fits e =
+    let first = byte_field_begins tree_in bytes wide rest fits e in
+    subst (λ (n : ℕ). Begins bytes (n ∷ []) rest) (tree_byte first.0 wide first.2) first.1
+
+tree_again : (wide : Bool) (rest : List ℕ) → field 1 tree_in (receipt_tag wide ∷ rest) ≡ Ok (wide, rest)
+tree_again false rest = field_again 1 tree_in (1 ∷ []) rest false refl refl
+tree_again true rest = field_again 1 tree_in (3 ∷ []) rest true refl refl
+
 kind_begins : (bytes : List ℕ) (put : Bool) (rest : List ℕ) → AreBytes bytes → field 1 kind_in bytes ≡ Ok (put, rest) → Begins bytes (kind_tag put ∷ []) rest
 kind_begins bytes put rest fits e =
     let first = byte_field_begins kind_in bytes put rest fits e in
@@ -62,6 +84,14 @@ u64_begins bytes n rest fits e = number_begins w64 (2 ^ 64) wide64 bytes n rest 
 u64_again : (n : ℕ) (rest : List ℕ) → n < 2 ^ 64 → u64_at (to_be_bytes w64 n ++ rest) ≡ Ok (n, rest)
 unfolding u64_at
 u64_again n rest lt = number_again w64 (2 ^ 64) wide64 n rest lt
+
+key_begins : (wide : Bool) (bytes : List ℕ) (key : ℕ) (rest : List ℕ) → AreBytes bytes → key_at wide bytes ≡ Ok (key, rest) → Begins bytes (to_be_bytes (word_width wide) key) rest × (key < 2 ^ key_bits wide)
+unfolding key_at
+key_begins wide bytes key rest fits e = number_begins (word_width wide) (2 ^ key_bits wide) (wide_word wide) bytes key rest fits e
+
+key_again : (wide : Bool) (key : ℕ) (rest : List ℕ) → key < 2 ^ key_bits wide → key_at wide (to_be_bytes (word_width wide) key ++ rest) ≡ Ok (key, rest)
+unfolding key_at
+key_again wide key rest lt = number_again (word_width wide) (2 ^ key_bits wide) (wide_word wide) key rest lt
 
 run_begins : (n : ℕ) (bytes run rest : List ℕ) → AreBytes bytes → run_at n bytes ≡ Ok (run, rest) → Begins bytes run rest × (length run ≡ n)
 run_begins n bytes run rest fits e =
@@ -112,49 +142,49 @@ moment_again moment rest is =
     ∙ ap (λ (r : Parsed ℕ). r >>= λ verifier. u64_at verifier.1 >>= λ index. Ok ((moment.0, verifier.0, index.0), index.1)) (u16_again moment.1 (index ++ rest) is.1)
     ∙ ap (λ (r : Parsed ℕ). r >>= λ index. Ok ((moment.0, moment.1, index.0), index.1)) (u64_again moment.2 rest is.2)
 
--- ---- whether it is a put, of which key, and with which data value
+-- ---- whether it is a put, of which key of a tree, and with which data value
 
 abbrev Access : Type 0
 Access = Bool × ℕ × Option (List ℕ)
 
-abbrev access_text : Access → List ℕ
-access_text access = (kind_tag access.0 ∷ to_be_bytes w64 access.1) ++ blob_text access.2
+abbrev access_text : Bool → Access → List ℕ
+access_text wide access = (kind_tag access.0 ∷ to_be_bytes (word_width wide) access.1) ++ blob_text access.2
 
-abbrev IsAccess : Access → Type 0
-IsAccess access = (access.1 < 2 ^ 64) × IsBlob longest_blob access.2
+abbrev IsAccess : Bool → Access → Type 0
+IsAccess wide access = (access.1 < 2 ^ key_bits wide) × IsBlob longest_blob access.2
 
-access_begins : (bytes : List ℕ) (access : Access) (rest : List ℕ) → AreBytes bytes → access_at bytes ≡ Ok (access, rest)
-    → Begins bytes (access_text access) rest × IsAccess access
+access_begins : (wide : Bool) (bytes : List ℕ) (access : Access) (rest : List ℕ) → AreBytes bytes → access_at wide bytes ≡ Ok (access, rest)
+    → Begins bytes (access_text wide access) rest × IsAccess wide access
 unfolding access_at
-access_begins bytes access rest fits e =
-    let a = bind_ok (field 1 kind_in bytes) (λ put. u64_at put.1 >>= λ key. blob_at longest_blob key.1 >>= λ value. Ok ((put.0, key.0, value.0), value.1)) (access, rest) e in
-    let b = bind_ok (u64_at a.0.1) (λ key. blob_at longest_blob key.1 >>= λ value. Ok ((a.0.0, key.0, value.0), value.1)) (access, rest) a.2 in
+access_begins wide bytes access rest fits e =
+    let a = bind_ok (field 1 kind_in bytes) (λ put. key_at wide put.1 >>= λ key. blob_at longest_blob key.1 >>= λ value. Ok ((put.0, key.0, value.0), value.1)) (access, rest) e in
+    let b = bind_ok (key_at wide a.0.1) (λ key. blob_at longest_blob key.1 >>= λ value. Ok ((a.0.0, key.0, value.0), value.1)) (access, rest) a.2 in
     let c = bind_ok (blob_at longest_blob b.0.1) (λ value. Ok ((a.0.0, b.0.0, value.0), value.1)) (access, rest) b.2 in
     let first = kind_begins bytes a.0.0 a.0.1 fits a.1 in
-    let second = u64_begins a.0.1 b.0.0 b.0.1 first.rest_fits b.1 in
+    let second = key_begins wide a.0.1 b.0.0 b.0.1 first.rest_fits b.1 in
     let third = blob_begins longest_blob b.0.1 c.0.0 c.0.1 second.0.rest_fits c.1 in
-    let two = Begins-then bytes (kind_tag a.0.0 ∷ []) a.0.1 (to_be_bytes w64 b.0.0) b.0.1 first second.0 in
-    let three = Begins-then bytes (kind_tag a.0.0 ∷ to_be_bytes w64 b.0.0) b.0.1 (blob_text c.0.0) c.0.1 two third.0 in
+    let two = Begins-then bytes (kind_tag a.0.0 ∷ []) a.0.1 (to_be_bytes (word_width wide) b.0.0) b.0.1 first second.0 in
+    let three = Begins-then bytes (kind_tag a.0.0 ∷ to_be_bytes (word_width wide) b.0.0) b.0.1 (blob_text c.0.0) c.0.1 two third.0 in
     let made : Access = (a.0.0, b.0.0, c.0.0) in
-    let P : Access × List ℕ → Type 0 = λ x. Begins bytes (access_text x.0) x.1 × IsAccess x.0 in
+    let P : Access × List ℕ → Type 0 = λ x. Begins bytes (access_text wide x.0) x.1 × IsAccess wide x.0 in
     subst P {x = (made, c.0.1)} (Ok-is (made, c.0.1) (access, rest) c.2) (three, (second.1, third.1))
 
-access_again : (access : Access) (rest : List ℕ) → IsAccess access → access_at (access_text access ++ rest) ≡ Ok (access, rest)
+access_again : (wide : Bool) (access : Access) (rest : List ℕ) → IsAccess wide access → access_at wide (access_text wide access ++ rest) ≡ Ok (access, rest)
 unfolding access_at
-access_again access rest is =
-    let key : List ℕ = to_be_bytes w64 access.1 in
+access_again wide access rest is =
+    let key : List ℕ = to_be_bytes (word_width wide) access.1 in
     let value : List ℕ = blob_text access.2 in
     let regrouped : ((kind_tag access.0 ∷ key) ++ value) ++ rest ≡ kind_tag access.0 ∷ (key ++ (value ++ rest)) = append_assoc (kind_tag access.0 ∷ key) value rest in
-    ap (λ (bytes : List ℕ). field 1 kind_in bytes >>= λ put. u64_at put.1 >>= λ key. blob_at longest_blob key.1 >>= λ value. Ok ((put.0, key.0, value.0), value.1)) regrouped
-    ∙ ap (λ (r : Parsed Bool). r >>= λ put. u64_at put.1 >>= λ key. blob_at longest_blob key.1 >>= λ value. Ok ((put.0, key.0, value.0), value.1)) (kind_again access.0 (key ++ (value ++ rest)))
-    ∙ ap (λ (r : Parsed ℕ). r >>= λ key. blob_at longest_blob key.1 >>= λ value. Ok ((access.0, key.0, value.0), value.1)) (u64_again access.1 (value ++ rest) is.0)
+    ap (λ (bytes : List ℕ). field 1 kind_in bytes >>= λ put. key_at wide put.1 >>= λ key. blob_at longest_blob key.1 >>= λ value. Ok ((put.0, key.0, value.0), value.1)) regrouped
+    ∙ ap (λ (r : Parsed Bool). r >>= λ put. key_at wide put.1 >>= λ key. blob_at longest_blob key.1 >>= λ value. Ok ((put.0, key.0, value.0), value.1)) (kind_again access.0 (key ++ (value ++ rest)))
+    ∙ ap (λ (r : Parsed ℕ). r >>= λ key. blob_at longest_blob key.1 >>= λ value. Ok ((access.0, key.0, value.0), value.1)) (key_again wide access.1 (value ++ rest) is.0)
     ∙ ap (λ (r : Parsed (Option (List ℕ))). r >>= λ value. Ok ((access.0, access.1, value.0), value.1)) (blob_again longest_blob access.2 rest is.1)
 
 -- ---- receipts
 
-abbrev receipt_of : Moment → Access → List ℕ → Receipt
-receipt_of moment access tag = record {
-  operation = record { stamp = moment.0; verifier = moment.1; index = moment.2; put = access.0; key = access.1; value = access.2 };
+abbrev receipt_of : Bool → Moment → Access → List ℕ → Receipt
+receipt_of wide moment access tag = record {
+  operation = record { stamp = moment.0; verifier = moment.1; index = moment.2; put = access.0; wide = wide; key = access.1; value = access.2 };
   tag = tag;
 }
 
@@ -162,52 +192,52 @@ receipt_of moment access tag = record {
 abbrev pub IsReceipt : Receipt → Type 0
 IsReceipt receipt = IsOperation receipt.operation × (length receipt.tag ≡ 32)
 
-text_in_parts : (moment : Moment) (access : Access) → receipt_text (receipt_of moment access []).operation ≡ 1 ∷ (moment_text moment ++ access_text access)
+text_in_parts : (wide : Bool) (moment : Moment) (access : Access) → receipt_text (receipt_of wide moment access []).operation ≡ receipt_tag wide ∷ (moment_text moment ++ access_text wide access)
 unfolding receipt_text
-text_in_parts moment access = ap (λ (text : List ℕ). 1 ∷ text) (append_assoc (moment_text moment) (kind_tag access.0 ∷ to_be_bytes w64 access.1) (blob_text access.2))
+text_in_parts wide moment access = ap (λ (text : List ℕ). receipt_tag wide ∷ text) (append_assoc (moment_text moment) (kind_tag access.0 ∷ to_be_bytes (word_width wide) access.1) (blob_text access.2))
 
-receipt_joined : (bytes : List ℕ) (moment : Moment) (access : Access) (tag rest : List ℕ) → Begins bytes ((1 ∷ (moment_text moment ++ access_text access)) ++ tag) rest
-    → Begins bytes (receipt_text (receipt_of moment access tag).operation ++ tag) rest
-receipt_joined bytes moment access tag rest begins =
-    subst (λ (text : List ℕ). Begins bytes (text ++ tag) rest) (sym (text_in_parts moment access)) begins
+receipt_joined : (bytes : List ℕ) (wide : Bool) (moment : Moment) (access : Access) (tag rest : List ℕ) → Begins bytes ((receipt_tag wide ∷ (moment_text moment ++ access_text wide access)) ++ tag) rest
+    → Begins bytes (receipt_text (receipt_of wide moment access tag).operation ++ tag) rest
+receipt_joined bytes wide moment access tag rest begins =
+    subst (λ (text : List ℕ). Begins bytes (text ++ tag) rest) (sym (text_in_parts wide moment access)) begins
 
 receipt_begins : (bytes : List ℕ) (receipt : Receipt) (rest : List ℕ) → AreBytes bytes → receipt_at bytes ≡ Ok (receipt, rest)
     → Begins bytes (receipt_text receipt.operation ++ receipt.tag) rest × IsReceipt receipt
 unfolding receipt_at
 receipt_begins bytes receipt rest fits e =
-    let a = bind_ok (field 1 (mark_in 1) bytes) (λ mark. moment_at mark.1 >>= λ moment. access_at moment.1 >>= λ access. run_at 32 access.1 >>= λ tag. Ok (receipt_of moment.0 access.0 tag.0, tag.1)) (receipt, rest) e in
-    let b = bind_ok (moment_at a.0.1) (λ moment. access_at moment.1 >>= λ access. run_at 32 access.1 >>= λ tag. Ok (receipt_of moment.0 access.0 tag.0, tag.1)) (receipt, rest) a.2 in
-    let c = bind_ok (access_at b.0.1) (λ access. run_at 32 access.1 >>= λ tag. Ok (receipt_of b.0.0 access.0 tag.0, tag.1)) (receipt, rest) b.2 in
-    let d = bind_ok (run_at 32 c.0.1) (λ tag. Ok (receipt_of b.0.0 c.0.0 tag.0, tag.1)) (receipt, rest) c.2 in
-    let first = mark_begins 1 bytes a.0.0 a.0.1 fits a.1 in
+    let a = bind_ok (field 1 tree_in bytes) (λ wide. moment_at wide.1 >>= λ moment. access_at wide.0 moment.1 >>= λ access. run_at 32 access.1 >>= λ tag. Ok (receipt_of wide.0 moment.0 access.0 tag.0, tag.1)) (receipt, rest) e in
+    let b = bind_ok (moment_at a.0.1) (λ moment. access_at a.0.0 moment.1 >>= λ access. run_at 32 access.1 >>= λ tag. Ok (receipt_of a.0.0 moment.0 access.0 tag.0, tag.1)) (receipt, rest) a.2 in
+    let c = bind_ok (access_at a.0.0 b.0.1) (λ access. run_at 32 access.1 >>= λ tag. Ok (receipt_of a.0.0 b.0.0 access.0 tag.0, tag.1)) (receipt, rest) b.2 in
+    let d = bind_ok (run_at 32 c.0.1) (λ tag. Ok (receipt_of a.0.0 b.0.0 c.0.0 tag.0, tag.1)) (receipt, rest) c.2 in
+    let first = tree_begins bytes a.0.0 a.0.1 fits a.1 in
     let second = moment_begins a.0.1 b.0.0 b.0.1 first.rest_fits b.1 in
-    let third = access_begins b.0.1 c.0.0 c.0.1 second.0.rest_fits c.1 in
+    let third = access_begins a.0.0 b.0.1 c.0.0 c.0.1 second.0.rest_fits c.1 in
     let fourth = run_begins 32 c.0.1 d.0.0 d.0.1 third.0.rest_fits d.1 in
-    let two = Begins-then bytes (1 ∷ []) a.0.1 (moment_text b.0.0) b.0.1 first second.0 in
-    let three = Begins-then bytes (1 ∷ moment_text b.0.0) b.0.1 (access_text c.0.0) c.0.1 two third.0 in
-    let four = Begins-then bytes (1 ∷ (moment_text b.0.0 ++ access_text c.0.0)) c.0.1 d.0.0 d.0.1 three fourth.0 in
-    let made : Receipt = receipt_of b.0.0 c.0.0 d.0.0 in
+    let two = Begins-then bytes (receipt_tag a.0.0 ∷ []) a.0.1 (moment_text b.0.0) b.0.1 first second.0 in
+    let three = Begins-then bytes (receipt_tag a.0.0 ∷ moment_text b.0.0) b.0.1 (access_text a.0.0 c.0.0) c.0.1 two third.0 in
+    let four = Begins-then bytes (receipt_tag a.0.0 ∷ (moment_text b.0.0 ++ access_text a.0.0 c.0.0)) c.0.1 d.0.0 d.0.1 three fourth.0 in
+    let made : Receipt = receipt_of a.0.0 b.0.0 c.0.0 d.0.0 in
     let spelled : Begins bytes (receipt_text made.operation ++ made.tag) d.0.1 =
-    receipt_joined bytes b.0.0 c.0.0 d.0.0 d.0.1 four in
+    receipt_joined bytes a.0.0 b.0.0 c.0.0 d.0.0 d.0.1 four in
     let is : IsReceipt made = (record { stamp = second.1.0; verifier = second.1.1; index = second.1.2; key = third.1.0; value = third.1.1 }, fourth.1) in
     let P : Receipt × List ℕ → Type 0 = λ x. Begins bytes (receipt_text x.0.operation ++ x.0.tag) x.1 × IsReceipt x.0 in
     subst P {x = (made, d.0.1)} (Ok-is (made, d.0.1) (receipt, rest) d.2) (spelled, is)
 
-receipt_again : (moment : Moment) (access : Access) (tag : List ℕ) → IsMoment moment → IsAccess access → length tag ≡ 32
-    → receipt_at (receipt_text (receipt_of moment access tag).operation ++ tag) ≡ Ok (receipt_of moment access tag, [])
+receipt_again : (wide : Bool) (moment : Moment) (access : Access) (tag : List ℕ) → IsMoment moment → IsAccess wide access → length tag ≡ 32
+    → receipt_at (receipt_text (receipt_of wide moment access tag).operation ++ tag) ≡ Ok (receipt_of wide moment access tag, [])
 unfolding receipt_at
-receipt_again moment access tag is_moment is_access len =
+receipt_again wide moment access tag is_moment is_access len =
     let before : List ℕ = moment_text moment in
-    let behind : List ℕ = access_text access in
-    let regrouped : receipt_text (receipt_of moment access tag).operation ++ tag ≡ 1 ∷ (before ++ (behind ++ (tag ++ []))) =
-    ap (λ (text : List ℕ). text ++ tag) (text_in_parts moment access)
-    ∙ ap (λ (text : List ℕ). 1 ∷ text) (append_assoc before behind tag ∙ ap (λ (t : List ℕ). before ++ (behind ++ t)) (sym (append-nil tag))) in
-    ap (λ (bytes : List ℕ). field 1 (mark_in 1) bytes >>= λ mark. moment_at mark.1 >>= λ moment. access_at moment.1 >>= λ access. run_at 32 access.1 >>= λ tag. Ok (receipt_of moment.0 access.0 tag.0, tag.1)) regrouped
-    ∙ ap (λ (r : Parsed (Unit {0})). r >>= λ mark. moment_at mark.1 >>= λ moment. access_at moment.1 >>= λ access. run_at 32 access.1 >>= λ tag. Ok (receipt_of moment.0 access.0 tag.0, tag.1))
-    (field_again 1 (mark_in 1) (1 ∷ []) (before ++ (behind ++ (tag ++ []))) tt refl refl)
-    ∙ ap (λ (r : Parsed Moment). r >>= λ moment. access_at moment.1 >>= λ access. run_at 32 access.1 >>= λ tag. Ok (receipt_of moment.0 access.0 tag.0, tag.1)) (moment_again moment (behind ++ (tag ++ [])) is_moment)
-    ∙ ap (λ (r : Parsed Access). r >>= λ access. run_at 32 access.1 >>= λ tag. Ok (receipt_of moment access.0 tag.0, tag.1)) (access_again access (tag ++ []) is_access)
-    ∙ ap (λ (r : Parsed (List ℕ)). r >>= λ tag. Ok (receipt_of moment access tag.0, tag.1)) (run_again 32 tag [] len)
+    let behind : List ℕ = access_text wide access in
+    let regrouped : receipt_text (receipt_of wide moment access tag).operation ++ tag ≡ receipt_tag wide ∷ (before ++ (behind ++ (tag ++ []))) =
+    ap (λ (text : List ℕ). text ++ tag) (text_in_parts wide moment access)
+    ∙ ap (λ (text : List ℕ). receipt_tag wide ∷ text) (append_assoc before behind tag ∙ ap (λ (t : List ℕ). before ++ (behind ++ t)) (sym (append-nil tag))) in
+    ap (λ (bytes : List ℕ). field 1 tree_in bytes >>= λ wide. moment_at wide.1 >>= λ moment. access_at wide.0 moment.1 >>= λ access. run_at 32 access.1 >>= λ tag. Ok (receipt_of wide.0 moment.0 access.0 tag.0, tag.1)) regrouped
+    ∙ ap (λ (r : Parsed Bool). r >>= λ wide. moment_at wide.1 >>= λ moment. access_at wide.0 moment.1 >>= λ access. run_at 32 access.1 >>= λ tag. Ok (receipt_of wide.0 moment.0 access.0 tag.0, tag.1))
+    (tree_again wide (before ++ (behind ++ (tag ++ []))))
+    ∙ ap (λ (r : Parsed Moment). r >>= λ moment. access_at wide moment.1 >>= λ access. run_at 32 access.1 >>= λ tag. Ok (receipt_of wide moment.0 access.0 tag.0, tag.1)) (moment_again moment (behind ++ (tag ++ [])) is_moment)
+    ∙ ap (λ (r : Parsed Access). r >>= λ access. run_at 32 access.1 >>= λ tag. Ok (receipt_of wide moment access.0 tag.0, tag.1)) (access_again wide access (tag ++ []) is_access)
+    ∙ ap (λ (r : Parsed (List ℕ)). r >>= λ tag. Ok (receipt_of wide moment access tag.0, tag.1)) (run_again 32 tag [] len)
 
 -- ---- certificates
 
@@ -273,7 +303,7 @@ pub receipt-read : (bytes : List ℕ) (receipt : Receipt) → IsReceipt receipt 
 receipt-read bytes receipt is spelled =
     let op = receipt.operation in
     ap (λ (b : List ℕ). whole (receipt_at b)) spelled
-    ∙ ap whole (receipt_again (op.stamp, op.verifier, op.index) (op.put, op.key, op.value) receipt.tag (is.0.stamp, is.0.verifier, is.0.index) (is.0.key, is.0.value) is.1)
+    ∙ ap whole (receipt_again op.wide (op.stamp, op.verifier, op.index) (op.put, op.key, op.value) receipt.tag (is.0.stamp, is.0.verifier, is.0.index) (is.0.key, is.0.value) is.1)
 
 -- a certificate that is the whole of bytes is spelled so
 pub certificate-spelled : (bytes : List ℕ) (certificate : Certificate) → AreBytes bytes → whole (certificate_at bytes) ≡ Some certificate

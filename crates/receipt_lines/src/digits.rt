@@ -4,7 +4,7 @@ ghost use Rattle.std.specs.List.{list_all};
 ghost use Rattle.script_text.specs.Words.{is_lower_digit};
 ghost use Rattle.receipt_lines.specs.Evidence.{bytes_in, receipt_in, certificate_in};
 
-use crate::ranges::{operations_have_their_widths, tags_have_their_length};
+use crate::ranges::tags_have_their_length;
 use arrayvec::ArrayVec;
 use base_words::a_number_of_32_bits_is_below;
 use receipts::{Certificate, LONGEST_RECEIPT, Receipt, read_certificate, read_receipt};
@@ -15,7 +15,6 @@ pub(crate) fn receipt_in(digits: &[u8]) -> Option<Receipt>
 {
     let bytes = bytes_in(digits)?;
     let receipt = read_receipt(bytes.as_slice())?;
-    operations_have_their_widths(&receipt.operation);
     tags_have_their_length(&receipt.tag);
     Some(receipt)
 }

@@ -3,8 +3,8 @@ ghost use Rattle.std.specs.Prelude.{◌≡◌, ◌≢◌, ℕ, ◌<◌, ◌^◌}
 ghost use Rattle.record_text.specs.declared.operation.Operation.{Operation};
 ghost use Rattle.receipts.specs.Receipts.{IsOperation, receipt_text, certificate_text};
 
-/// No two operations and no two certificates have one text, and no text is one of both kinds: so a tag that is made for
-/// one of them is made for nothing else.
+/// No two operations, also of keys of two trees, and no two certificates have one text, and no text is one of both kinds: so a tag
+/// that is made for one of them is made for nothing else.
 pub fn texts_tell_what_they_are_of()
     ensures receipts { (one other : Operation) → IsOperation one → IsOperation other
         → receipt_text one ≡ receipt_text other → one ≡ other }

@@ -1,6 +1,7 @@
 //! What a client can keep of an answer: the receipt of an operation, and the certificate of the epochs that it lies in.
 //!
-//! Both are texts with a tag, which who holds the key can make and test (HMAC, RFC 2104). The crate stands on
+//! Both are texts with a tag, which who holds the key can make and test (HMAC, RFC 2104). A receipt is of a key of 64 bits or of one
+//! of 128, which its first byte says. The crate stands on
 //! `record_text` and `record_hash`, and takes no memory. `specs/Receipts.antt` says how they are spelled, and
 //! `specs/Acceptance.antt` when a receipt is accepted. Begin with `issue` in `issuing.rt`, `read_receipt` in `reading.rt`, and `accept` in `accepting.rt`;
 //! `laws.rt` says that no text is of two things.

@@ -15,5 +15,5 @@ returns-in_err-receipt c = record {
 pub returns : goal.returns
 returns c = record {
   value = receipt_in-found c.args.digits.now c.as_slice.result.now _ (c.in_ok-bytes.ensures.found ∙ ap Some (sym c.as_slice.ensures.value))
-      c.in_ok-receipt.ensures.found (c.operations_have_their_widths.ensures.fits, c.tags_have_their_length.ensures.len) c.in_ok-receipt.ensures.only;
+      c.in_ok-receipt.ensures.found (c.in_ok-receipt.ensures.fits, c.tags_have_their_length.ensures.len) c.in_ok-receipt.ensures.only;
 }
