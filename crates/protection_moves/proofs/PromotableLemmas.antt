@@ -1,13 +1,14 @@
 -- Which keys are promotable, read off records that stand in the order of their paths.
-use Rattle.std.proofs.Common.{◌≡◌, ◌≢◌, ◌⊎◌, ℕ, zero, suc, ◌+◌, ◌-◌, ◌<◌, ◌≤◌, ◌^◌, Bool, true, false, List, [], ◌∷◌, ◌++◌, length, take, nat_lt, Option, Some, None, IsSome, IfNone, IfSome, is_none, if◌then◌else◌, refl, sym, ◌∙◌, ap, subst, inl, inr, arith, append_assoc, append-nil, length-append}
+use Rattle.std.proofs.Common.{◌≡◌, ◌≢◌, ◌⊎◌, ℕ, zero, suc, ◌+◌, ◌-◌, ◌<◌, ◌≤◌, ◌^◌, Bool, true, false, List, [], ◌∷◌, ◌++◌, length, take, nat_lt, Option, Some, None, IsSome, is_none, if◌then◌else◌, refl, sym, ◌∙◌, ap, subst, inl, inr, arith, append_assoc, append-nil, length-append}
+use Rattle.std.proofs.Math.Nat.{div-add-mod}
 use Rattle.std.proofs.lemmas.Bool.{false≢true, true≢false, le-ltb, ltb-false, eqb-true, eq-eqb}
 use Rattle.std.specs.Prelude.{◌==◌, ◌&&◌, ◌||◌, slice_index_or, AllPairs}
 use Rattle.std.specs.List.{AllByRecursion, IsAmong}
 use Rattle.std.specs.Map.{lookup}
 use Rattle.std.specs.Option.{option_map_or}
 use Rattle.tree_keys.specs.Bits.{bits_of, number_of}
-use Rattle.tree_keys.specs.BitsLaws.{length-bits_of, number_back, number_behind}
-use Rattle.tree_keys.specs.Path.{tree_of, IsNodePath, key_path, key_of, same_bit, side, same_path}
+use Rattle.tree_keys.specs.BitsLaws.{length-bits_of, number_back}
+use Rattle.tree_keys.specs.Path.{key_bits, tree_of, is_data, IsNodePath, key_path, key_of, same_bit, side, same_path}
 use Rattle.tree_keys.proofs.BitsLaws.{bits_of-number_of, number_of-lt}
 use Rattle.tree_keys.proofs.PathLaws.{same_path-self, same_path-true, same_path-apart}
 use Rattle.tree_keys.proofs.TreeLaws.{node-is, key_path-data}
@@ -15,7 +16,7 @@ use Rattle.host_shard.specs.declared.record.Record.{Record}
 use Rattle.host_shard.specs.Content.{Content, cold, hot, vacant}
 use Rattle.host_shard.specs.Shard.{Shard}
 use Rattle.host_shard.specs.Mirrors.{IsKeyOf}
-use Rattle.host_shard.specs.Records.{Listed, numbers_of, IsBefore, AreInOrder, record_at, touches_in}
+use Rattle.host_shard.specs.Records.{Listed, numbers_of, IsLower, IsBefore, AreInOrder, record_at, touches_in}
 use Rattle.protection_moves.specs.Stage.{Stage, hot_paths}
 use Rattle.protection_moves.specs.Transfer.{ArePromotable}
 use Rattle.protection_moves.specs.Promotable.{is_hot, key_in, promotable_key, listed_key, promotable_among, AreRising}
@@ -189,7 +190,12 @@ module _ (least : ℕ) (frontier : List Bool) (places : List Content) where
 
   before_apart : (p k : List Bool) → IsBefore p k → p ≢ k
   before_apart p k (inl shorter) same = absurd (omega (arith, shorter, ap (λ (q : List Bool). (numbers_of q).0) same))
-  before_apart p k (inr lower) same = absurd (omega (arith, lower.1, ap (λ (q : List Bool). (numbers_of q).1) same))
+  before_apart p k (inr lower) same = absurd (not_lower (numbers_of k).1 (numbers_of k).2
+      (subst (λ (q : List Bool). IsLower (numbers_of q).1 (numbers_of q).2 (numbers_of k).1 (numbers_of k).2) same lower.1))
+    where
+      not_lower : (tree : Bool) (number : ℕ) → IsLower tree number tree number → ⊥
+      not_lower true number is = omega (arith, is)
+      not_lower false number is = omega (arith, is)
 
   found_head : (e : List Bool × Record) (listed : Listed) (key : ℕ) → IsPromotableAt least frontier places e.0 e.1 key → IsFound (e ∷ listed) key
   found_head e listed key promotable =
@@ -266,8 +272,8 @@ module _ (least : ℕ) (frontier : List Bool) (places : List Content) where
   both_whole : (p k : List Bool) (key other : ℕ) → IsBefore p k → p ≡ key_path false key → k ≡ key_path false other → key < 2 ^ 64 → other < 2 ^ 64 → key < other
   both_whole p k key other before a b low high = go (subst (IsBefore (key_path false key)) b (subst (λ (q : List Bool). IsBefore q k) a before))
     where
-      spelled : (n : ℕ) → n < 2 ^ 64 → number_of (key_path false n) ≡ n
-      spelled n fits = number_behind (bits_of 64 n) ∙ number_back 64 n fits
+      spelled : (n : ℕ) → n < 2 ^ 64 → (numbers_of (key_path false n)).2 ≡ n
+      spelled n fits = omega (arith, div-add-mod (number_of (bits_of 64 n)) (2 ^ 64), number_back 64 n fits)
 
       go : IsBefore (key_path false key) (key_path false other) → key < other
       go (inl shorter) = absurd (omega (arith, shorter, length-bits_of 64 key, length-bits_of 64 other))
@@ -327,20 +333,22 @@ are_promotable stage listed least some order touches = record {
   );
 }
 
--- what the code works out of one record
+-- what the code works out of one path
+pub narrow_path : (path : List Bool) (key : ℕ) → tree_of path ≡ false → path ≡ key_path (tree_of path) key → key < 2 ^ key_bits (tree_of path) → Some key ≡ key_in false path
+narrow_path path key narrow spelled fits =
+    let own : path ≡ key_path false key = spelled ∙ ap (λ (tree : Bool). key_path tree key) narrow in
+    sym (ap (key_in false) own ∙ key_in_its_path key (subst (λ (tree : Bool). key < 2 ^ key_bits tree) narrow fits))
+
+-- and of one record
 pub key_found : (least : ℕ) (frontier path : List Bool) (places : List Content) (kept : Record) (few none is : Bool) (found' : Option ℕ)
     → nat_lt kept.touches least ≡ few → few ≡ false → is_none (side frontier path) ≡ none → none ≡ false → is_hot path places ≡ is → is ≡ false
-    → IfNone found' (IsNodePath path) → IfSome found' (λ key. (path ≡ key_path false key)) → IfSome found' (λ key. key < 2 ^ 64)
+    → found' ≡ key_in false path
     → found' ≡ promotable_key least frontier places path kept
-key_found least frontier path places kept few none is found' a a' b b' c c' short spelled fits =
+key_found least frontier path places kept few none is found' a a' b b' c c' own =
     sym (ap (λ (f : Bool). chosen least frontier places f (is_none (side frontier path) || is_hot path places) (key_in false path)) (a ∙ a')
     ∙ ap (λ (f : Bool). chosen least frontier places false (f || is_hot path places) (key_in false path)) (b ∙ b')
     ∙ ap (λ (f : Bool). chosen least frontier places false f (key_in false path)) (c ∙ c')
-    ∙ own found' short spelled fits)
-  where
-    own : (o : Option ℕ) → IfNone o (IsNodePath path) → IfSome o (λ key. (path ≡ key_path false key)) → IfSome o (λ key. key < 2 ^ 64) → key_in false path ≡ o
-    own None short spelled fits = key_in_node path short
-    own (Some key) short spelled fits = ap (key_in false) spelled ∙ key_in_its_path key fits
+    ∙ sym own)
 
 -- ---- the first keys, as they are gathered
 

@@ -6,7 +6,7 @@ ghost use Rattle.arrayvec.specs.ArrayVec.{array_vec_len};
 ghost use Rattle.lamport_clocks.specs.Reading.{Reading};
 ghost use Rattle.host_shard.specs.Mirrors.{IsKeyOf};
 ghost use Rattle.host_shard.specs.Shown.{shown, shown_content};
-ghost use Rattle.protection_moves.specs.Promotable.{promotable_key, is_hot, AreFirstPromotable, AreRising};
+ghost use Rattle.protection_moves.specs.Promotable.{key_in, promotable_key, is_hot, AreFirstPromotable, AreRising};
 ghost use Rattle.protection_moves.specs.Shown.{shown_stage};
 
 use crate::hot_places::HOT_PLACES;
@@ -28,6 +28,19 @@ fn is_hot(places: &[Content], path: &Path) -> bool
     }
 }
 
+// The key of a data path of the tree whose keys have 64 bits.
+fn key_in(path: &Path) -> Option<u64>
+    ensures value { result ≡ key_in false path.now }
+{
+    if path.is_wide() {
+        return None;
+    }
+    match path.key() {
+        Some(key) => Some(key as u64),
+        None => None,
+    }
+}
+
 // The key of this record, if it is promotable: it was touched so often, lies below the shard's frontier and isn't hot.
 fn promotable_key(
     shard: &Shard,
@@ -44,7 +57,7 @@ fn promotable_key(
     if shard.frontier.side(path).is_none() || is_hot(places, path) {
         return None;
     }
-    path.key()
+    key_in(path)
 }
 
 // The first keys that were touched so often, at most so many. It goes through the records until there is no room.
