@@ -31,8 +31,8 @@ effect-by scheme machine at EvictM = refl
 effect-by scheme machine at (AddB element) = refl
 effect-by scheme machine at (EvictB element) = refl
 effect-by scheme machine at (EvictBM element) = refl
-effect-by scheme machine at (Get key value) = refl
-effect-by scheme machine at (Put key value) = refl
+effect-by scheme machine at (Get wide key value) = refl
+effect-by scheme machine at (Put wide key value) = refl
 effect-by scheme machine at (NextEpoch None) = refl
 effect-by scheme machine at (NextEpoch (Some epoch)) = refl
 
@@ -43,8 +43,8 @@ machine-by scheme machine EvictM state = refl
 machine-by scheme machine (AddB element) state = refl
 machine-by scheme machine (EvictB element) state = refl
 machine-by scheme machine (EvictBM element) state = refl
-machine-by scheme machine (Get key value) state = refl
-machine-by scheme machine (Put key value) state = refl
+machine-by scheme machine (Get wide key value) state = refl
+machine-by scheme machine (Put wide key value) state = refl
 machine-by scheme machine (NextEpoch sealed) state = refl
 
 concluded_ok : (scheme : Scheme) (machine : Machine) (step : VerifierStep) (answer : Answer) (state : VerifierState) → answered scheme.lanes step ≡ Ok (answer, state)

@@ -23,8 +23,8 @@ answer_of lanes EvictM = answers.EvictM
 answer_of lanes (AddB element) = answers.AddB element.stamp.epoch (lanes (element_text element))
 answer_of lanes (EvictB element) = answers.EvictB (lanes (element_text element))
 answer_of lanes (EvictBM element) = answers.EvictBM (lanes (element_text element))
-answer_of lanes (Get key value) = answers.Get key value
-answer_of lanes (Put key value) = answers.Put key value
+answer_of lanes (Get wide key value) = answers.Get wide key value
+answer_of lanes (Put wide key value) = answers.Put wide key value
 answer_of lanes (NextEpoch sealed) = answers.NextEpoch sealed
 
 -- a step by what the code hands up of it, whatever the state
@@ -50,8 +50,8 @@ sums_by epoch sums answers.EvictM = sums
 sums_by epoch sums (answers.AddB stamped lanes) = add_lanes epoch sums stamped lanes
 sums_by epoch sums (answers.EvictB lanes) = evict_lanes sums lanes
 sums_by epoch sums (answers.EvictBM lanes) = evict_lanes sums lanes
-sums_by epoch sums (answers.Get key value) = sums
-sums_by epoch sums (answers.Put key value) = sums
+sums_by epoch sums (answers.Get wide key value) = sums
+sums_by epoch sums (answers.Put wide key value) = sums
 sums_by epoch sums (answers.NextEpoch sealed) = advanced_sums sums
 
 -- what a command answers that handed this up, where the clock then stands so
@@ -61,8 +61,8 @@ effect_by machine at answers.EvictM = Plain
 effect_by machine at (answers.AddB stamped lanes) = Plain
 effect_by machine at (answers.EvictB lanes) = Plain
 effect_by machine at (answers.EvictBM lanes) = Plain
-effect_by machine at (answers.Get key value) = Did (operation_by machine at false key value)
-effect_by machine at (answers.Put key value) = Did (operation_by machine at true key value)
+effect_by machine at (answers.Get wide key value) = Did (operation_by machine at false wide key value)
+effect_by machine at (answers.Put wide key value) = Did (operation_by machine at true wide key value)
 effect_by machine at (answers.NextEpoch None) = Opened
 effect_by machine at (answers.NextEpoch (Some epoch)) =
     Sealed (record { verifier = machine.number; epoch = epoch; added = machine.sums.added_before; evicted = machine.sums.evicted_before })
@@ -74,6 +74,6 @@ ClockMoves old new answers.EvictM = new ≡ old
 ClockMoves old new (answers.AddB stamped lanes) = (new.end ≡ old.end) × (old.at.counter < new.at.counter)
 ClockMoves old new (answers.EvictB lanes) = (new.end ≡ old.end) × (old.at.counter < new.at.counter)
 ClockMoves old new (answers.EvictBM lanes) = (new.end ≡ old.end) × (old.at.counter < new.at.counter)
-ClockMoves old new (answers.Get key value) = new ≡ old
-ClockMoves old new (answers.Put key value) = new ≡ old
+ClockMoves old new (answers.Get wide key value) = new ≡ old
+ClockMoves old new (answers.Put wide key value) = new ≡ old
 ClockMoves old new (answers.NextEpoch sealed) = (new.end ≡ old.end) × (new.at.counter ≡ 0)

@@ -1,6 +1,6 @@
 -- What an accepted command was, in the history of its verifier.
 use Rattle.std.specs.Prelude.{ℕ, Bool, true, false, List, [], ◌∷◌}
-use Rattle.tree_keys.specs.Path.{key_of}
+use Rattle.tree_keys.specs.Path.{tree_of, key_of}
 use Rattle.lamport_clocks.specs.declared.stamp.Stamp.{Stamp}
 use Rattle.record_text.specs.declared.operation.Operation.{Operation}
 use Rattle.verifier_cache.specs.declared.entry.Entry.{Entry}
@@ -21,6 +21,7 @@ operation_at event put entry = record {
   verifier = event.verifier;
   index = event.index;
   put = put;
+  wide = tree_of entry.path;
   key = key_of entry.path;
   value = blob_of entry.value;
 }

@@ -28,13 +28,14 @@ pub record Machine : Type 0 where
 abbrev pub opening_machine : ℕ → Header → Machine
 opening_machine number header = record { number = number; header = header; state = first_state number header; sums = zero_sums; accepted = 0 }
 
--- an operation of this machine's next command, at this stamp
-abbrev pub operation_by : Machine → Stamp → Bool → ℕ → Option (List ℕ) → Operation
-operation_by machine at put key value = record {
+-- an operation on a key of a tree, of this machine's next command, at this stamp
+abbrev pub operation_by : Machine → Stamp → Bool → Bool → ℕ → Option (List ℕ) → Operation
+operation_by machine at put wide key value = record {
   stamp = at;
   verifier = machine.number;
   index = machine.accepted;
   put = put;
+  wide = wide;
   key = key;
   value = value;
 }
@@ -46,8 +47,8 @@ effect_of machine at EvictM = Plain
 effect_of machine at (AddB element) = Plain
 effect_of machine at (EvictB element) = Plain
 effect_of machine at (EvictBM element) = Plain
-effect_of machine at (Get key value) = Did (operation_by machine at false key value)
-effect_of machine at (Put key value) = Did (operation_by machine at true key value)
+effect_of machine at (Get wide key value) = Did (operation_by machine at false wide key value)
+effect_of machine at (Put wide key value) = Did (operation_by machine at true wide key value)
 effect_of machine at (NextEpoch None) = Opened
 effect_of machine at (NextEpoch (Some epoch)) =
     Sealed (record { verifier = machine.number; epoch = epoch; added = machine.sums.added_before; evicted = machine.sums.evicted_before })

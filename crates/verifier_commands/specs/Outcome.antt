@@ -1,6 +1,6 @@
 -- What an accepted command hands up: the part of a change that sums and answers are made from.
-use Rattle.std.specs.Prelude.{ℕ, List, Option, None, Result, Ok, Err}
-use Rattle.tree_keys.specs.Path.{key_of}
+use Rattle.std.specs.Prelude.{ℕ, Bool, List, Option, None, Result, Ok, Err}
+use Rattle.tree_keys.specs.Path.{tree_of, key_of}
 use Rattle.record_text.specs.declared.value.Value.{Value}
 use Rattle.record_text.specs.declared.value.Value.TheVariants as values
 use Rattle.record_text.specs.declared.refusal.Refusal.{Refusal}
@@ -18,9 +18,9 @@ pub data Outcome : Type 0 where
   -- a record went out as this element, and one out of its parent
   EvictB : Element → Outcome
   EvictBM : Element → Outcome
-  -- the value of a key was read, and written
-  Get : ℕ → Option (List ℕ) → Outcome
-  Put : ℕ → Option (List ℕ) → Outcome
+  -- the value of a key was read, and written; before the key stands of which tree it is
+  Get : Bool → ℕ → Option (List ℕ) → Outcome
+  Put : Bool → ℕ → Option (List ℕ) → Outcome
   -- the clock went to the next epoch, which seals this one, if any
   NextEpoch : Option ℕ → Outcome
 
@@ -36,8 +36,8 @@ outcome_of (did_evict_m parent after child) = EvictM
 outcome_of (did_add_b child element) = AddB element
 outcome_of (did_evict_b child element) = EvictB element
 outcome_of (did_evict_bm parent after child element) = EvictBM element
-outcome_of (did_get entry) = Get (key_of entry.path) (blob_of entry.value)
-outcome_of (did_put before after) = Put (key_of after.path) (blob_of after.value)
+outcome_of (did_get entry) = Get (tree_of entry.path) (key_of entry.path) (blob_of entry.value)
+outcome_of (did_put before after) = Put (tree_of after.path) (key_of after.path) (blob_of after.value)
 outcome_of (did_next_epoch sealed) = NextEpoch sealed
 
 -- a step by what it hands up, whatever the state

@@ -15,10 +15,10 @@ pub enum Answer<'a> {
     EvictB([u32; 8]),
     /// A record went out of its parent as an element with these lanes.
     EvictBM([u32; 8]),
-    /// The value of a key was read.
-    Get(u64, BlobRef<'a>),
-    /// The value of a key was written.
-    Put(u64, BlobRef<'a>),
+    /// The value of a key was read. Before the key it is said whether its tree is the one whose keys have 128 bits.
+    Get(bool, u128, BlobRef<'a>),
+    /// The value of a key was written, told in the same way.
+    Put(bool, u128, BlobRef<'a>),
     /// The clock went to the next epoch, which seals this one, if any.
     NextEpoch(Option<u32>),
 }

@@ -30,7 +30,7 @@ impl State {
         if !is_same_value(&entry.value, value) {
             return Err(Refusal::WrongValue);
         }
-        Ok(Answer::Get(key, blob_of(value)))
+        Ok(Answer::Get(path.is_wide(), key, blob_of(value)))
     }
 
     /// A put: the value that is written.
@@ -47,7 +47,7 @@ impl State {
             return Err(Refusal::NotData);
         };
         write(&mut self.cache, path, own, value);
-        Ok(Answer::Put(key, blob_of(value)))
+        Ok(Answer::Put(path.is_wide(), key, blob_of(value)))
     }
 
     /// An absence: a key that has no record answers none.
@@ -63,7 +63,7 @@ impl State {
             return Err(Refusal::ParentNotCached);
         };
         absent_under(holder, path)?;
-        Ok(Answer::Get(key, BlobRef::new(None)))
+        Ok(Answer::Get(path.is_wide(), key, BlobRef::new(None)))
     }
 
     /// The step to the next epoch.

@@ -29,7 +29,7 @@ impl SlotState {
         if !is_blob(&entry.value, value) {
             return Err(Refusal::WrongValue);
         }
-        Ok(Answer::Get(key, value.by_ref()))
+        Ok(Answer::Get(entry.path.is_wide(), key, value.by_ref()))
     }
 
     /// A put: the value that is written.
@@ -44,8 +44,9 @@ impl SlotState {
         let Some(key) = entry.path.key() else {
             return Err(Refusal::NotData);
         };
+        let wide = entry.path.is_wide();
         self.slots.write_at(slot, value);
-        Ok(Answer::Put(key, value.by_ref()))
+        Ok(Answer::Put(wide, key, value.by_ref()))
     }
 
     /// An absence: a key that has no record answers none.
@@ -61,7 +62,7 @@ impl SlotState {
             return Err(Refusal::SlotEmpty);
         };
         absent_under(holder, path)?;
-        Ok(Answer::Get(key, BlobRef::new(None)))
+        Ok(Answer::Get(path.is_wide(), key, BlobRef::new(None)))
     }
 
     /// The step to the next epoch.

@@ -10,7 +10,7 @@ use base_words::Memory;
 use lamport_clocks::{Clock, Header};
 use log_codec::SlotCommand;
 use record_hash::Digests;
-use record_text::{Node, Refusal, Value};
+use record_text::{Node, Refusal, Value, wide_of};
 use std::alloc::Global;
 use tree_keys::Path;
 use verifier_cache::{Entry, Hold, SlotCache};
@@ -33,7 +33,11 @@ impl SlotState {
         if number == 0 {
             slots.put_at(
                 0,
-                Entry::new(Path::root(), Value::Node(Node::empty()), Hold::Root),
+                Entry::new(
+                    Path::root_of(wide_of(header)),
+                    Value::Node(Node::empty()),
+                    Hold::Root,
+                ),
             );
         }
         let clock = Clock::new(header.first, header.end);

@@ -5,7 +5,7 @@ ghost use Rattle.verifier_commands.specs.Transition.{is_root, clock_refusal};
 
 use base_words::Memory;
 use lamport_clocks::{Clock, ClockFault, Header};
-use record_text::{Node, Refusal, Value};
+use record_text::{Node, Refusal, Value, wide_of};
 use std::alloc::Global;
 use tree_keys::Path;
 use verifier_cache::{Cache, Hold};
@@ -27,7 +27,11 @@ impl State {
     {
         let mut cache = Cache::new(alloc, header.cache)?;
         if number == 0 {
-            cache.insert(Path::root(), Value::Node(Node::empty()), Hold::Root);
+            cache.insert(
+                Path::root_of(wide_of(header)),
+                Value::Node(Node::empty()),
+                Hold::Root,
+            );
         }
         let clock = Clock::new(header.first, header.end);
         Ok(State { cache, clock })
@@ -45,12 +49,12 @@ pub(crate) fn clock_refusal(fault: ClockFault) -> Refusal
     }
 }
 
-// Whether the path is the root.
+// Whether the path is the root of its tree.
 #[tactic(auto, using(crate::proofs::KeyLemmas::root_view))]
 pub(crate) fn is_root(path: &Path) -> bool
     ensures value { result ≡ is_root path.now }
 {
-    path.len() == 0
+    path.is_same(&Path::root_of(path.is_wide()))
 }
 
 // Whether both are the same value.

@@ -188,9 +188,9 @@ fn effect_of<'a>(
     ensures value { (machine : Machine) → machine.number ≡ number → machine.accepted ≡ accepted → machine.sums ≡ sums.now
         → result ≡ effect_by machine at answer.now }
 {
-    let (put, key, value) = match answer {
-        Answer::Get(key, value) => (false, *key, value),
-        Answer::Put(key, value) => (true, *key, value),
+    let (put, wide, key, value) = match answer {
+        Answer::Get(wide, key, value) => (false, *wide, *key, value),
+        Answer::Put(wide, key, value) => (true, *wide, *key, value),
         Answer::NextEpoch(None) => return Effect::Opened,
         Answer::NextEpoch(Some(epoch)) => {
             return Effect::Sealed(Part {
@@ -207,5 +207,5 @@ fn effect_of<'a>(
         | Answer::EvictBM(_) => return Effect::Plain,
     };
     let value = BlobRef::new(value.bytes());
-    Effect::Did(OperationRef::new(at, number, accepted, put, key, value))
+    Effect::Did(OperationRef::new(at, number, accepted, put, wide, key, value))
 }
