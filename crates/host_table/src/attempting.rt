@@ -59,7 +59,7 @@ impl<D: Digests> Records<D> {
             Taking::Busy => return Attempt::Busy,
         };
         let before = clock.at();
-        a_blob_has_at_most_64_bytes(&request.value);
+        a_blob_has_at_most_255_bytes(&request.value);
         match plan(
             alloc,
             d,
@@ -110,8 +110,8 @@ fn note_end<D: Digests, N: Told>(
     board.shared.load::<End<N>>(&mut hand.seat, place);
 }
 
-// A data value has 64 bytes at most: its type says so.
-fn a_blob_has_at_most_64_bytes(value: &Blob)
+// A data value has 255 bytes at most: its type says so.
+fn a_blob_has_at_most_255_bytes(value: &Blob)
     ensures fits { IsBlob longest_blob value.now }
 {
     let _ = value.bytes();

@@ -62,7 +62,7 @@ note-requires-clause-service g c =
         served = record {
           by = got.4;
           at = c.requires.place;
-          value = c.a_blob_has_at_most_64_bytes.ensures.fits;
+          value = c.a_blob_has_at_most_255_bytes.ensures.fits;
           clock = subst (IsClockOf t) (sym same) c.requires.clock;
           plan = subst (λ (p : Bool × Digest × Content × Reading). IsPlan p.0 p.1 hand.number p.2 c.args.request.now p.3 c.in-Ok.plan (shown_content c.plan.new.content) c.plan.new.clock)
               (λ i. (c.args.self.now.told i, c.requires.digests i, sym found i, sym same i)) c.in-Ok.ensures.planned;
@@ -137,7 +137,7 @@ returns-in-Err-ClockEnd-clause-attempts g c =
         past = history hand;
         is = record {
           at = c.requires.place;
-          value = c.a_blob_has_at_most_64_bytes.ensures.fits;
+          value = c.a_blob_has_at_most_255_bytes.ensures.fits;
           clock = subst (IsClockOf t) (sym same) c.requires.clock;
           behind = subst (TakesUp (services c.args.hand.now)) (sym same) c.requires.chained;
           had = subst (IsHad (first_at t c.args.place) (history hand)) (sym got.2) (leads_to_had t c.args.place (first_at t c.args.place) (history hand) c.in-Taken.content got.3);
