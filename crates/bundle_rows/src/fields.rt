@@ -1,7 +1,7 @@
 //! The fields of a row: paths, slots, values, stamps and verifiers, each of them one word.
 use lamport_clocks::Stamp;
 use record_text::{Blob, LONGEST_BLOB, Node, Pointer, Value, initial};
-use tree_keys::{KEY_BITS, Path};
+use tree_keys::{Path, key_bits};
 
 // How many bytes a digest has.
 const DIGEST_BYTES: usize = 32;
@@ -22,7 +22,7 @@ pub(crate) fn path_of(word: &str) -> Option<Path> {
 fn path_of_bits(bits: &str) -> Option<Path> {
     let mut path = Path::root();
     for bit in bits.bytes() {
-        if path.len() == KEY_BITS {
+        if path.is_data() {
             return None;
         }
         path = match bit {
@@ -36,7 +36,7 @@ fn path_of_bits(bits: &str) -> Option<Path> {
 
 // So many of the first bits of a key.
 fn front_of_key(key: u64, len: u8) -> Option<Path> {
-    if len > KEY_BITS {
+    if len > key_bits(false) {
         return None;
     }
     Some(Path::of_key(key).front(len))
