@@ -7,7 +7,7 @@ use Rattle.std.proofs.lemmas.List.Elements.{filter-append}
 use Rattle.base_words.specs.Traced.{traced}
 use Rattle.lamport_clocks.specs.declared.header.Header.{Header}
 use Rattle.record_text.specs.declared.refusal.Refusal.{Refusal}
-use Rattle.record_text.specs.Longest.{longest_blob}
+use Rattle.record_text.specs.Longest.{longest_of}
 use Rattle.log_codec.specs.declared.log_command.LogCommand.{LogCommand}
 use Rattle.record_hash.specs.Functions.{DigestFunctions}
 use Rattle.merkle_records.specs.Merkle.{Digest, GivesDigests}
@@ -186,14 +186,14 @@ module _ (functions : DigestFunctions) (header : Header) (logs : List (List LogC
       )
 
   -- Behind a front that shows no clash no path stands twice in any cache, and each cache shows what is at the spots.
-  pub each_once : (front back : List Event) → GivesDigests functions.digest → AreTyped longest_blob logs
+  pub each_once : (front back : List Event) → GivesDigests functions.digest → AreTyped (longest_of header) logs
       → ArePermuted header.first last (order_of histories)
       → order_up_to last histories ≡ front ++ back
       → first_clash none_evicted (changes_in front) ≡ None
       → (spots : Spots) × IsBehind functions.digest header front spots × CachesShow scheme header logs front spots
   each_once front back digests typed permuted is free = (spots.0, spots.1, once)
     where
-      are : AreHistories longest_blob functions.digest header 0 histories
+      are : AreHistories (longest_of header) functions.digest header 0 histories
       are = logs_histories scheme header 0 logs typed
 
       spots : HaveSpots functions.digest header front
@@ -214,8 +214,8 @@ module _ (functions : DigestFunctions) (header : Header) (logs : List (List LogC
           stand : HoldsEachOnce (state_behind scheme header logs front v)
               × ShowSame (shown_of (state_behind scheme header logs front v)) (told_after (opening_shown header v) (of_verifier event_moment v front))
           stand =
-              stands_after longest_blob functions.digest (machinery_of scheme header v) shown_of HoldsEachOnce (IsTyped longest_blob)
+              stands_after (longest_of header) functions.digest (machinery_of scheme header v) shown_of HoldsEachOnce (IsTyped (longest_of header))
               (lawful (rules_under scheme header v)) v 0 (first_state v header) (opening_shown header v) log (of_verifier event_moment v front) part.0
-              (typed_log longest_blob logs v typed) (first_once v header, first_shown v header)
+              (typed_log (longest_of header) logs v typed) (first_once v header, first_shown v header)
               (sym (events-from_state scheme (opening_machine v header) log) ∙ part.1)
               (part_fresh v (opening_shown header) front fresh)

@@ -8,7 +8,7 @@ use Rattle.lamport_clocks.specs.declared.header.Header.{Header}
 use Rattle.record_text.specs.declared.value.Pointer.{Pointer}
 use Rattle.record_text.specs.declared.value.Value.{Value}
 use Rattle.record_text.specs.Tree.{wide_of}
-use Rattle.record_text.specs.Longest.{longest_blob}
+use Rattle.record_text.specs.Longest.{longest_of}
 use Rattle.merkle_records.specs.Merkle.{Digest}
 use Rattle.verifier_cache.specs.declared.entry.Entry.{Entry}
 use Rattle.verifier_commands.specs.State.{root_entry}
@@ -63,11 +63,11 @@ no_pointers wide path on = opening_cases wide (λ path spot. pointer_at spot on 
     root true = refl
     root false = refl
 
-opening_tree : (wide : Bool) (digest : Digest) → IsTree longest_blob digest (opening_spots wide)
-opening_tree wide digest = record { kind = kind; link = link; cover = cover }
+opening_tree : (wide : Bool) (longest : ℕ) (digest : Digest) → IsTree longest digest (opening_spots wide)
+opening_tree wide longest digest = record { kind = kind; link = link; cover = cover }
   where
-    kind : (path : List Bool) → IsKind longest_blob path (opening_spots wide path)
-    kind = opening_cases wide (IsKind longest_blob) (refl, (root-node wide, tt, tt)) (λ path. tt)
+    kind : (path : List Bool) → IsKind longest path (opening_spots wide path)
+    kind = opening_cases wide (IsKind longest) (refl, (root-node wide, tt, tt)) (λ path. tt)
 
     link : (path : List Bool) (on : Bool) (pointer : Pointer) → pointer_at (opening_spots wide path) on ≡ Some pointer
         → Leads digest (home_of (opening_spots wide path) on) pointer (opening_spots wide pointer.path)
@@ -78,9 +78,9 @@ opening_tree wide digest = record { kind = kind; link = link; cover = cover }
     cover path other on touched below is = absurd (above_apart path other on is (touched_root wide path touched ∙ sym (touched_root wide other below)))
 
 pub opening_world : (digest : Digest) (header : Header)
-    → IsWorld (wide_of header) longest_blob digest (opening_shown header) none_evicted none_everywhere (opening_spots (wide_of header))
+    → IsWorld (wide_of header) (longest_of header) digest (opening_shown header) none_evicted none_everywhere (opening_spots (wide_of header))
 opening_world digest header =
-    record { tree = opening_tree wide digest; within = within; shows = shows; was_evicted = was_evicted; holds = holds }
+    record { tree = opening_tree wide (longest_of header) digest; within = within; shows = shows; was_evicted = was_evicted; holds = holds }
   where
     wide : Bool
     wide = wide_of header

@@ -8,7 +8,7 @@ use Rattle.std.proofs.lemmas.List.Elements.{filter-append}
 use Rattle.lamport_clocks.specs.declared.header.Header.{Header}
 use Rattle.lamport_clocks.specs.declared.stamp.Stamp.{Stamp}
 use Rattle.record_text.specs.declared.element.Element.{Element}
-use Rattle.record_text.specs.Longest.{longest_blob}
+use Rattle.record_text.specs.Longest.{longest_of}
 use Rattle.merkle_records.specs.Merkle.{GivesDigests}
 use Rattle.stamp_order.proofs.InOrderLaws.{every-weaker, every-append, every-filter}
 use Rattle.verifier_commands.specs.Change.{Change, did_add_m, did_evict_m, did_add_b, did_evict_b, did_evict_bm, did_get, did_put, did_next_epoch}
@@ -291,14 +291,14 @@ module _ (header : Header) (histories : List (List Event)) (last : ℕ) (timely 
 
 -- And its path's spot waits with it.
 pub later_waiting : (functions : DigestFunctions) (header : Header) (histories : List (List Event)) (last : ℕ)
-    → GivesDigests functions.digest → AreHistories longest_blob functions.digest header 0 histories
+    → GivesDigests functions.digest → AreHistories (longest_of header) functions.digest header 0 histories
     → ArePermuted header.first last (order_of histories)
     → first_clash none_evicted (changes_in (order_up_to last histories)) ≡ None
     → (spots : Spots) × IsBehind functions.digest header (order_up_to last histories) spots
     × ((x : Element) → x.stamp.epoch ≤ last → 1 ≤ count_of x (added_among (order_after last histories)) → spots x.path ≡ waiting x)
 later_waiting functions header histories last digests are permuted free =
     let front = order_up_to last histories in
-    let timely = are_timely longest_blob functions.digest header 0 histories are in
+    let timely = are_timely (longest_of header) functions.digest header 0 histories are in
     let stand = one_spot functions header histories last front [] digests are permuted (sym (append-nil front)) free in (
       stand.0,
       stand.1,

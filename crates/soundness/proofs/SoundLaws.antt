@@ -7,7 +7,7 @@ use Rattle.lamport_clocks.specs.declared.header.Header.{Header}
 use Rattle.record_text.specs.declared.element.Element.{Element}
 use Rattle.record_text.proofs.OneTextLaws.{one_value_at}
 use Rattle.record_text.specs.Tree.{wide_of}
-use Rattle.record_text.specs.Longest.{longest_blob}
+use Rattle.record_text.specs.Longest.{longest_of}
 use Rattle.log_codec.specs.declared.command.Command.{Command}
 use Rattle.log_codec.specs.declared.log_command.LogCommand.{LogCommand}
 use Rattle.record_hash.specs.Functions.{DigestFunctions}
@@ -41,9 +41,9 @@ use Rattle.soundness.proofs.OpeningLemmas.{opening_spots, opening_cases, opening
 use Rattle.soundness.proofs.CertifiedLaws.{same_sum-true, even_where_none, uneven_where_some}
 
 -- no two values of a path have one text
-pub one_text : HasOneText longest_blob
-one_text path a b is_a is_b same =
-    (one_value_at longest_blob path a b [] [] is_a is_b (ap (λ (text : List ℕ). text ++ []) same)).0
+pub one_text : (longest : ℕ) → HasOneText longest
+one_text longest path a b is_a is_b same =
+    (one_value_at longest path a b [] [] is_a is_b (ap (λ (text : List ℕ). text ++ []) same)).0
 
 -- events up to an epoch are of no later one
 pub all_within : (epoch : ℕ) (events : List Event) → AllByRecursion (λ event. event.at.epoch ≤ epoch) (up_to event_moment epoch events)
@@ -66,7 +66,7 @@ none_waiting wide = record { each = λ x there. absurd (omega (arith, there)); o
 
 -- Of any histories.
 pub histories_sound : (functions : DigestFunctions) (header : Header) (histories : List (List Event)) (count : ℕ)
-    → GivesDigests functions.digest → AreHistories longest_blob functions.digest header 0 histories
+    → GivesDigests functions.digest → AreHistories (longest_of header) functions.digest header 0 histories
     → AreBalanced (scheme_of functions header) (order_of histories) header.first count
     → IsSerialOrCollides (scheme_of functions header) (exhibit_of header.first count histories)
     (operations_in (order_within header.first count histories))
@@ -86,14 +86,14 @@ histories_sound functions header histories count digests are balanced = by (firs
         → CollidesAt functions.digest none_evicted (order_up_to (header.first + n) histories) ⊎ IsSound none_evicted none_everywhere (order_up_to (header.first + n) histories)
     runs n even =
         let split = order_splits (header.first + n) histories in
-        run_keeps (wide_of header) longest_blob functions.digest one_text digests (order_up_to (header.first + n) histories) (opening_shown header) none_evicted none_everywhere (opening_spots (wide_of header)) []
+        run_keeps (wide_of header) (longest_of header) functions.digest (one_text (longest_of header)) digests (order_up_to (header.first + n) histories) (opening_shown header) none_evicted none_everywhere (opening_spots (wide_of header)) []
         (opening_world functions.digest header) (none_waiting (wide_of header))
-        (order_run header longest_blob functions.digest histories (header.first + n) are)
+        (order_run header (longest_of header) functions.digest histories (header.first + n) are)
         (scheduled header.first (header.first + n) (order_up_to (header.first + n) histories) split.0
         (all_within (header.first + n) order)
         (subst (λ (l : List Event). IsMerged event_moment l) split.1 (order_sorted histories))
         (subst (λ (l : List Event). AllByRecursion (λ event. IsTimed header.first event.at event.change) l) split.1
-        (order_timed header histories (are_timely longest_blob functions.digest header 0 histories are)))
+        (order_timed header histories (are_timely (longest_of header) functions.digest header 0 histories are)))
         (subst (λ (l : List Event). AreEven header.first (header.first + n) l) split.1 even))
 
     all_even : (n : ℕ) → first_uneven order header.first (suc n) ≡ None → AreEven header.first (header.first + n) order
@@ -123,7 +123,7 @@ histories_sound functions header histories count digests are balanced = by (firs
 
 -- And so of those of logs.
 pub sound : (functions : DigestFunctions) (header : Header) (logs : List (List LogCommand)) (count : ℕ)
-    → GivesDigests functions.digest → AreTyped longest_blob logs
+    → GivesDigests functions.digest → AreTyped (longest_of header) logs
     → AreBalanced (scheme_of functions header) (order_of (histories_of (scheme_of functions header) header logs)) header.first count
     → IsSerialOrCollides (scheme_of functions header) (exhibit_of header.first count (histories_of (scheme_of functions header) header logs))
     (operations_in (order_within header.first count (histories_of (scheme_of functions header) header logs)))
@@ -133,7 +133,7 @@ sound functions header logs count digests typed balanced =
 
 -- Also where all of their commands name paths.
 pub path_sound : (functions : DigestFunctions) (header : Header) (logs : List (List Command)) (count : ℕ)
-    → GivesDigests functions.digest → ArePathsTyped longest_blob logs
+    → GivesDigests functions.digest → ArePathsTyped (longest_of header) logs
     → AreBalanced (scheme_of functions header) (order_of (path_histories_of (scheme_of functions header) header logs)) header.first count
     → IsSerialOrCollides (scheme_of functions header) (exhibit_of header.first count (path_histories_of (scheme_of functions header) header logs))
     (operations_in (order_within header.first count (path_histories_of (scheme_of functions header) header logs)))

@@ -8,7 +8,7 @@ use Rattle.lamport_clocks.specs.declared.header.Header.{Header}
 use Rattle.record_text.specs.declared.element.Element.{Element}
 use Rattle.record_text.specs.declared.operation.Operation.{Operation}
 use Rattle.record_text.specs.Tree.{wide_of}
-use Rattle.record_text.specs.Longest.{longest_blob}
+use Rattle.record_text.specs.Longest.{longest_of}
 use Rattle.merkle_records.specs.Merkle.{Digest, GivesDigests}
 use Rattle.stamp_order.specs.Serial.{none_everywhere, map_after}
 use Rattle.verifier_cache.specs.declared.entry.Entry.{Entry}
@@ -227,39 +227,39 @@ module _ (wide : Bool) (longest : ℕ) (digest : Digest) (one : HasOneText longe
 -- what stands behind a front of the merged order
 abbrev StandBehind : Digest → Header → List Event → List Event → Type 0
 StandBehind digest header front back =
-    Stand (wide_of header) longest_blob digest (shown_behind (opening_shown header) front) (last_evicted_behind none_evicted (changes_in front))
+    Stand (wide_of header) (longest_of header) digest (shown_behind (opening_shown header) front) (last_evicted_behind none_evicted (changes_in front))
     (stored_behind none_everywhere (operations_in front)) (pending_behind [] (changes_in front)) back
 
 -- in spots that agree with what a front left, data paths to which no pointer leads are untouched and have no value
 pub absent_behind : (digest : Digest) (header : Header) (events : List Event) (spots : Spots) → IsBehind digest header events spots
     → AreAbsent (stored_behind none_everywhere (operations_in events)) spots
 absent_behind digest header events spots behind =
-    absent_keys (wide_of header) longest_blob digest (shown_behind (opening_shown header) events)
+    absent_keys (wide_of header) (longest_of header) digest (shown_behind (opening_shown header) events)
     (last_evicted_behind none_evicted (changes_in events)) (stored_behind none_everywhere (operations_in events)) spots behind.world
 
 module _ (functions : DigestFunctions) (header : Header) (histories : List (List Event)) (last : ℕ) where
   -- at the opening
-  at_opening : AreHistories longest_blob functions.digest header 0 histories
+  at_opening : AreHistories (longest_of header) functions.digest header 0 histories
       → ArePermuted header.first last (order_of histories)
       → StandBehind functions.digest header [] (order_up_to last histories)
   at_opening are permuted = record {
     spots = opening_spots (wide_of header);
     world = opening_world functions.digest header;
     waits = none_waiting (wide_of header);
-    run = order_run header longest_blob functions.digest histories last are;
-    scheduled = order_scheduled header histories last (are_timely longest_blob functions.digest header 0 histories are)
+    run = order_run header (longest_of header) functions.digest histories last are;
+    scheduled = order_scheduled header histories last (are_timely (longest_of header) functions.digest header 0 histories are)
         permuted;
   }
 
   -- behind a front
   stand_at : (front back : List Event) → GivesDigests functions.digest
-      → AreHistories longest_blob functions.digest header 0 histories
+      → AreHistories (longest_of header) functions.digest header 0 histories
       → ArePermuted header.first last (order_of histories)
       → order_up_to last histories ≡ front ++ back
       → first_clash none_evicted (changes_in front) ≡ None
       → StandBehind functions.digest header front back
   stand_at front back digests are permuted is free =
-      stand_behind (wide_of header) longest_blob functions.digest one_text digests front back (opening_shown header) none_evicted none_everywhere []
+      stand_behind (wide_of header) (longest_of header) functions.digest (one_text (longest_of header)) digests front back (opening_shown header) none_evicted none_everywhere []
       (subst (λ (l : List Event). StandBehind functions.digest header [] l) is (at_opening are permuted)) free
 
   -- the spots of a stand agree with what the front left
@@ -269,7 +269,7 @@ module _ (functions : DigestFunctions) (header : Header) (histories : List (List
 
   -- Each path has one spot.
   pub one_spot : (front back : List Event) → GivesDigests functions.digest
-      → AreHistories longest_blob functions.digest header 0 histories
+      → AreHistories (longest_of header) functions.digest header 0 histories
       → ArePermuted header.first last (order_of histories)
       → order_up_to last histories ≡ front ++ back
       → first_clash none_evicted (changes_in front) ≡ None
@@ -280,7 +280,7 @@ module _ (functions : DigestFunctions) (header : Header) (histories : List (List
 
   -- And data paths to which no pointer leads are untouched and have no value.
   pub absent_spots : (front back : List Event) → GivesDigests functions.digest
-      → AreHistories longest_blob functions.digest header 0 histories
+      → AreHistories (longest_of header) functions.digest header 0 histories
       → ArePermuted header.first last (order_of histories)
       → order_up_to last histories ≡ front ++ back
       → first_clash none_evicted (changes_in front) ≡ None
@@ -291,18 +291,18 @@ module _ (functions : DigestFunctions) (header : Header) (histories : List (List
 
   -- What the events of a front add isn't shown before them.
   pub all_fresh : (front back : List Event) → GivesDigests functions.digest
-      → AreHistories longest_blob functions.digest header 0 histories
+      → AreHistories (longest_of header) functions.digest header 0 histories
       → ArePermuted header.first last (order_of histories)
       → order_up_to last histories ≡ front ++ back
       → first_clash none_evicted (changes_in front) ≡ None
       → AreFresh (opening_shown header) front
   all_fresh front back digests are permuted is free =
-      fresh_behind (wide_of header) longest_blob functions.digest one_text digests front back (opening_shown header) none_evicted none_everywhere []
+      fresh_behind (wide_of header) (longest_of header) functions.digest (one_text (longest_of header)) digests front back (opening_shown header) none_evicted none_everywhere []
       (subst (λ (l : List Event). StandBehind functions.digest header [] l) is (at_opening are permuted)) free
 
   -- The next event takes what is there.
   pub takes_next : (front : List Event) (event : Event) (back : List Event) → GivesDigests functions.digest
-      → AreHistories longest_blob functions.digest header 0 histories
+      → AreHistories (longest_of header) functions.digest header 0 histories
       → ArePermuted header.first last (order_of histories)
       → order_up_to last histories ≡ front ++ event ∷ back
       → first_clash none_evicted (changes_in (front ++ event ∷ [])) ≡ None
@@ -312,7 +312,7 @@ module _ (functions : DigestFunctions) (header : Header) (histories : List (List
       let stand = stand_at front (event ∷ back) digests are permuted is parts.0 in (
         stand.spots,
         placed front (event ∷ back) stand,
-        takes_there (wide_of header) longest_blob functions.digest one_text event.verifier (shown_behind (opening_shown header) front)
+        takes_there (wide_of header) (longest_of header) functions.digest (one_text (longest_of header)) event.verifier (shown_behind (opening_shown header) front)
             (shown_after (shown_behind (opening_shown header) front event.verifier) event.change) _ _ stand.spots _
             (λ after. IsScheduled after back) stand.world stand.waits event.change stand.run.0 stand.scheduled
             parts.1,
