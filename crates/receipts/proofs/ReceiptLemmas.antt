@@ -1,5 +1,5 @@
 -- Texts of receipts and certificates, field by field.
-use Rattle.std.proofs.Common.{◌≡◌, ◌≢◌, true, false, append-nil, ℕ, ◌+◌, ◌-◌, ◌<◌, ◌≤◌, ◌^◌, Bool, List, [], ◌∷◌, ◌++◌, length, take, drop, get_or, Option, Some, Result, Ok, Err, refl, sym, ap, subst, ◌∙◌, arith, length-drop, length-take, length-append}
+use Rattle.std.proofs.Common.{◌≡◌, ◌≢◌, true, false, append-nil, ℕ, ◌+◌, ◌-◌, ◌<◌, ◌≤◌, ◌^◌, ◌==◌, eqb-true, Bool, List, [], ◌∷◌, ◌++◌, length, take, drop, get_or, Option, Some, Result, Ok, Err, refl, sym, ap, subst, ◌∙◌, arith, length-drop, length-take, length-append}
 use Rattle.std.specs.Int.{w16, w32, w64, byte_len, from_be_bytes, to_be_bytes}
 use Rattle.std.proofs.lemmas.List.{take_all, take_at, drop_at, take-append-drop}
 use Rattle.std.proofs.Math.Seq.{take-append_seam, drop-append_seam}
@@ -157,6 +157,9 @@ pub blob-taken : (bytes old left : List ℕ) (read : Result (Option (List ℕ)) 
 blob-taken bytes old left read blob all takes is spelled =
     taken read left (blob_at longest_blob old) blob takes
     (ap (blob_at longest_blob) (all ∙ (spelled ∙ sym (append-nil (blob_text blob)))) ∙ blob_again longest_blob blob [] is)
+
+pub at_end : (left : List ℕ) → (length left == 0) ≡ true → length left ≤ 0
+at_end left is = omega (arith, eqb-true (length left) 0 is)
 
 none-left : (left : List ℕ) → length left ≤ 0 → left ≡ []
 none-left [] none = refl

@@ -1,5 +1,5 @@
 //! Receipts and certificates are read from bytes that are said to be such, each whole.
-ghost use Rattle.std.specs.Prelude.{◌≡◌, ℕ, ◌<◌, ◌≤◌, ◌^◌, ◌++◌, Bool, List, length, Option, Some, IfSome};
+ghost use Rattle.std.specs.Prelude.{◌≡◌, ℕ, ◌==◌, ◌<◌, ◌≤◌, ◌^◌, ◌++◌, Bool, List, length, Option, Some, IfSome};
 ghost use Rattle.std.specs.Int.{w16, w32, w64, w128, byte_len, from_be_bytes};
 ghost use Rattle.tree_keys.specs.Path.{key_bits};
 ghost use Rattle.record_text.specs.declared.operation.Operation.{Operation};
@@ -138,10 +138,17 @@ fn blob_in(bytes: &[u8]) -> Option<Blob>
     let Ok(blob) = reader.blob(LONGEST_BLOB as u8) else {
         return None;
     };
-    if reader.left() > 0 {
+    if !is_at_end(&reader) {
         return None;
     }
     Some(blob.to_blob())
+}
+
+// Whether no bytes are left.
+fn is_at_end(reader: &Reader) -> bool
+    ensures value { result ≡ (length reader.now == 0) }
+{
+    reader.left() == 0
 }
 
 // The number of two bytes.
