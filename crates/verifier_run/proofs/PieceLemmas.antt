@@ -52,7 +52,7 @@ longer_than_held format held more command len cut is spelled =
 
 -- where a command is still cut though there was room for more of the piece, the piece has ended
 pub piece_ended : (header : Header) (held piece : List ℕ) (room : ℕ) → command_at (format_of header) (held ++ take room piece) ≡ Err faults.Truncated
-    → length held + room ≡ 106 → length piece ≤ room
+    → 106 ≤ length held + room → length piece ≤ room
 piece_ended header held piece room cut full =
     let short : length (held ++ take room piece) < 106 = cut_is_short header (held ++ take room piece) cut in
     omega (arith, short, length-append held (take room piece), length-take room piece)

@@ -215,7 +215,7 @@ fn an_absence_is_a_get_of_none(rt: HostRuntime) {
         counter: 0,
     };
     let text = bytes_of(&rt, rt.alloc(), "09 400000000000000005 000000000000000000");
-    let wanted = Operation::new(start, 0, 1, false, 5, Blob::none());
+    let wanted = Operation::new(start, 0, 1, false, false, 5, Blob::none());
     let found = step(&rt, &mut verifier, &text);
     same(&rt, "the operation", &found, &Ok(Some(wanted)));
     same(&rt, "the clock", &verifier.clock(), &start);

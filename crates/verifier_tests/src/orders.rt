@@ -24,7 +24,15 @@ fn put_at(rt: &impl Abort, text: &str) -> Operation {
         counter: counter.parse().expect(rt, "a number"),
     };
     let verifier = verifier.parse().expect(rt, "a number");
-    Operation::new(stamp, verifier, index, true, index, Blob::none())
+    Operation::new(
+        stamp,
+        verifier,
+        index,
+        true,
+        false,
+        u128::from(index),
+        Blob::none(),
+    )
 }
 
 fn puts_at(rt: &impl Abort, alloc: Global, texts: &str) -> Vec<Operation> {
@@ -89,11 +97,11 @@ fn a_plain_map_has_what_was_put_last(rt: HostRuntime) {
     let mut map = PlainMap::new(rt.alloc());
     same(&rt, "nothing was put", &map.get(5), &Blob::none());
     put_at_5(&rt, &mut map, "=ab");
-    let longest = Blob::of_bytes(&[7; 64]).expect(&rt, "a value that is too long");
-    map.put(u64::MAX, longest.copy()).expect(&rt, "memory");
+    let longest = Blob::of_bytes(&[7; 255]).expect(&rt, "a value that is too long");
+    map.put(u128::MAX, longest.copy()).expect(&rt, "memory");
     put_at_5(&rt, &mut map, "=");
     put_at_5(&rt, &mut map, "none");
-    same(&rt, "the longest", &map.get(u64::MAX), &longest);
+    same(&rt, "the longest", &map.get(u128::MAX), &longest);
     same(&rt, "another key", &map.get(0), &Blob::none());
 }
 

@@ -60,7 +60,7 @@ pub fn path_of(rt: &impl Abort, text: &str) -> Path {
 fn path_of_bits(rt: &impl Abort, text: &str) -> Path {
     let mut path = Path::root();
     for bit in text.as_bytes() {
-        if path.len() == 64 {
+        if path.is_data() {
             panic!(rt; "a path of more than 64 bits");
         }
         path = path.child(*bit == b'1');

@@ -79,7 +79,7 @@ fn ab_at_5(rt: &impl Abort, index: u64, put: bool) -> Operation {
         counter: 0,
     };
     let value = Blob::of_bytes(b"ab").expect(rt, "a value that is too long");
-    Operation::new(stamp, 0, index, put, 5, value)
+    Operation::new(stamp, 0, index, put, false, 5, value)
 }
 
 // How many bytes a piece has.
