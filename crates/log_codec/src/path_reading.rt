@@ -5,9 +5,11 @@ ghost use Rattle.log_codec.specs.LogCommand.{naming_paths};
 
 use crate::command::Command;
 use crate::log_command::LogCommand;
+use lamport_clocks::Stamp;
 use record_text::{Blob, Reader, TextFault, Value};
 
-// The fields of each command, behind its tag: the command goes into a place, once.
+// The fields of each command, behind its tag. A command that has a value is in its place before the value is read, so that the
+// value's bytes are written where they stay: to move a value takes as long as to read all other fields.
 
 fn add_m(
     reader: &mut Reader<'_>,
@@ -18,14 +20,19 @@ fn add_m(
     ensures takes { TakesInto result place.new reader.new (naming_paths (add_m_at wide longest reader.old)) }
 {
     let path = reader.path(wide)?;
-    let mut value = Value::Blob(Blob::none());
-    reader.value_into(longest, &path, &mut value)?;
-    let parent = reader.path(wide)?;
     *place = LogCommand::ByPath(Command::AddM {
         path,
-        value,
-        parent,
+        value: Value::Blob(Blob::none()),
+        parent: path,
     });
+    let LogCommand::ByPath(command) = place else {
+        unreachable!();
+    };
+    let Command::AddM { value, parent, .. } = command else {
+        unreachable!();
+    };
+    reader.value_into(longest, &path, value)?;
+    *parent = reader.path(wide)?;
     Ok(())
 }
 
@@ -47,16 +54,30 @@ fn add_b(
     ensures takes { TakesInto result place.new reader.new (naming_paths (add_b_at wide longest reader.old)) }
 {
     let path = reader.path(wide)?;
-    let mut value = Value::Blob(Blob::none());
-    reader.value_into(longest, &path, &mut value)?;
-    let stamp = reader.stamp()?;
-    let verifier = reader.u16()?;
     *place = LogCommand::ByPath(Command::AddB {
         path,
+        value: Value::Blob(Blob::none()),
+        stamp: Stamp {
+            epoch: 0,
+            counter: 0,
+        },
+        verifier: 0,
+    });
+    let LogCommand::ByPath(command) = place else {
+        unreachable!();
+    };
+    let Command::AddB {
         value,
         stamp,
         verifier,
-    });
+        ..
+    } = command
+    else {
+        unreachable!();
+    };
+    reader.value_into(longest, &path, value)?;
+    *stamp = reader.stamp()?;
+    *verifier = reader.u16()?;
     Ok(())
 }
 
@@ -92,10 +113,14 @@ fn get(
     ensures takes { TakesInto result place.new reader.new (naming_paths (get_at wide longest reader.old)) }
 {
     let path = reader.path(wide)?;
-    let mut value = Value::Blob(Blob::none());
-    reader.value_into(longest, &path, &mut value)?;
-    *place = LogCommand::ByPath(Command::Get { path, value });
-    Ok(())
+    *place = LogCommand::ByPath(Command::Get {
+        path,
+        value: Value::Blob(Blob::none()),
+    });
+    match place {
+        LogCommand::ByPath(Command::Get { value, .. }) => reader.value_into(longest, &path, value),
+        _ => unreachable!(),
+    }
 }
 
 fn put(
@@ -107,10 +132,14 @@ fn put(
     ensures takes { TakesInto result place.new reader.new (naming_paths (put_at wide longest reader.old)) }
 {
     let path = reader.path(wide)?;
-    let mut value = Value::Blob(Blob::none());
-    reader.value_into(longest, &path, &mut value)?;
-    *place = LogCommand::ByPath(Command::Put { path, value });
-    Ok(())
+    *place = LogCommand::ByPath(Command::Put {
+        path,
+        value: Value::Blob(Blob::none()),
+    });
+    match place {
+        LogCommand::ByPath(Command::Put { value, .. }) => reader.value_into(longest, &path, value),
+        _ => unreachable!(),
+    }
 }
 
 fn absent(reader: &mut Reader<'_>, wide: bool, place: &mut LogCommand) -> Result<(), TextFault>

@@ -5,9 +5,11 @@ ghost use Rattle.log_codec.specs.LogCommand.{naming_slots};
 
 use crate::log_command::LogCommand;
 use crate::slot_command::SlotCommand;
+use lamport_clocks::Stamp;
 use record_text::{Blob, Reader, TextFault, Value};
 
-// The fields of each command, behind its tag: the command goes into a place, once.
+// The fields of each command, behind its tag. A command that has a value is in its place before the value is read, as those that
+// name paths are.
 
 fn add_m(
     reader: &mut Reader<'_>,
@@ -19,15 +21,20 @@ fn add_m(
 {
     let slot = reader.u16()?;
     let path = reader.path(wide)?;
-    let mut value = Value::Blob(Blob::none());
-    reader.value_into(longest, &path, &mut value)?;
-    let parent = reader.u16()?;
     *place = LogCommand::BySlot(SlotCommand::AddM {
         slot,
         path,
-        value,
-        parent,
+        value: Value::Blob(Blob::none()),
+        parent: 0,
     });
+    let LogCommand::BySlot(command) = place else {
+        unreachable!();
+    };
+    let SlotCommand::AddM { value, parent, .. } = command else {
+        unreachable!();
+    };
+    reader.value_into(longest, &path, value)?;
+    *parent = reader.u16()?;
     Ok(())
 }
 
@@ -50,17 +57,31 @@ fn add_b(
 {
     let slot = reader.u16()?;
     let path = reader.path(wide)?;
-    let mut value = Value::Blob(Blob::none());
-    reader.value_into(longest, &path, &mut value)?;
-    let stamp = reader.stamp()?;
-    let verifier = reader.u16()?;
     *place = LogCommand::BySlot(SlotCommand::AddB {
         slot,
         path,
+        value: Value::Blob(Blob::none()),
+        stamp: Stamp {
+            epoch: 0,
+            counter: 0,
+        },
+        verifier: 0,
+    });
+    let LogCommand::BySlot(command) = place else {
+        unreachable!();
+    };
+    let SlotCommand::AddB {
         value,
         stamp,
         verifier,
-    });
+        ..
+    } = command
+    else {
+        unreachable!();
+    };
+    reader.value_into(longest, &path, value)?;
+    *stamp = reader.stamp()?;
+    *verifier = reader.u16()?;
     Ok(())
 }
 
@@ -91,18 +112,34 @@ fn get(reader: &mut Reader<'_>, longest: u8, place: &mut LogCommand) -> Result<(
     ensures takes { TakesInto result place.new reader.new (naming_slots (get_at longest reader.old)) }
 {
     let slot = reader.u16()?;
-    let value = reader.blob(longest)?.to_blob();
-    *place = LogCommand::BySlot(SlotCommand::Get { slot, value });
-    Ok(())
+    *place = LogCommand::BySlot(SlotCommand::Get {
+        slot,
+        value: Blob::none(),
+    });
+    match place {
+        LogCommand::BySlot(SlotCommand::Get { value, .. }) => {
+            value.assign_from(&reader.blob(longest)?);
+            Ok(())
+        }
+        _ => unreachable!(),
+    }
 }
 
 fn put(reader: &mut Reader<'_>, longest: u8, place: &mut LogCommand) -> Result<(), TextFault>
     ensures takes { TakesInto result place.new reader.new (naming_slots (put_at longest reader.old)) }
 {
     let slot = reader.u16()?;
-    let value = reader.blob(longest)?.to_blob();
-    *place = LogCommand::BySlot(SlotCommand::Put { slot, value });
-    Ok(())
+    *place = LogCommand::BySlot(SlotCommand::Put {
+        slot,
+        value: Blob::none(),
+    });
+    match place {
+        LogCommand::BySlot(SlotCommand::Put { value, .. }) => {
+            value.assign_from(&reader.blob(longest)?);
+            Ok(())
+        }
+        _ => unreachable!(),
+    }
 }
 
 fn absent(reader: &mut Reader<'_>, wide: bool, place: &mut LogCommand) -> Result<(), TextFault>
