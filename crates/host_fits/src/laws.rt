@@ -1,6 +1,7 @@
 //! What holds of the shipped host's world, behind whatever events. The functions do nothing: their contracts are the laws.
 ghost use Rattle.std.specs.Prelude.{◌≡◌, ℕ, ◌<◌, ◌≤◌, List, length, IfSome, Some, None};
 ghost use Rattle.lamport_clocks.specs.Reading.{Reading};
+ghost use Rattle.lamport_clocks.specs.declared.header.Header.{Header};
 ghost use Rattle.record_hash.specs.Functions.{DigestFunctions};
 ghost use Rattle.record_text.specs.declared.request.Request.{Request};
 ghost use Rattle.record_text.specs.Longest.{longest_of};
@@ -25,7 +26,7 @@ ghost use Rattle.host_core.specs.Core.{histories};
 ghost use Rattle.host_order.specs.Steady.{IsSteady};
 ghost use Rattle.host_order.specs.Close.{MovesKeepEpoch};
 ghost use Rattle.host_world.specs.declared.settings.Settings.{Settings};
-ghost use Rattle.host_world.specs.Behind.{AreInRange};
+ghost use Rattle.host_world.specs.Behind.{AreInRange, HaveShortValues};
 ghost use Rattle.host_world.specs.Moving.{seats_of};
 ghost use Rattle.host_world.specs.ShippedHost.{shipped_host};
 ghost use Rattle.host_fits.specs.Promise.{CanRun, IsPromised};
@@ -59,9 +60,11 @@ pub fn the_contents_hold_the_plain_map()
         (stored_behind none_everywhere (certified_operations (scheme host) settings.header.first (histories host (run_events host (set_up host) events)))) }
 {}
 
-/// What a script asks for line by line has keys in range.
+/// What a script asks for line by line has keys in range, and values that are not too long for a bundle.
 pub fn scripts_ask_for_keys_in_range()
     ensures keys { (verifiers : ℕ) (script : List (List Task)) → AreTasks verifiers script → AreInRange script }
+    ensures values { (verifiers : ℕ) (header : Header) (script : List (List Task)) → AreTasks verifiers script
+        → HaveShortValues header script }
 {}
 
 /// A plan is what the host does for its request, and where its clock would pass the end the host does nothing.

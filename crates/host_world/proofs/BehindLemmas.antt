@@ -8,7 +8,7 @@ use Rattle.lamport_clocks.specs.Reading.{Reading}
 use Rattle.record_hash.specs.Functions.{DigestFunctions}
 use Rattle.record_text.specs.declared.element.Element.{Element}
 use Rattle.record_text.specs.declared.request.Request.{Request}
-use Rattle.record_text.specs.Longest.{longest_blob}
+use Rattle.record_text.specs.Longest.{longest_blob, longest_of}
 use Rattle.merkle_records.specs.Merkle.{GivesDigests}
 use Rattle.host_core.specs.World.{Place, World, worker_at, shard_at}
 use Rattle.log_codec.specs.declared.command.Command.{Command}
@@ -23,6 +23,7 @@ use Rattle.host_world.specs.Settings.{bits_within, frontier_bits}
 use Rattle.host_world.specs.Orderly.{IsOrderly, moved_by}
 use Rattle.host_world.specs.Behind.{IsBehindSetup, with_logs, CanTakeSeats}
 use Rattle.host_world.proofs.FrontLaws.{clock_with, enabled_with}
+use Rattle.host_world.proofs.LongerLaws.{longest_fits, owns_longer, seats_longer}
 use Rattle.host_world.proofs.PlaceLaws.{waits_there}
 use Rattle.host_world.proofs.RangeLaws.{next_in_range}
 use Rattle.host_world.proofs.SeatLaws.{seat_serves}
@@ -75,7 +76,8 @@ module _ (functions : DigestFunctions) (settings : Settings) (script : List (Lis
       let whole = behind_orderly.shards place.shard may.there.0 in
       let seats = (shard_at world place.shard).contents in
       let clock = (worker_at (host functions settings script) world i).clock in (
-        (seat_serves longest_blob functions.digest seats whole.mirrors place.seat request (next_in_range functions settings script behind.keys world i request may.next) may.owns).own,
+        owns_longer (longest_of settings.header) longest_blob (longest_fits settings.header) (get_or seats place.seat vacant) request.key
+            (seat_serves (longest_of settings.header) functions.digest seats whole.mirrors place.seat request (next_in_range functions settings script behind.keys world i request may.next) may.owns).own,
         open_at clock _ (get_or seats place.seat vacant) (omega (arith, epoch, ap moved_by still))
             (waits_there (λ element. element.stamp.epoch ≡ _) seats place.seat whole.stamped),
       )
@@ -97,7 +99,7 @@ module _ (functions : DigestFunctions) (settings : Settings) (script : List (Lis
       let whole = behind_orderly.shards s may.shard in
       let clock = (worker_at (host functions settings script) world i).clock in
       record {
-        mirrors = whole.mirrors;
+        mirrors = seats_longer (longest_of settings.header) longest_blob (longest_fits settings.header) functions.digest (shard_at world s).contents whole.mirrors;
         open_epochs = all-open clock _ (omega (arith, behind_orderly.bounded i, may.turned)) (omega (arith, may.turned, ap moved_by may.still)) _ whole.stamped;
       }
     where

@@ -7,7 +7,7 @@ use Rattle.lamport_clocks.specs.Reading.{Reading}
 use Rattle.lamport_clocks.specs.Clock.{last_epoch}
 use Rattle.record_hash.specs.Functions.{DigestFunctions}
 use Rattle.record_text.specs.declared.request.Request.{Request}
-use Rattle.record_text.specs.Longest.{longest_blob}
+use Rattle.record_text.specs.Longest.{longest_of}
 use Rattle.merkle_records.specs.Merkle.{Digest, GivesDigests}
 use Rattle.log_codec.specs.declared.command.Command.TheVariants.{NextEpoch}
 use Rattle.host_core.specs.Host.{Done}
@@ -46,14 +46,14 @@ frontiers world = map (λ (seats : Seats Content). frontier_in seats.contents) w
 -- ---- what is done at a shard
 
 -- another content at a seat, which is the same shard or hot record
-frontier-set : (digest : Digest) (seats : List Content) (mirrors : SeatsMirror longest_blob digest seats) (seat : ℕ) (new : Content)
-    → IsSame longest_blob digest seats mirrors (get_or seats seat vacant) new → frontier_in (set seats seat new) ≡ frontier_in seats
-frontier-set digest seats mirrors seat new same =
+frontier-set : (longest : ℕ) (digest : Digest) (seats : List Content) (mirrors : SeatsMirror longest digest seats) (seat : ℕ) (new : Content)
+    → IsSame longest digest seats mirrors (get_or seats seat vacant) new → frontier_in (set seats seat new) ≡ frontier_in seats
+frontier-set longest digest seats mirrors seat new same =
     ap (λ (xs : List Content). frontier_in (set xs seat new)) mirrors.is
-    ∙ (go seat new (subst (λ (xs : List Content). IsSame longest_blob digest seats mirrors (get_or xs seat vacant) new) mirrors.is same)
+    ∙ (go seat new (subst (λ (xs : List Content). IsSame longest digest seats mirrors (get_or xs seat vacant) new) mirrors.is same)
     ∙ ap (λ (xs : List Content). frontier_in xs) (sym mirrors.is))
   where
-    go : (k : ℕ) (content : Content) → IsSame longest_blob digest seats mirrors (get_or (cold mirrors.shard ∷ mirrors.places) k vacant) content
+    go : (k : ℕ) (content : Content) → IsSame longest digest seats mirrors (get_or (cold mirrors.shard ∷ mirrors.places) k vacant) content
         → frontier_in (set (cold mirrors.shard ∷ mirrors.places) k content) ≡ mirrors.shard.frontier
     go zero (cold shard) is = is
     go zero (hot found) is = absurd is
@@ -61,22 +61,22 @@ frontier-set digest seats mirrors seat new same =
     go (suc k) content is = refl
 
 -- a request leaves it
-serve_frontier : (absent : Bool) (digest : Digest) (i epoch : ℕ) (clock : Reading) (seats : List Content) (seat : ℕ) (request : Request) (done : Done Content)
-    → IsOrderlyShard digest epoch seats → serve_at absent digest i clock (get_or seats seat vacant) request ≡ Some done
+serve_frontier : (absent : Bool) (longest : ℕ) (digest : Digest) (i epoch : ℕ) (clock : Reading) (seats : List Content) (seat : ℕ) (request : Request) (done : Done Content)
+    → IsOrderlyShard longest digest epoch seats → serve_at absent digest i clock (get_or seats seat vacant) request ≡ Some done
     → frontier_in (set seats seat done.after) ≡ frontier_in seats
-serve_frontier absent digest i epoch clock seats seat request done orderly served =
-    frontier-set digest seats orderly.mirrors seat done.after
-    (subst (λ (d : Done Content). IsSame longest_blob digest seats orderly.mirrors (get_or seats seat vacant) d.after)
+serve_frontier absent longest digest i epoch clock seats seat request done orderly served =
+    frontier-set longest digest seats orderly.mirrors seat done.after
+    (subst (λ (d : Done Content). IsSame longest digest seats orderly.mirrors (get_or seats seat vacant) d.after)
     (sym (done_is absent digest i clock (get_or seats seat vacant) request done served))
-    (content-same longest_blob digest seats orderly.mirrors absent i (get_or seats seat vacant) _ request clock))
+    (content-same longest digest seats orderly.mirrors absent i (get_or seats seat vacant) _ request clock))
 
 -- a move leaves it
-move_frontier : (digest : Digest) (i epoch : ℕ) (threshold : Option ℕ) (clock : Reading) (seats : List Content) (done : Done (List Content))
+move_frontier : (longest : ℕ) (digest : Digest) (i epoch : ℕ) (threshold : Option ℕ) (clock : Reading) (seats : List Content) (done : Done (List Content))
     → GivesDigests digest → IfSome threshold (λ least. 0 < least)
-    → IsOrderlyShard digest epoch seats → move_seats digest i threshold (stage_of clock seats) ≡ Some done
+    → IsOrderlyShard longest digest epoch seats → move_seats digest i threshold (stage_of clock seats) ≡ Some done
     → frontier_in done.after ≡ frontier_in seats
-move_frontier digest i epoch threshold clock seats done digests least orderly is =
-    moved_frontier (seats_moved longest_blob digest i threshold clock seats done digests least orderly.mirrors is)
+move_frontier longest digest i epoch threshold clock seats done digests least orderly is =
+    moved_frontier (seats_moved longest digest i threshold clock seats done digests least orderly.mirrors is)
     ∙ ap (λ (xs : List Content). frontier_in xs) (sym orderly.mirrors.is)
   where
     moved_frontier : IsMoved digest i threshold (stage_at orderly.mirrors.shard orderly.mirrors.places clock) done
@@ -84,7 +84,7 @@ move_frontier digest i epoch threshold clock seats done digests least orderly is
     moved_frontier moved =
         ap (λ (xs : List Content). frontier_in xs) moved.after
         ∙ (ap (λ (s : Stage). s.shard.frontier) moved.is.after
-        ∙ each-frontier longest_blob digest i (begun i (stage_at orderly.mirrors.shard orderly.mirrors.places clock)) moved.is.descents)
+        ∙ each-frontier longest digest i (begun i (stage_at orderly.mirrors.shard orderly.mirrors.places clock)) moved.is.descents)
 
 -- ---- what happens in a world
 
@@ -113,7 +113,7 @@ module _ (functions : DigestFunctions) (settings : Settings) (script : List (Lis
   serve_step world i place request orderly may None is = refl
   serve_step world i place request orderly may (Some done) is =
       shard_frontiers world place.shard (record (shard_at world place.shard) { contents = set (shard_at world place.shard).contents place.seat done.after })
-      (serve_frontier settings.absent functions.digest i _ (worker_at (host functions settings script) world i).clock (shard_at world place.shard).contents place.seat request done
+      (serve_frontier settings.absent (longest_of settings.header) functions.digest i _ (worker_at (host functions settings script) world i).clock (shard_at world place.shard).contents place.seat request done
       (orderly.shards place.shard may.there.0) is)
 
   move_step : (world : World Content) (i s : ℕ) → IsOrderly functions settings script world
@@ -123,7 +123,7 @@ module _ (functions : DigestFunctions) (settings : Settings) (script : List (Lis
   move_step world i s orderly may None is = refl
   move_step world i s orderly may (Some done) is =
       shard_frontiers world s (record { contents = done.after; moved = true })
-      (move_frontier functions.digest i _ settings.hot (worker_at (host functions settings script) world i).clock (shard_at world s).contents done digests least (orderly.shards s may.shard) is)
+      (move_frontier (longest_of settings.header) functions.digest i _ settings.hot (worker_at (host functions settings script) world i).clock (shard_at world s).contents done digests least (orderly.shards s may.shard) is)
 
   -- an event that is enabled
   step_frontiers : (world : World Content) (event : WorldEvent Request) → IsOrderly functions settings script world

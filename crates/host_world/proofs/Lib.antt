@@ -7,6 +7,7 @@ pub mod FrontLaws
 mod ServeLemmas
 pub mod PlannedLaws
 pub mod SeatLaws
+pub mod LongerLaws
 pub mod RangeLaws
 mod OrderlyLemmas
 mod BehindLemmas

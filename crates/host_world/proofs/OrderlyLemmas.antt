@@ -9,7 +9,7 @@ use Rattle.lamport_clocks.specs.Clock.{last_epoch}
 use Rattle.record_hash.specs.Functions.{DigestFunctions}
 use Rattle.record_text.specs.declared.element.Element.{Element}
 use Rattle.record_text.specs.declared.request.Request.{Request}
-use Rattle.record_text.specs.Longest.{longest_blob}
+use Rattle.record_text.specs.Longest.{longest_of}
 use Rattle.merkle_records.specs.Merkle.{GivesDigests}
 use Rattle.host_core.specs.Host.{Done, Host}
 use Rattle.host_core.specs.World.{Place, Worker, Seats, World, fresh, unmoved, worker_at, shard_at, epoch_of, set_up}
@@ -95,7 +95,7 @@ module _ (functions : DigestFunctions) (settings : Settings) (script : List (Lis
 
   -- other seats of a shard leave it so
   shard_keeps : (world : World Content) (s : ℕ) (new : Seats Content) → IsOrderly functions settings script world
-      → IsOrderlyShard functions.digest (epoch_of host world + moved_by new.moved) new.contents → (world.closing ≡ false → new.moved ≡ false)
+      → IsOrderlyShard (longest_of settings.header) functions.digest (epoch_of host world + moved_by new.moved) new.contents → (world.closing ≡ false → new.moved ≡ false)
       → IsOrderly functions settings script (with_shard world s new)
   shard_keeps world s new orderly whole still = record {
     bounded = orderly.bounded;
@@ -107,11 +107,11 @@ module _ (functions : DigestFunctions) (settings : Settings) (script : List (Lis
       shards : (t : ℕ) → t < length world.shards
           → ((t ≡ s) × ((s < length world.shards) × (get_or (set world.shards s new) t (unmoved []) ≡ new)))
           ⊎ (get_or (set world.shards s new) t (unmoved []) ≡ get_or world.shards t (unmoved []))
-          → IsOrderlyShard functions.digest (epoch_of host world + moved_by (get_or (set world.shards s new) t (unmoved [])).moved) (get_or (set world.shards s new) t (unmoved [])).contents
+          → IsOrderlyShard (longest_of settings.header) functions.digest (epoch_of host world + moved_by (get_or (set world.shards s new) t (unmoved [])).moved) (get_or (set world.shards s new) t (unmoved [])).contents
       shards t there (inl is) =
-          subst (λ (seats : Seats Content). IsOrderlyShard functions.digest (epoch_of host world + moved_by seats.moved) seats.contents) (sym is.1.1) whole
+          subst (λ (seats : Seats Content). IsOrderlyShard (longest_of settings.header) functions.digest (epoch_of host world + moved_by seats.moved) seats.contents) (sym is.1.1) whole
       shards t there (inr is) =
-          subst (λ (seats : Seats Content). IsOrderlyShard functions.digest (epoch_of host world + moved_by seats.moved) seats.contents) (sym is) (orderly.shards t there)
+          subst (λ (seats : Seats Content). IsOrderlyShard (longest_of settings.header) functions.digest (epoch_of host world + moved_by seats.moved) seats.contents) (sym is) (orderly.shards t there)
 
       still_there : world.closing ≡ false → (t : ℕ) → t < length world.shards
           → ((t ≡ s) × ((s < length world.shards) × (get_or (set world.shards s new) t (unmoved []) ≡ new)))
@@ -133,18 +133,18 @@ module _ (functions : DigestFunctions) (settings : Settings) (script : List (Lis
         let seats = shard_at world place.shard in
         let still = orderly.unmoved may.serving.phase place.shard may.there.0 in
         let epoch : clock.at.epoch ≡ epoch_of host world = orderly.clocked may.serving.phase i may.serving.there in
-        let whole : IsOrderlyShard functions.digest clock.at.epoch seats.contents =
-        subst (λ (e : ℕ). IsOrderlyShard functions.digest e seats.contents) (omega (arith, epoch, ap moved_by still)) (orderly.shards place.shard may.there.0) in
+        let whole : IsOrderlyShard (longest_of settings.header) functions.digest clock.at.epoch seats.contents =
+        subst (λ (e : ℕ). IsOrderlyShard (longest_of settings.header) functions.digest e seats.contents) (omega (arith, epoch, ap moved_by still)) (orderly.shards place.shard may.there.0) in
         let small = next_in_range functions settings script keys world i request may.next in
-        let kept = serve_keeps settings.absent longest_blob functions.digest i clock seats.contents place.seat request done digests whole.mirrors small may.owns is in
-        let after : IsOrderlyShard functions.digest clock.at.epoch (set seats.contents place.seat done.after) = record {
+        let kept = serve_keeps settings.absent (longest_of settings.header) functions.digest i clock seats.contents place.seat request done digests whole.mirrors small may.owns is in
+        let after : IsOrderlyShard (longest_of settings.header) functions.digest clock.at.epoch (set seats.contents place.seat done.after) = record {
           mirrors = kept.mirrors;
           stamped = waits-set (λ element. element.stamp.epoch ≡ clock.at.epoch) seats.contents place.seat done.after
               (all-epochs i clock.at.epoch _ kept.waits) whole.stamped;
         } in
         shard_keeps (with_worker world i _) place.shard _
         (worker_keeps world i _ orderly (kept.same_epoch.first ∙ orderly.bounded i) (λ there phase. kept.same_epoch.epoch ∙ epoch))
-        (subst (λ (e : ℕ). IsOrderlyShard functions.digest e (set seats.contents place.seat done.after)) (omega (arith, epoch, ap moved_by still)) after)
+        (subst (λ (e : ℕ). IsOrderlyShard (longest_of settings.header) functions.digest e (set seats.contents place.seat done.after)) (omega (arith, epoch, ap moved_by still)) after)
         (λ phase. still)
 
     -- a move
@@ -156,14 +156,14 @@ module _ (functions : DigestFunctions) (settings : Settings) (script : List (Lis
         same_clock_keeps world i (record (worker_at host world i) { stuck = true }) orderly refl
     move_orderly world i s orderly may (Some done) is =
         let clock = (worker_at host world i).clock in
-        let kept = move_keeps longest_blob functions.digest i settings.hot clock (shard_at world s).contents done digests least (orderly.shards s may.shard).mirrors is in
-        let after : IsOrderlyShard functions.digest clock.at.epoch done.after = record {
+        let kept = move_keeps (longest_of settings.header) functions.digest i settings.hot clock (shard_at world s).contents done digests least (orderly.shards s may.shard).mirrors is in
+        let after : IsOrderlyShard (longest_of settings.header) functions.digest clock.at.epoch done.after = record {
           mirrors = kept.mirrors;
           stamped = all-epochs i clock.at.epoch _ kept.waits;
         } in
         shard_keeps (with_worker world i _) s _
         (worker_keeps world i _ orderly (kept.same_epoch.first ∙ orderly.bounded i) (λ there phase. absurd (false≢true (sym phase ∙ may.closing))))
-        (subst (λ (e : ℕ). IsOrderlyShard functions.digest e done.after) may.turned after)
+        (subst (λ (e : ℕ). IsOrderlyShard (longest_of settings.header) functions.digest e done.after) may.turned after)
         (λ phase. absurd (false≢true (sym phase ∙ may.closing)))
 
     -- the next epoch
@@ -199,12 +199,12 @@ module _ (functions : DigestFunctions) (settings : Settings) (script : List (Lis
     }
       where
         opened : (s : ℕ) → s < length world.shards
-            → IsOrderlyShard functions.digest (settings.header.first + suc world.phase + moved_by (get_or (map (λ (seats : Seats Content). unmoved seats.contents) world.shards) s (unmoved [])).moved)
+            → IsOrderlyShard (longest_of settings.header) functions.digest (settings.header.first + suc world.phase + moved_by (get_or (map (λ (seats : Seats Content). unmoved seats.contents) world.shards) s (unmoved [])).moved)
             (get_or (map (λ (seats : Seats Content). unmoved seats.contents) world.shards) s (unmoved [])).contents
         opened s there =
-            subst (λ (seats : Seats Content). IsOrderlyShard functions.digest (settings.header.first + suc world.phase + moved_by seats.moved) seats.contents)
+            subst (λ (seats : Seats Content). IsOrderlyShard (longest_of settings.header) functions.digest (settings.header.first + suc world.phase + moved_by seats.moved) seats.contents)
             (sym (get_or-map (λ (seats : Seats Content). unmoved seats.contents) world.shards s (unmoved []) (unmoved []) there))
-            (subst (λ (e : ℕ). IsOrderlyShard functions.digest e (shard_at world s).contents)
+            (subst (λ (e : ℕ). IsOrderlyShard (longest_of settings.header) functions.digest e (shard_at world s).contents)
             (omega (arith, ap moved_by (may.moved s there))) (orderly.shards s there))
 
     -- an event that is enabled
@@ -251,13 +251,13 @@ module _ (functions : DigestFunctions) (settings : Settings) (script : List (Lis
       epoch (suc i) = ap (λ (w : Worker). w.clock.at.epoch) (get_or-same (settings.header.verifiers - 1) i (fresh settings.header)) ∙ omega arith
 
       seats : (s : ℕ) → s < length contents
-          → IsOrderlyShard functions.digest (settings.header.first + 0 + moved_by (shard_at (set_up host) s).moved) (shard_at (set_up host) s).contents
+          → IsOrderlyShard (longest_of settings.header) functions.digest (settings.header.first + 0 + moved_by (shard_at (set_up host) s).moved) (shard_at (set_up host) s).contents
       seats s there =
           let at_place = get_or-map unmoved (map new_seats contents) s [] (unmoved []) (omega (arith, there, length-map contents new_seats)) in
           let at_seats = get_or-map new_seats contents s vacant [] there in
           let frontier = get_or paths s [] in
           let at_content = get_or-map (first_content settings.header.first) paths s [] vacant (omega (arith, there, length-map paths (first_content settings.header.first))) in
-          subst (λ (found : Seats Content). IsOrderlyShard functions.digest (settings.header.first + 0 + moved_by found.moved) found.contents)
+          subst (λ (found : Seats Content). IsOrderlyShard (longest_of settings.header) functions.digest (settings.header.first + 0 + moved_by found.moved) found.contents)
           (sym (at_place ∙ ap unmoved (at_seats ∙ ap new_seats at_content)))
           (record {
             mirrors = record {
@@ -266,8 +266,8 @@ module _ (functions : DigestFunctions) (settings : Settings) (script : List (Lis
               is = refl;
               four = refl;
               hot_alone = (tt, (tt, (tt, (tt, tt))));
-              mirrored = subst (ContentMirrors longest_blob functions.digest []) at_content
-                  (all-get (ContentMirrors longest_blob functions.digest []) contents s vacant (contents_mirror longest_blob functions.digest settings.header.first bits some short) there);
+              mirrored = subst (ContentMirrors (longest_of settings.header) functions.digest []) at_content
+                  (all-get (ContentMirrors (longest_of settings.header) functions.digest []) contents s vacant (contents_mirror (longest_of settings.header) functions.digest settings.header.first bits some short) there);
               blobs = tt;
               in_range = tt;
             };

@@ -12,7 +12,7 @@ use Rattle.tree_keys.specs.Path.{is_prefix, key_path, key_bits, root_of}
 use Rattle.tree_keys.proofs.BitsLaws.{bits_of-same, bits_of-number_of, take-bits_of, first_below}
 use Rattle.record_hash.specs.Functions.{DigestFunctions}
 use Rattle.record_text.specs.declared.request.Request.{Request}
-use Rattle.record_text.specs.Longest.{longest_blob}
+use Rattle.record_text.specs.Longest.{longest_of}
 use Rattle.merkle_records.specs.Merkle.{Digest, GivesDigests}
 use Rattle.log_codec.specs.declared.command.Command.{Command}
 use Rattle.host_core.specs.World.{Place, Seats, World, unmoved, shard_at}
@@ -184,22 +184,22 @@ hot_serves seats key (hot found) is = is
 hot_serves seats key vacant is = absurd (false≢true is)
 
 -- A hot place that has a request's key is its place; and where none has, the shard's own is, if the key lies below its frontier.
-seat_owns : (digest : Digest) (first : Content) (places : List Content) → SeatsMirror longest_blob digest (first ∷ places) → (seat : ℕ) (request : Request)
-    → is_prefix (frontier_in (first ∷ places)) (key_path false request.key) ≡ true → is_blob longest_blob request.value ≡ true
+seat_owns : (longest : ℕ) (digest : Digest) (first : Content) (places : List Content) → SeatsMirror longest digest (first ∷ places) → (seat : ℕ) (request : Request)
+    → is_prefix (frontier_in (first ∷ places)) (key_path false request.key) ≡ true → is_blob longest request.value ≡ true
     → (seat ≢ 0 → is_hot_at request.key (get_or (first ∷ places) seat vacant) ≡ true)
     → (seat ≡ 0 → list_any (is_hot_at request.key) places ≡ false)
-    → is_place_of longest_blob (first ∷ places) seat request ≡ true
-seat_owns digest (cold shard) places mirrors zero request below blob hot_there none_there =
-    and_from (is_prefix shard.frontier (key_path false request.key) && not (list_any (is_hot_at request.key) places)) (is_blob longest_blob request.value)
+    → is_place_of longest (first ∷ places) seat request ≡ true
+seat_owns longest digest (cold shard) places mirrors zero request below blob hot_there none_there =
+    and_from (is_prefix shard.frontier (key_path false request.key) && not (list_any (is_hot_at request.key) places)) (is_blob longest request.value)
     (and_from (is_prefix shard.frontier (key_path false request.key)) (not (list_any (is_hot_at request.key) places)) below (ap not (none_there refl))) blob
-seat_owns digest first places mirrors (suc k) request below blob hot_there none_there =
-    and_from (serves_key (first ∷ places) request.key (get_or places k vacant)) (is_blob longest_blob request.value)
+seat_owns longest digest first places mirrors (suc k) request below blob hot_there none_there =
+    and_from (serves_key (first ∷ places) request.key (get_or places k vacant)) (is_blob longest request.value)
     (hot_serves (first ∷ places) request.key (get_or places k vacant) (hot_there (omega arith))) blob
-seat_owns digest (hot found) places mirrors zero request below blob hot_there none_there = absurd (no_shard mirrors.is)
+seat_owns longest digest (hot found) places mirrors zero request below blob hot_there none_there = absurd (no_shard mirrors.is)
   where
     no_shard : hot found ∷ places ≡ cold mirrors.shard ∷ mirrors.places → ⊥
     no_shard is = cc
-seat_owns digest vacant places mirrors zero request below blob hot_there none_there = absurd (no_shard mirrors.is)
+seat_owns longest digest vacant places mirrors zero request below blob hot_there none_there = absurd (no_shard mirrors.is)
   where
     no_shard : vacant ∷ places ≡ cold mirrors.shard ∷ mirrors.places → ⊥
     no_shard is = cc
@@ -231,10 +231,10 @@ module _ {D : Type 0} (functions : DigestFunctions) (digests : GivesDigests func
     seats_read : shard_at (shown_world world) s ≡ shown_seats seats
     seats_read = read_shown shown_seats world.shards.items s seats (unmoved []) (omega (arith, there, shards_in)) read
 
-    seats_mirror : SeatsMirror longest_blob functions.digest (contents_of seats)
+    seats_mirror : SeatsMirror (longest_of world.settings.header) functions.digest (contents_of seats)
     seats_mirror =
         let whole = behind_orderly functions world.settings (requests_of world) digests (with_logs logs (shown_world world)) stands.behind in
-        subst (λ (found : Seats Content). SeatsMirror longest_blob functions.digest found.contents) seats_read
+        subst (λ (found : Seats Content). SeatsMirror (longest_of world.settings.header) functions.digest found.contents) seats_read
         (whole.shards s (omega (arith, there, shards_in, length-map world.shards.items shown_seats))).mirrors
 
     pub five_seats : length (contents_of seats) ≡ 5
@@ -253,14 +253,14 @@ module _ {D : Type 0} (functions : DigestFunctions) (digests : GivesDigests func
           )
 
       -- And it is the place of a request whose key's first bits spell the shard's number, if the seat is the key's.
-      pub place_owns : (request : Request) → s ≡ number_of (take (frontier_bits world.settings.shards) (bits_of (key_bits false) request.key)) → is_blob longest_blob request.value ≡ true
+      pub place_owns : (request : Request) → s ≡ number_of (take (frontier_bits world.settings.shards) (bits_of (key_bits false) request.key)) → is_blob (longest_of world.settings.header) request.value ≡ true
           → (seat ≢ 0 → is_hot_at request.key (get_or (contents_of seats) seat vacant) ≡ true)
           → (seat ≡ 0 → list_any (is_hot_at request.key) (map shown_content seats.hot.items) ≡ false)
-          → is_place_of longest_blob (shard_at (shown_world world) (place_of number).shard).contents (place_of number).seat request ≡ true
+          → is_place_of (longest_of world.settings.header) (shard_at (shown_world world) (place_of number).shard).contents (place_of number).seat request ≡ true
       place_owns request first blob hot_there none_there =
-          at_place (λ (place : Place). is_place_of longest_blob (shard_at (shown_world world) place.shard).contents place.seat request ≡ true)
-          (subst (λ (found : Seats Content). is_place_of longest_blob found.contents seat request ≡ true) (sym seats_read)
-          (seat_owns functions.digest (shown_content seats.first) (map shown_content seats.hot.items) seats_mirror seat request
+          at_place (λ (place : Place). is_place_of (longest_of world.settings.header) (shard_at (shown_world world) place.shard).contents place.seat request ≡ true)
+          (subst (λ (found : Seats Content). is_place_of (longest_of world.settings.header) found.contents seat request ≡ true) (sym seats_read)
+          (seat_owns (longest_of world.settings.header) functions.digest (shown_content seats.first) (map shown_content seats.hot.items) seats_mirror seat request
           (subst (λ (found : Seats Content). is_prefix (frontier_in found.contents) (key_path false request.key) ≡ true) seats_read
           (lies_below functions world.settings (requests_of world) digests (with_logs logs (shown_world world)) stands.behind request.key s first there))
           blob hot_there none_there))

@@ -1,7 +1,7 @@
 -- The seats of a shard, behind a request and behind a move.
 use Rattle.std.proofs.Common.{◌≡◌, ℕ, zero, suc, ◌<◌, ◌^◌, Bool, true, false, not, ◌&&◌, List, [], ◌∷◌, length, get_or, set, Option, Some, None, is_some, inl, inr, ◌⊎◌, refl, sym, ◌∙◌, ap, subst}
 use Rattle.std.specs.Prelude.{◌==◌, IfSome}
-use Rattle.std.proofs.lemmas.Bool.{false≢true, and_parts, leb-true, eqb-true}
+use Rattle.std.proofs.lemmas.Bool.{false≢true, and_parts, leb-true, le-leb, eqb-true}
 use Rattle.std.proofs.lemmas.List.{length-set}
 use Rattle.std.specs.List.{AllByRecursion, list_any}
 use Rattle.tree_keys.specs.Path.{side, is_prefix, IsBelow, key_bits, IsData, key_path, IsNodePath}
@@ -44,6 +44,10 @@ use Rattle.host_world.proofs.DescentLaws.{done_is_move}
 pub blob_fits : (longest : ℕ) (blob : Option (List ℕ)) → is_blob longest blob ≡ true → IsBlob longest blob
 blob_fits longest None is = tt
 blob_fits longest (Some bytes) is = leb-true (length bytes) longest is
+
+pub fits_blob : (longest : ℕ) (blob : Option (List ℕ)) → IsBlob longest blob → is_blob longest blob ≡ true
+fits_blob longest None fits = refl
+fits_blob longest (Some bytes) fits = le-leb (length bytes) longest fits
 
 not_so : (b : Bool) → not b ≡ true → b ≡ true → ⊥
 not_so true is also = false≢true is

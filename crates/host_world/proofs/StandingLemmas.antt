@@ -27,6 +27,7 @@ one_more functions settings script old new event behind enabled is =
     record {
       settings_fit = behind.settings_fit;
       keys = behind.keys;
+      values = behind.values;
       events = behind.events ++ event ∷ [];
       enabled = enabled-append host (set_up host) behind.events (event ∷ []) behind.enabled (subst (λ (w : World Content). IsEnabled host w event) behind.is enabled, tt);
       is = is ∙ ap (λ (w : World Content). step host w event) behind.is ∙ sym (run-append host (set_up host) behind.events (event ∷ []));

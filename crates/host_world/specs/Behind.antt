@@ -3,9 +3,11 @@ use Rattle.std.specs.Prelude.{◌≡◌, ℕ, ◌^◌, ◌<◌, List, [], ◌∷
 use Rattle.std.specs.List.{AllByRecursion}
 use Rattle.lamport_clocks.specs.Clock.{is_open}
 use Rattle.lamport_clocks.specs.Reading.{Reading}
+use Rattle.lamport_clocks.specs.declared.header.Header.{Header}
 use Rattle.record_hash.specs.Functions.{DigestFunctions}
 use Rattle.record_text.specs.declared.request.Request.{Request}
-use Rattle.record_text.specs.Longest.{longest_blob}
+use Rattle.record_text.specs.Longest.{longest_blob, longest_of}
+use Rattle.record_text.specs.Value.{IsBlob}
 use Rattle.log_codec.specs.declared.command.Command.{Command}
 use Rattle.merkle_records.specs.Merkle.{Digest}
 use Rattle.host_core.specs.Host.{Host}
@@ -24,10 +26,15 @@ use Rattle.host_world.specs.Shown.{shown_world, digests_of, requests_of}
 abbrev pub AreInRange : List (List Task) → Type 0
 AreInRange script = AllByRecursion (λ phase. AllByRecursion (λ task. task.request.key < 2 ^ 64) phase) script
 
+-- each value that the script asks for has no more bytes than a data value of a bundle with this header
+abbrev pub HaveShortValues : Header → List (List Task) → Type 0
+HaveShortValues header script = AllByRecursion (λ phase. AllByRecursion (λ task. IsBlob (longest_of header) task.request.value) phase) script
+
 -- The world of a shipped host behind its setup and some events, each of which was enabled.
 pub record IsBehindSetup (functions : DigestFunctions) (settings : Settings) (script : List (List Task)) (world : machine.World Content) : Type 0 where
   pub settings_fit : IsSettings settings
   pub keys : AreInRange script
+  pub values : HaveShortValues settings.header script
   pub events : List (WorldEvent Request)
   pub enabled : AreEnabled (shipped_host functions settings script) (machine.set_up (shipped_host functions settings script)) events
   pub is : world ≡ run_events (shipped_host functions settings script) (machine.set_up (shipped_host functions settings script)) events

@@ -6,7 +6,7 @@ ghost use Rattle.host_world.specs.declared.fault.WorldFault.TheVariants as fault
 ghost use Rattle.host_world.specs.Settings.{IsSettings};
 ghost use Rattle.host_world.specs.ShippedHost.{shipped_host};
 ghost use Rattle.host_world.specs.Shown.{shown_world, digests_of, requests_of, settings_of};
-ghost use Rattle.host_world.specs.Behind.{AreInRange, host_of, StandsWith};
+ghost use Rattle.host_world.specs.Behind.{AreInRange, HaveShortValues, host_of, StandsWith};
 
 use crate::fault::{ClockEnd, WorldFault};
 use crate::seats::seats_for;
@@ -29,6 +29,7 @@ impl<'a, D: Digests> World<'a, D> {
     ) -> Result<Self, WorldFault>
         requires settings { IsSettings settings.now }
         requires keys { AreInRange requests.now }
+        requires values { HaveShortValues settings.now.header requests.now }
         ensures set_up { IfOk result (λ world. shown_world world
             ≡ set_up (shipped_host (D.functions d.now) settings.now requests.now)) }
         ensures host { IfOk result (λ world. host_of (D.functions (digests_of world)) world

@@ -3,7 +3,8 @@ ghost use Rattle.std.specs.Prelude.{◌≡◌, ◌≢◌, ◌<◌, true, false, 
 ghost use Rattle.std.specs.List.{list_any};
 ghost use Rattle.tree_keys.specs.Bits.{number_of, bits_of};
 ghost use Rattle.tree_keys.specs.Path.{key_bits};
-ghost use Rattle.record_text.specs.Longest.{longest_blob};
+ghost use Rattle.record_text.specs.Longest.{longest_of};
+ghost use Rattle.record_text.specs.Value.{IsBlob};
 ghost use Rattle.host_core.specs.World.{shard_at};
 ghost use Rattle.host_core.specs.WorldEvent.{IsPlace};
 ghost use Rattle.host_plan.specs.Setup.{IsShardCount};
@@ -13,26 +14,14 @@ ghost use Rattle.protection_moves.specs.Stage.{is_hot_at};
 ghost use Rattle.host_world.specs.Behind.{host_of, StandsBehind};
 ghost use Rattle.host_world.specs.Places.{place_of};
 ghost use Rattle.host_world.specs.Settings.{frontier_bits};
-ghost use Rattle.host_world.specs.ShippedHost.{is_blob};
-ghost use Rattle.host_world.specs.Shown.{contents_of, shown_world, digests_of};
+ghost use Rattle.host_world.specs.Shown.{contents_of, shown_world, digests_of, settings_of};
 
 use crate::acting::PLACES_EACH;
 use crate::seats::Seats;
 use crate::world::World;
 use host_shard::Content;
 use record_hash::Digests;
-use record_text::{Blob, LONGEST_BLOB, Request};
-
-// Whether the value is one that a key may have: each is.
-fn fits(value: &Blob) -> bool
-    ensures value { result ≡ is_blob longest_blob value.now }
-    ensures always { result ≡ true }
-{
-    match value.bytes() {
-        Some(bytes) => bytes.len() <= LONGEST_BLOB,
-        None => true,
-    }
-}
+use record_text::Request;
 
 // The number of the shard below whose frontier a key lies: that of the key's first bits, as many as a frontier has.
 fn shard_of(key: u64, shards: u32) -> u32
@@ -72,15 +61,14 @@ impl Seats {
 
 impl<'a, D: Digests> World<'a, D> {
     /// The number of the place at which a request is served: the hot place that has its key, or else the place of the shard
-    /// below whose frontier its key lies.
+    /// below whose frontier its key lies. The place takes it with a value that a key may have.
     pub fn place_for(&self, request: &Request) -> u32
         requires behind { StandsBehind (D.functions (digests_of self.now)) self.now }
         ensures there { IsPlace (shown_world self.now) (place_of result) }
-        ensures owns { (host_of (D.functions (digests_of self.now)) self.now).owns (place_of result).shard
+        ensures owns { IsBlob (longest_of (settings_of self.now).header) request.now.value
+            → (host_of (D.functions (digests_of self.now)) self.now).owns (place_of result).shard
             (shard_at (shown_world self.now) (place_of result).shard).contents (place_of result).seat request.now ≡ true }
     {
-        // A place takes a request only with a value that a key may have.
-        prove!(fits(&request.value));
         let shard = shard_of(request.key, self.settings.shards);
         let seat = self.shards[shard as usize].seat_of(request.key);
         shard * PLACES_EACH + seat as u32

@@ -1,5 +1,5 @@
-use Rattle.host_world.proofs.RangeLaws.{script_keys}
+use Rattle.host_world.proofs.RangeLaws.{script_keys, script_values}
 use Rattle.host_fits.proofs.laws.scripts_ask_for_keys_in_range.Goals as goal
 
 pub returns : goal.returns
-returns c = record { keys = script_keys }
+returns c = record { keys = script_keys; values = script_values }

@@ -38,6 +38,7 @@ returns-clause-behind g c =
       behind = record {
         settings_fit = c.requires.settings;
         keys = c.requires.keys;
+        values = c.requires.values;
         events = [];
         enabled = tt;
         is = ap (λ (w : World Content). with_logs (replicate settings.header.verifiers []) w) (returns-clause-set_up g c)

@@ -1,6 +1,8 @@
-use Rattle.std.proofs.Common.{◌∙◌, refl, sym, arith}
+use Rattle.std.proofs.Common.{refl, arith}
 use Rattle.merkle_records.specs.Merkle.{GivesDigests}
 use Rattle.host_world.specs.Shown.{digests_of}
+use Rattle.record_text.specs.Longest.{longest_of}
+use Rattle.host_world.proofs.SeatLaws.{fits_blob}
 use Rattle.host_world.proofs.PlacingLemmas.{shards_in, few_shards, five_seats, place_there, place_owns}
 use Rattle.host_world.proofs.world.World.place_for.Goals as goal
 
@@ -37,10 +39,10 @@ returns-clause-there g c =
     c.shard_of-shard.result c.shard_of-shard.ensures.there c.index.result.now c.index.ensures _ c.seat_of-seat.result refl c.seat_of-seat.ensures.there
 
 pub returns-clause-owns : goal.returns-clause-owns
-returns-clause-owns g c =
+returns-clause-owns g c = λ short.
     let old = c.args.self.now in
     let functions = g.D.Digests.functions (digests_of old) in
     let digests : GivesDigests functions.digest = λ text. (g.met.D.Digests.text_digest_shape old.d.now text).size in
     place_owns functions digests old c.requires.behind.0 c.requires.behind.1
     c.shard_of-shard.result c.shard_of-shard.ensures.there c.index.result.now c.index.ensures _ c.seat_of-seat.result refl c.seat_of-seat.ensures.there
-    c.args.request.now c.shard_of-shard.ensures.first_bits (sym c.fits.ensures.value ∙ c.fits.ensures.always) c.seat_of-seat.ensures.hot c.seat_of-seat.ensures.cold
+    c.args.request.now c.shard_of-shard.ensures.first_bits (fits_blob (longest_of old.settings.header) c.args.request.now.value short) c.seat_of-seat.ensures.hot c.seat_of-seat.ensures.cold
