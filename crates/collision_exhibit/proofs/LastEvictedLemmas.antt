@@ -1,107 +1,133 @@
--- A path's number is no other path's, so a map from numbers is a function from paths.
-use Rattle.std.proofs.Common.{◌≡◌, ℕ, ◌+◌, ◌*◌, ◌^◌, ◌<◌, ◌≤◌, Bool, true, false, cond, List, [], ◌∷◌, length, map, Option, Some, None, if◌then◌else◌, refl, sym, ◌∙◌, ap, arith}
+-- A path is found in a map by the order of paths where it is the same path, so a map's entries are a function from paths.
+use Rattle.std.proofs.Common.{◌≡◌, ℕ, ◌/◌, ◌%◌, ◌^◌, Bool, true, false, cond, List, [], ◌∷◌, length, map, Option, Some, if◌then◌else◌, refl, sym, ◌∙◌, ap, arith}
 use Rattle.std.specs.Option.{option_map}
-use Rattle.std.specs.Ordering.{nat_cmp}
 use Rattle.std.specs.Map.{lookup}
 use Rattle.std.specs.BTreeMap.{is_at}
+use Rattle.std.specs.declared.cmp.Ordering.{Ordering}
+use Rattle.std.specs.declared.cmp.Ordering.TheVariants.{Less, Equal, Greater}
+use Rattle.std.specs.Ordering.{is_eq, nat_cmp, bool_cmp, ordering_then}
 use Rattle.std.proofs.Math.Path.{fun_ext}
 use Rattle.std.proofs.lemmas.Bool.{true≢false}
 use Rattle.std.proofs.lemmas.Bool.Decides.{nat_tests}
 use Rattle.std.proofs.lemmas.Map.Made.{lookup-map_values}
-use Rattle.std.proofs.lemmas.Option.{none-some, same_Some}
-use Rattle.tree_keys.specs.Path.{depth, IsIn, same_path, word_of}
-use Rattle.tree_keys.proofs.PathLaws.{same_path-self, same_path-true, same_path-apart}
-use Rattle.tree_keys.proofs.TreeLaws.{word_of-lt, one_word}
+use Rattle.tree_keys.specs.Bits.{bits_of, number_of}
+use Rattle.tree_keys.specs.Path.{same_path}
+use Rattle.tree_keys.proofs.BitsLaws.{bits_of-number_of}
+use Rattle.tree_keys.proofs.PathLaws.{same_path-self, same_path-true}
 use Rattle.record_text.specs.declared.value.Value.{Value}
-use Rattle.soundness.specs.Clash.{none_evicted, with_last_evicted}
-use Rattle.collision_exhibit.specs.LastEvicted.{path_number, Entries, value_at, last_evicted_at}
+use Rattle.soundness.specs.Clash.{with_last_evicted}
+use Rattle.collision_exhibit.specs.LastEvicted.{path_order, Entries, last_evicted_at}
 
--- the number of a path, by its length and its word
-pub number_is : (path : List Bool) (len word : ℕ) → IsIn false path → len ≡ depth path → word ≡ word_of path → path_number path ≡ Some (len * 2 ^ 64 + word)
-number_is [] len word within is_len is_word = absurd within
-number_is (true ∷ bits) len word within is_len is_word = absurd (true≢false within)
-number_is (false ∷ bits) len word within is_len is_word =
-    sym (ap (λ (n : ℕ). Some (n * 2 ^ 64 + word)) is_len ∙ ap (λ (n : ℕ). Some (length bits * 2 ^ 64 + n)) is_word)
+-- ---- the order of paths
 
-pub ruleset number_view = (number_is)
+-- what is equal in two steps is equal in each
+both : (a b : Ordering) → ordering_then a b ≡ Equal → (a ≡ Equal) × (b ≡ Equal)
+both Less b is = absurd (cc)
+both Equal b is = (refl, is)
+both Greater b is = absurd (cc)
 
--- a path of at most 64 bits has its number for itself
-one_number : (path other : List Bool) (number : ℕ) → depth path ≤ 64 → path_number path ≡ Some number → path_number other ≡ Some number → path ≡ other
-one_number [] other number fits is also = absurd (none-some number is)
-one_number (true ∷ p) other number fits is also = absurd (none-some number is)
-one_number (false ∷ p) [] number fits is also = absurd (none-some number also)
-one_number (false ∷ p) (true ∷ k) number fits is also = absurd (none-some number also)
-one_number (false ∷ p) (false ∷ k) number fits is also =
-    let same : length p * 2 ^ 64 + word_of (false ∷ p) ≡ length k * 2 ^ 64 + word_of (false ∷ k) = same_Some _ _ (is ∙ sym also) in
-    let below : word_of (false ∷ p) < 2 ^ 64 = word_of-lt (false ∷ p) fits in
-    let within : length k ≤ length p = omega arith in
-    let other_below : word_of (false ∷ k) < 2 ^ 64 = word_of-lt (false ∷ k) (omega arith) in
-    one_word false (false ∷ p) (false ∷ k) refl refl (omega arith) (omega arith)
+last_step : (a b c d : Ordering) → ordering_then a (ordering_then b (ordering_then c d)) ≡ Equal → d ≡ Equal
+last_step a b c d is = (both c d (both b (ordering_then c d) (both a (ordering_then b (ordering_then c d)) is).1).1).1
 
-found_here : (m n : ℕ) → m ≡ n → is_at (nat_cmp m) n ≡ true
-found_here m n same = grind (arith, nat_tests)
+equal_numbers : (a b : ℕ) → nat_cmp a b ≡ Equal → a ≡ b
+equal_numbers a b is = grind (arith, nat_tests)
 
-found_by : (m n : ℕ) → is_at (nat_cmp m) n ≡ true → m ≡ n
-found_by m n found = grind (arith, nat_tests)
+itself : (n : ℕ) → nat_cmp n n ≡ Equal
+itself n = grind (arith, nat_tests)
 
--- whether the number of one path is found at the other's
-same_number : (path other : List Bool) (number others : ℕ) → depth path ≤ 64 → path_number path ≡ Some number → path_number other ≡ Some others
-    → is_at (nat_cmp number) others ≡ same_path path other
-same_number path other number others fits is also = go (same_path path other) refl (is_at (nat_cmp number) others) refl
+equal_trees : (a b : Bool) → bool_cmp a b ≡ Equal → a ≡ b
+equal_trees false false is = refl
+equal_trees false true is = absurd (cc)
+equal_trees true false is = absurd (cc)
+equal_trees true true is = refl
+
+tree_itself : (wide : Bool) → bool_cmp wide wide ≡ Equal
+tree_itself false = refl
+tree_itself true = refl
+
+equal_itself : (path : List Bool) → path_order path path ≡ Equal
+equal_itself [] = refl
+equal_itself (wide ∷ bits) =
+    rw (itself (length bits), tree_itself wide, itself (number_of bits / 2 ^ 64), itself (number_of bits % 2 ^ 64)) refl
+
+-- the empty list is equal to no path
+not_empty : (wide : Bool) (bits : List Bool) → path_order (wide ∷ bits) [] ≡ Equal → ⊥
+unfolding number_of
+not_empty wide [] is =
+    let low : nat_cmp 0 1 ≡ Equal = last_step (nat_cmp 0 0) (bool_cmp wide false) (nat_cmp 0 0) (nat_cmp 0 1) is in
+    absurd (omega (arith, equal_numbers 0 1 low))
+not_empty wide (bit ∷ bits) is =
+    let len : length (bit ∷ bits) ≡ 0 = equal_numbers (length (bit ∷ bits)) 0 (both (nat_cmp (length (bit ∷ bits)) 0) _ is).0 in
+    absurd (omega (arith, len))
+
+empty_not : (wide : Bool) (bits : List Bool) → path_order [] (wide ∷ bits) ≡ Equal → ⊥
+unfolding number_of
+empty_not wide [] is =
+    let low : nat_cmp 1 0 ≡ Equal = last_step (nat_cmp 0 0) (bool_cmp false wide) (nat_cmp 0 0) (nat_cmp 1 0) is in
+    absurd (omega (arith, equal_numbers 1 0 low))
+empty_not wide (bit ∷ bits) is =
+    let len : 0 ≡ length (bit ∷ bits) = equal_numbers 0 (length (bit ∷ bits)) (both (nat_cmp 0 (length (bit ∷ bits))) _ is).0 in
+    absurd (omega (arith, len))
+
+equal_paths : (path other : List Bool) → path_order path other ≡ Equal → path ≡ other
+equal_paths [] [] is = refl
+equal_paths [] (wide ∷ bits) is = absurd (empty_not wide bits is)
+equal_paths (wide ∷ bits) [] is = absurd (not_empty wide bits is)
+equal_paths (wide ∷ bits) (others ∷ rest) is =
+    let by_len = both (nat_cmp (length bits) (length rest)) _ is in
+    let by_tree = both (bool_cmp wide others) _ by_len.1 in
+    let by_half = both (nat_cmp (number_of bits / 2 ^ 64) (number_of rest / 2 ^ 64)) (nat_cmp (number_of bits % 2 ^ 64) (number_of rest % 2 ^ 64)) by_tree.1 in
+    let len : length bits ≡ length rest = equal_numbers _ _ by_len.0 in
+    let high : number_of bits / 2 ^ 64 ≡ number_of rest / 2 ^ 64 = equal_numbers _ _ by_half.0 in
+    let low : number_of bits % 2 ^ 64 ≡ number_of rest % 2 ^ 64 = equal_numbers _ _ by_half.1 in
+    let number : number_of bits ≡ number_of rest = omega (arith, high, low) in
+    ap (λ (tree : Bool). tree ∷ bits) (equal_trees wide others by_tree.0)
+    ∙ ap (λ (own : List Bool). others ∷ own)
+    (sym (bits_of-number_of bits) ∙ (ap (λ (n : ℕ). bits_of n (number_of bits)) len ∙ (ap (bits_of (length rest)) number ∙ bits_of-number_of rest)))
+
+-- a path is found where it is the same
+at_same : (path other : List Bool) → is_at (path_order path) other ≡ same_path path other
+at_same path other = go (path_order path other) refl (same_path path other) refl
   where
-    go : (s : Bool) → same_path path other ≡ s → (f : Bool) → is_at (nat_cmp number) others ≡ f → f ≡ s
-    go true same true found = refl
-    go true same false apart =
-        let one : number ≡ others = same_Some _ _ (sym is ∙ (ap path_number (same_path-true path other same) ∙ also)) in
-        absurd (true≢false (sym (found_here number others one) ∙ apart))
-    go false further true found =
-        let at : path_number other ≡ Some number = also ∙ ap (λ (n : ℕ). Some n) (sym (found_by number others found)) in
-        absurd (true≢false (sym (same_path-self path) ∙ ap (same_path path) (one_number path other number fits is at) ∙ further))
-    go false further false apart = refl
+    never : {X : Type 0} (order : Ordering) → path_order path other ≡ order → is_eq order ≡ false → same_path path other ≡ true → X
+    never order is apart same =
+        let equal : order ≡ Equal = sym is ∙ (ap (path_order path) (sym (same_path-true path other same)) ∙ equal_itself path) in
+        absurd (true≢false (ap is_eq (sym equal) ∙ apart))
 
--- a path that has no number is another
-no_number : (path other : List Bool) (number : ℕ) → path_number path ≡ Some number → path_number other ≡ None → same_path path other ≡ false
-no_number path other number is none =
-    same_path-apart path other (λ same. none-some number (sym none ∙ (ap path_number (sym same) ∙ is)))
+    go : (order : Ordering) → path_order path other ≡ order → (same : Bool) → same_path path other ≡ same → is_eq order ≡ same
+    go Equal is true same = refl
+    go Equal is false apart =
+        absurd (true≢false (sym (same_path-self path) ∙ (ap (same_path path) (equal_paths path other is) ∙ apart)))
+    go Less is true same = never Less is refl same
+    go Less is false apart = refl
+    go Greater is true same = never Greater is refl same
+    go Greater is false apart = refl
 
--- nothing was evicted
-pub none_at : last_evicted_at [] ≡ none_evicted
-none_at = fun_ext λ path. go (path_number path)
-  where
-    go : (number : Option ℕ) → value_at [] number ≡ None
-    go None = refl
-    go (Some number) = refl
-
-pub ruleset none_view = (none_at)
+-- ---- the entries of a map
 
 module _ {R : Type 0} (seen : R → Value) where
   -- the entries that are seen
-  abbrev pub seen_in : List (ℕ × R) → Entries
+  abbrev pub seen_in : List (List Bool × R) → Entries
   seen_in entries = map (λ entry. (entry.0, seen entry.1)) entries
 
-  -- what is found at the number of a path is what was last evicted of it
-  pub taken_found : (entries : List (ℕ × R)) (path : List Bool) (number : ℕ) (found : Option R) → path_number path ≡ Some number
-      → found ≡ lookup (is_at (nat_cmp number)) entries → option_map seen found ≡ last_evicted_at (seen_in entries) path
-  taken_found entries path number found is at =
-      ap (option_map seen) at ∙ sym (lookup-map_values seen (is_at (nat_cmp number)) entries) ∙ ap (value_at (seen_in entries)) (sym is)
+  -- what is found at a path is what was last evicted of it
+  pub taken_found : (entries : List (List Bool × R)) (path : List Bool) (found : Option R)
+      → found ≡ lookup (is_at (path_order path)) entries → option_map seen found ≡ last_evicted_at (seen_in entries) path
+  taken_found entries path found at =
+      ap (option_map seen) at ∙ sym (lookup-map_values seen (is_at (path_order path)) entries)
 
   -- where the path is the one that was put, its value
   chosen : (value : R) (here : Bool) (kept : Option R) → option_map seen (cond here (Some value) kept) ≡ (if here then Some (seen value) else option_map seen kept)
   chosen value true kept = refl
   chosen value false kept = refl
 
-  -- entries that have a value more, at the number of a path, are what was last evicted and that value of the path
-  pub taken_put : (old new : List (ℕ × R)) (path : List Bool) (number : ℕ) (value : R) → depth path ≤ 64 → path_number path ≡ Some number
-      → ((n : ℕ) → lookup (is_at (nat_cmp n)) new ≡ cond (is_at (nat_cmp number) n) (Some value) (lookup (is_at (nat_cmp n)) old))
+  -- entries that have a value more, at a path, are what was last evicted and that value of the path
+  pub taken_put : (old new : List (List Bool × R)) (path : List Bool) (value : R)
+      → ((other : List Bool) → lookup (is_at (path_order other)) new ≡ cond (is_at (path_order path) other) (Some value) (lookup (is_at (path_order other)) old))
       → last_evicted_at (seen_in new) ≡ with_last_evicted (last_evicted_at (seen_in old)) path (seen value)
-  taken_put old new path number value fits is updates = fun_ext λ other. go other (path_number other) refl
-    where
-      go : (other : List Bool) (others : Option ℕ) → path_number other ≡ others
-          → value_at (seen_in new) others ≡ (if same_path path other then Some (seen value) else value_at (seen_in old) others)
-      go other None also = ap (λ (b : Bool). if b then Some (seen value) else None) (sym (no_number path other number is also))
-      go other (Some others) also =
-          let kept = lookup (is_at (nat_cmp others)) old in
-          lookup-map_values seen (is_at (nat_cmp others)) new
-          ∙ ap (option_map seen) (updates others ∙ ap (λ (b : Bool). cond b (Some value) kept) (same_number path other number others fits is also))
-          ∙ chosen value (same_path path other) kept
-          ∙ ap (λ (o : Option Value). if same_path path other then Some (seen value) else o) (sym (lookup-map_values seen (is_at (nat_cmp others)) old))
+  taken_put old new path value updates = fun_ext λ other.
+      let kept = lookup (is_at (path_order other)) old in
+      lookup-map_values seen (is_at (path_order other)) new
+      ∙ ap (option_map seen) (updates other ∙ ap (λ (b : Bool). cond b (Some value) kept) (at_same path other))
+      ∙ chosen value (same_path path other) kept
+      ∙ ap (λ (o : Option Value). if same_path path other then Some (seen value) else o) (sym (lookup-map_values seen (is_at (path_order other)) old))

@@ -18,16 +18,24 @@ enum Way {
     Went,
 }
 
-// A path's length and its word.
-type Place = (u8, u64);
+// Whether a path's keys have 128 bits, its length and its word.
+type Place = (bool, u8, u128);
 
-const KEY: Place = (64, 5);
+const KEY: Place = (false, 64, 5);
 
-const OTHER_KEY: Place = (64, 6);
+const OTHER_KEY: Place = (false, 64, 6);
 
-const NODE: Place = (1, 1 << 63);
+const NODE: Place = (false, 1, 1 << 63);
 
-const LONGER_NODE: Place = (2, 1 << 63);
+const LONGER_NODE: Place = (false, 2, 1 << 63);
+
+const WIDE_KEY: Place = (true, 128, 5 << 64);
+
+const OTHER_WIDE_KEY: Place = (true, 128, 6 << 64);
+
+const ROOT: Place = (false, 0, 0);
+
+const WIDE_ROOT: Place = (true, 0, 0);
 
 // The epoch of an audit event, what is done, the path, and the number of the value.
 type Line = (u32, Way, Place, u8);
@@ -73,7 +81,7 @@ fn audit_change_of(rt: &impl Abort, way: Way, path: Path, number: u8, at: Stamp)
 
 fn act_of(rt: &impl Abort, line: &Line) -> AuditEvent {
     let (epoch, way, place, number) = *line;
-    let path = Path::of_word(place.0, place.1).expect(rt, "a path");
+    let path = Path::of_word(place.0, place.1, place.2).expect(rt, "a path");
     let at = Stamp { epoch, counter: 0 };
     let moment = Moment {
         at,
@@ -100,7 +108,7 @@ fn audit_events_of(
 
 #[test]
 fn the_first_clash_of_the_epochs_is_shown(rt: HostRuntime) -> Result<(), Fail> {
-    let table: [Row; 18] = [
+    let table: [Row; 20] = [
         (&[], 3, 2, None),
         // Nothing was taken of the path.
         (&[(3, Way::Back, KEY, 1)], 3, 2, None),
@@ -166,6 +174,23 @@ fn the_first_clash_of_the_epochs_is_shown(rt: HostRuntime) -> Result<(), Fail> {
             3,
             2,
             None,
+        ),
+        // The two roots are two, and so are keys of 128 bits that differ in their high halves.
+        (
+            &[(3, Way::Out, ROOT, 101), (3, Way::Back, WIDE_ROOT, 102)],
+            3,
+            2,
+            None,
+        ),
+        (
+            &[
+                (3, Way::Out, WIDE_KEY, 1),
+                (3, Way::Out, OTHER_WIDE_KEY, 2),
+                (3, Way::Back, WIDE_KEY, 3),
+            ],
+            3,
+            2,
+            Some((1, 3)),
         ),
         // What was taken last counts.
         (

@@ -1,9 +1,8 @@
 //! What went out of the caches, of each path the last.
-ghost use Rattle.std.specs.Prelude.{◌≡◌, ◌≤◌, Some, OnOk, OnErr};
+ghost use Rattle.std.specs.Prelude.{◌≡◌, OnOk, OnErr};
 ghost use Rattle.std.specs.Option.{option_map};
-ghost use Rattle.tree_keys.specs.Path.{depth};
 ghost use Rattle.soundness.specs.Clash.{none_evicted, with_last_evicted};
-ghost use Rattle.collision_exhibit.specs.LastEvicted.{path_number, last_evicted_at};
+ghost use Rattle.collision_exhibit.specs.LastEvicted.{last_evicted_at};
 
 use base_words::Memory;
 use record_text::Value;
@@ -16,7 +15,7 @@ use tree_keys::Path;
 /// function from paths by `last_evicted_at`.
 #[derive(Drop)]
 pub(crate) struct LastEvictedValues<'a> {
-    values: BTreeMap<u128, &'a Value>,
+    values: BTreeMap<Path, &'a Value>,
 }
 
 impl<'a> Model for LastEvictedValues<'a> {
@@ -30,7 +29,6 @@ impl<'a> Model for LastEvictedValues<'a> {
 
 impl<'a> LastEvictedValues<'a> {
     /// Nothing was evicted. It takes memory from `alloc` as it grows.
-    #[tactic(auto, using(crate::proofs::LastEvictedLemmas::none_view))]
     pub(crate) fn new(alloc: Global) -> Self
         ensures none { last_evicted_at result ≡ none_evicted }
     {
@@ -44,26 +42,19 @@ impl<'a> LastEvictedValues<'a> {
         ensures ok { OnOk result (last_evicted_at self.new ≡ with_last_evicted (last_evicted_at self.old) path.now value.now) }
         ensures err { OnErr result (self.new ≡ self.old) }
     {
-        self.values.insert(path_number(path), value)?;
-        Ok(())
+        match self.values.insert(*path, value) {
+            Ok(_) => Ok(()),
+            Err(_) => Err(Memory),
+        }
     }
 
     /// The value with which a path was last evicted.
     pub(crate) fn get(&self, path: &Path) -> Option<&'a Value>
         ensures value { option_map (λ value. value.now) result ≡ last_evicted_at self.now path.now }
     {
-        match self.values.get(&path_number(path)) {
+        match self.values.get(path) {
             Some(value) => Some(*value),
             None => None,
         }
     }
-}
-
-// The number that stands for a path in the map: its length before its word.
-#[tactic(auto, using(crate::proofs::LastEvictedLemmas::number_view))]
-fn path_number(path: &Path) -> u128
-    ensures value { path_number path.now ≡ Some result }
-    ensures fits { depth path.now ≤ 64 }
-{
-    path.len() as u128 * (1 << 64) + path.word() as u128
 }
