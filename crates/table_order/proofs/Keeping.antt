@@ -3,7 +3,7 @@ use Rattle.std.specs.Prelude.{◌≡◌, ℕ, ◌≤◌, List, Some, None}
 use Rattle.lamport_clocks.specs.Reading.{Reading}
 use Rattle.record_hash.specs.Functions.{DigestFunctions}
 use Rattle.record_text.specs.declared.request.Request.{Request}
-use Rattle.record_text.specs.Longest.{longest_blob}
+use Rattle.record_text.specs.Longest.{longest_of}
 use Rattle.script_text.specs.declared.task.Task.{Task}
 use Rattle.host_shard.specs.Content.{Content}
 use Rattle.host_plan.specs.Plan.{CanServe, IsPlan, IsPastEnd, clock_after}
@@ -14,7 +14,7 @@ use Rattle.host_world.specs.ShippedHost.{shipped_host}
 -- a plan is what it does for the request, where no counter passes the end
 abbrev pub DoesPlans : DigestFunctions → Settings → List (List Task) → Type 0
 DoesPlans functions settings script = (worker : ℕ) (content after : Content) (request : Request) (clock later : Reading) (plan : Plan)
-    → CanServe longest_blob functions.digest content request.key
+    → CanServe (longest_of settings.header) functions.digest content request.key
     → IsPlan settings.absent functions.digest worker content request clock plan after later
     → (clock_after content clock).at.counter ≤ clock.end
     → (shipped_host functions settings script).serve worker clock content request

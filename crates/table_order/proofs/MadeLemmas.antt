@@ -5,7 +5,7 @@ use Rattle.std.proofs.lemmas.List.{ext_get_or, get_or-drop, get_or-take, get_or_
 use Rattle.std.proofs.Math.ListN.{get_or-map}
 use Rattle.record_hash.specs.Functions.{DigestFunctions}
 use Rattle.record_text.specs.Value.{IsBlob}
-use Rattle.record_text.specs.Longest.{longest_blob}
+use Rattle.record_text.specs.Longest.{longest_blob, longest_of}
 use Rattle.merkle_records.specs.Merkle.{Digest, GivesDigests}
 use Rattle.script_text.specs.declared.task.Task.{Task}
 use Rattle.host_core.specs.World.{World, shard_at}
@@ -23,6 +23,7 @@ use Rattle.host_world.specs.declared.settings.Settings.{Settings}
 use Rattle.host_world.specs.Orderly.{IsOrderly}
 use Rattle.host_world.specs.Seated.{IsHotPlace, SeatsMirror}
 use Rattle.host_world.specs.ShippedHost.{shipped_host}
+use Rattle.host_world.proofs.LongerLaws.{longest_fits, seats_longer}
 use Rattle.host_world.proofs.PlaceLaws.{hot_there, place_there}
 use Rattle.table_order.specs.Mirroring.{shard_at_making, hot_keys_at, MirrorsAtMaking}
 use Rattle.table_order.specs.Phases.{AreTermsOf}
@@ -68,7 +69,8 @@ module _ (functions : DigestFunctions) (settings : Settings) (script : List (Lis
     in_shard = shard_there functions settings script world orderly terms made place there
 
     abbrev mirrored : SeatsMirror longest_blob functions.digest seats
-    mirrored = (orderly.shards (place / 5) in_shard).mirrors
+    mirrored =
+        seats_longer (longest_of settings.header) longest_blob (longest_fits settings.header) functions.digest seats (orderly.shards (place / 5) in_shard).mirrors
 
     -- a place of the same shard
     numbered : (seat : ℕ) → seat < 5 → shown_content (first_at terms (place / 5 * 5 + seat)) ≡ get_or seats seat vacant

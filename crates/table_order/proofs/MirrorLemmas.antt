@@ -145,7 +145,7 @@ module _ (terms : Terms) (made : MirrorsAtMaking terms) (place : ℕ) (there : p
       mirrors_behind : ContentMirrors longest_blob terms.digest (hot_keys_at terms place) (shown_content service.after)
       mirrors_behind = plan_mirrors terms.absent longest_blob terms.digest service.worker (hot_keys_at terms place) before (shown_content service.after) service.request
           service.clock service.later service.plan made.digests leads.2.value mirrors_before
-          (owns_still terms.digest (hot_keys_at terms place) first before service.request.key still_before mirrors_before at.owns)
+          (owns_still longest_blob terms.digest (hot_keys_at terms place) first before service.request.key still_before mirrors_before at.owns)
           (cold_still (hot_keys_at terms place) first before service.request.key still_before (cold_at terms place service.request.key made small.0 at))
           leads.2.plan
 

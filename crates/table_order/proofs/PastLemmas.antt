@@ -5,7 +5,8 @@ use Rattle.std.proofs.lemmas.Bool.{cases_lt}
 use Rattle.lamport_clocks.specs.Reading.{Reading}
 use Rattle.record_hash.specs.Functions.{DigestFunctions}
 use Rattle.record_text.specs.declared.request.Request.{Request}
-use Rattle.record_text.specs.Longest.{longest_blob}
+use Rattle.record_text.specs.Value.{IsBlob}
+use Rattle.record_text.specs.Longest.{longest_of}
 use Rattle.merkle_records.specs.Merkle.{Digest, GivesDigests}
 use Rattle.script_text.specs.declared.task.Task.{Task}
 use Rattle.tree_keys.specs.Path.{IsBelow, key_path}
@@ -80,16 +81,16 @@ still (hot found) = refl
 still vacant = tt
 
 -- it owns the same keys, if it mirrors
-pub owns_still : (digest : Digest) (hot_keys : List (List Bool)) (old new : Content) (key : ℕ) → IsStill old new
-    → ContentMirrors longest_blob digest hot_keys new → Owns longest_blob old key → Owns longest_blob new key
-owns_still digest hot_keys (cold old) (cold new) key same mirrors own =
+pub owns_still : (longest : ℕ) (digest : Digest) (hot_keys : List (List Bool)) (old new : Content) (key : ℕ) → IsStill old new
+    → ContentMirrors longest digest hot_keys new → Owns longest old key → Owns longest new key
+owns_still longest digest hot_keys (cold old) (cold new) key same mirrors own =
     (mirrors.fits, record { whole = own.1.whole; below = subst (λ (path : List Bool). IsBelow path (key_path false key)) (sym same) own.1.below })
-owns_still digest hot_keys (cold old) (hot new) key same mirrors own = absurd same
-owns_still digest hot_keys (cold old) vacant key same mirrors own = absurd same
-owns_still digest hot_keys (hot old) (cold new) key same mirrors own = absurd same
-owns_still digest hot_keys (hot old) (hot new) key same mirrors own = same ∙ own
-owns_still digest hot_keys (hot old) vacant key same mirrors own = absurd same
-owns_still digest hot_keys vacant new key same mirrors own = absurd own
+owns_still longest digest hot_keys (cold old) (hot new) key same mirrors own = absurd same
+owns_still longest digest hot_keys (cold old) vacant key same mirrors own = absurd same
+owns_still longest digest hot_keys (hot old) (cold new) key same mirrors own = absurd same
+owns_still longest digest hot_keys (hot old) (hot new) key same mirrors own = same ∙ own
+owns_still longest digest hot_keys (hot old) vacant key same mirrors own = absurd same
+owns_still longest digest hot_keys vacant new key same mirrors own = absurd own
 
 pub cold_still : (hot_keys : List (List Bool)) (old new : Content) (key : ℕ) → IsStill old new → IsCold hot_keys old key → IsCold hot_keys new key
 cold_still hot_keys (cold old) (cold new) key same apart = apart
@@ -117,18 +118,20 @@ still_after absent digest worker vacant vacant links request clock same = same
 
 -- ---- the services of a place
 
--- the key has no more than 64 bits
-abbrev pub IsSmall : Service → Type 0
-IsSmall service = service.request.key < 2 ^ 64
+-- the key has no more than 64 bits, and the value no more than so many bytes
+pub record IsSmall (longest : ℕ) (service : Service) : Type 0 where
+  pub key : service.request.key < 2 ^ 64
+  pub value : IsBlob longest service.request.value
 
 module _ (functions : DigestFunctions) (settings : Settings) (script : List (List Task)) (world : World Content)
     (orderly : IsOrderly functions settings script world) (terms : Terms) (made : AreTermsOf (shipped_host functions settings script) settings.absent world terms)
     (digests : GivesDigests functions.digest) (does : DoesPlans functions settings script)
     (running : (worker : ℕ) → worker < length world.workers → (worker_at (shipped_host functions settings script) world worker).stopped ≡ false) where
   -- A service is what the host does, where it can be served at the content that it finds.
-  service_served : (service : Service) → told.IsServed terms service → CanServe longest_blob functions.digest (shown_content service.before) service.request.key
+  service_served : (service : Service) → told.IsServed terms service → IsBlob (longest_of settings.header) service.request.value
+      → CanServe (longest_of settings.header) functions.digest (shown_content service.before) service.request.key
       → IsServed (shipped_host functions settings script) world (serving_of service)
-  service_served service served can =
+  service_served service served short can =
       let by : service.worker < length world.workers = subst (λ (n : ℕ). service.worker < n) made.workers served.by in
       let plan = subst (λ (t : Bool × Digest). IsPlan t.0 t.1 service.worker (shown_content service.before) service.request service.clock service.plan (shown_content service.after) service.later) (λ i. (made.absent_is i, made.digest i)) served.plan in
       record {
@@ -136,7 +139,7 @@ module _ (functions : DigestFunctions) (settings : Settings) (script : List (Lis
           there = by;
           at = is_place functions settings script world orderly terms made service.place served.at.there;
           running = running service.worker by;
-          owns = owns_there functions settings script world orderly terms made service.place served.at.there service.request served.at served.value;
+          owns = owns_there functions settings script world orderly terms made service.place served.at.there service.request served.at short;
         };
         serves = does service.worker (shown_content service.before) (shown_content service.after) service.request service.clock service.later service.plan can plan
             (within (cases_lt service.clock.end (clock_after (shown_content service.before) service.clock).at.counter));
@@ -156,26 +159,26 @@ module _ (functions : DigestFunctions) (settings : Settings) (script : List (Lis
     first = shown_content (first_at terms place)
 
     -- the first content of the place can serve the service's request
-    first_serves : (service : Service) → service.place ≡ place → told.IsServed terms service → IsSmall service → SeatServes longest_blob functions.digest hot_keys first service.request
+    first_serves : (service : Service) → service.place ≡ place → told.IsServed terms service → IsSmall (longest_of settings.header) service → SeatServes (longest_of settings.header) functions.digest hot_keys first service.request
     first_serves service at served small =
         let is_at : IsPlaceOf terms place service.request.key = subst (λ (n : ℕ). IsPlaceOf terms n service.request.key) at served.at in
-        subst (λ (c : Content). SeatServes longest_blob functions.digest hot_keys c service.request) (made.contents place there)
-        (seat_serves longest_blob functions.digest (shard_at world (place / 5)).contents
+        subst (λ (c : Content). SeatServes (longest_of settings.header) functions.digest hot_keys c service.request) (made.contents place there)
+        (seat_serves (longest_of settings.header) functions.digest (shard_at world (place / 5)).contents
         (orderly.shards (place / 5) (shard_there functions settings script world orderly terms made place there)).mirrors
-        (place % 5) service.request small
-        (owns_there functions settings script world orderly terms made place there service.request is_at served.value))
+        (place % 5) service.request small.key
+        (owns_there functions settings script world orderly terms made place there service.request is_at small.value))
 
-    from_mirrored : (x y : code.Content) (services : List Service) → IsStill first (shown_content x) → ContentMirrors longest_blob functions.digest hot_keys (shown_content x)
-        → told.Leads terms place x services y → AllByRecursion IsSmall services
+    from_mirrored : (x y : code.Content) (services : List Service) → IsStill first (shown_content x) → ContentMirrors (longest_of settings.header) functions.digest hot_keys (shown_content x)
+        → told.Leads terms place x services y → AllByRecursion (IsSmall (longest_of settings.header)) services
         → AllByRecursion (λ service. IsServed (shipped_host functions settings script) world (serving_of service)) services
     from_mirrored x y [] same mirrors leads small = tt
     from_mirrored x y (service ∷ services) same mirrors leads small =
-        (service_served service leads.2 can, from_mirrored service.after y services same_after mirrors_after leads.3 small.1)
+        (service_served service leads.2 small.0.value can, from_mirrored service.after y services same_after mirrors_after leads.3 small.1)
       where
         before : Content
         before = shown_content service.before
 
-        serves : SeatServes longest_blob functions.digest hot_keys first service.request
+        serves : SeatServes (longest_of settings.header) functions.digest hot_keys first service.request
         serves = first_serves service leads.0 leads.2 small.0
 
         plan : IsPlan settings.absent functions.digest service.worker before service.request service.clock service.plan (shown_content service.after) service.later
@@ -184,27 +187,27 @@ module _ (functions : DigestFunctions) (settings : Settings) (script : List (Lis
         same_before : IsStill first before
         same_before = subst (IsStill first) (sym leads.1) same
 
-        mirrors_before : ContentMirrors longest_blob functions.digest hot_keys before
-        mirrors_before = subst (ContentMirrors longest_blob functions.digest hot_keys) (sym leads.1) mirrors
+        mirrors_before : ContentMirrors (longest_of settings.header) functions.digest hot_keys before
+        mirrors_before = subst (ContentMirrors (longest_of settings.header) functions.digest hot_keys) (sym leads.1) mirrors
 
-        own : Owns longest_blob before service.request.key
-        own = owns_still functions.digest hot_keys first before service.request.key same_before mirrors_before serves.own
+        own : Owns (longest_of settings.header) before service.request.key
+        own = owns_still (longest_of settings.header) functions.digest hot_keys first before service.request.key same_before mirrors_before serves.own
 
         apart : IsCold hot_keys before service.request.key
         apart = cold_still hot_keys first before service.request.key same_before serves.cold_there
 
-        can : CanServe longest_blob functions.digest before service.request.key
-        can = mirrors_serve longest_blob functions.digest hot_keys before service.request.key mirrors_before own apart
+        can : CanServe (longest_of settings.header) functions.digest before service.request.key
+        can = mirrors_serve (longest_of settings.header) functions.digest hot_keys before service.request.key mirrors_before own apart
 
         same_after : IsStill first (shown_content service.after)
         same_after = subst (IsStill first) (sym plan.content) (still_after settings.absent functions.digest service.worker first before plan.links service.request service.clock same_before)
 
-        mirrors_after : ContentMirrors longest_blob functions.digest hot_keys (shown_content service.after)
-        mirrors_after = plan_mirrors settings.absent longest_blob functions.digest service.worker hot_keys before (shown_content service.after) service.request service.clock service.later service.plan
-            digests leads.2.value mirrors_before own apart plan
+        mirrors_after : ContentMirrors (longest_of settings.header) functions.digest hot_keys (shown_content service.after)
+        mirrors_after = plan_mirrors settings.absent (longest_of settings.header) functions.digest service.worker hot_keys before (shown_content service.after) service.request service.clock service.later service.plan
+            digests small.0.value mirrors_before own apart plan
 
     -- Each service of the place's past is what the host does.
-    pub past_served : (y : code.Content) (services : List Service) → told.Leads terms place (first_at terms place) services y → AllByRecursion IsSmall services
+    pub past_served : (y : code.Content) (services : List Service) → told.Leads terms place (first_at terms place) services y → AllByRecursion (IsSmall (longest_of settings.header)) services
         → AllByRecursion (λ service. IsServed (shipped_host functions settings script) world (serving_of service)) services
     past_served y [] leads small = tt
     past_served y (service ∷ services) leads small =

@@ -2,13 +2,13 @@
 use Rattle.std.proofs.Common.{◌≡◌, ℕ, suc, ◌+◌, ◌*◌, ◌/◌, ◌%◌, ◌<◌, Bool, true, false, not, ◌||◌, List, [], ◌∷◌, length, get_or, Option, Some, None, IsSome, eq-eqb, refl, sym, ◌∙◌, ap, subst, arith}
 use Rattle.std.specs.Prelude.{◌==◌}
 use Rattle.std.specs.List.{list_any}
-use Rattle.std.proofs.lemmas.Bool.{false≢true, and_from, le-leb, eqb-true}
+use Rattle.std.proofs.lemmas.Bool.{false≢true, and_from, eqb-true}
 use Rattle.tree_keys.specs.Path.{side, is_prefix, IsBelow, key_path}
 use Rattle.tree_keys.proofs.SideLaws.{prefix_of_side}
 use Rattle.record_hash.specs.Functions.{DigestFunctions}
 use Rattle.record_text.specs.declared.request.Request.{Request}
 use Rattle.record_text.specs.Value.{IsBlob}
-use Rattle.record_text.specs.Longest.{longest_blob}
+use Rattle.record_text.specs.Longest.{longest_blob, longest_of}
 use Rattle.script_text.specs.declared.task.Task.{Task}
 use Rattle.host_core.specs.Host.{Host}
 use Rattle.host_core.specs.World.{Place, World, shard_at}
@@ -27,6 +27,7 @@ use Rattle.host_world.specs.declared.settings.Settings.{Settings}
 use Rattle.host_world.specs.Orderly.{IsOrderly}
 use Rattle.host_world.specs.Places.{place_of}
 use Rattle.host_world.specs.ShippedHost.{is_blob, serves_key, shipped_host}
+use Rattle.host_world.proofs.SeatLaws.{fits_blob}
 use Rattle.table_order.specs.Phases.{AreTermsOf}
 
 -- the place of a number that is made of a shard and a seat
@@ -49,10 +50,6 @@ prefix_below frontier path below = go (side frontier path) refl below
     go : (o : Option Bool) → side frontier path ≡ o → IsSome o → is_prefix frontier path ≡ true
     go None is some = absurd (false≢true some)
     go (Some on) is some = prefix_of_side frontier path on is
-
-blob_test : (blob : Option (List ℕ)) → IsBlob longest_blob blob → is_blob longest_blob blob ≡ true
-blob_test None fits = refl
-blob_test (Some bytes) fits = le-leb (length bytes) 64 fits
 
 module _ (functions : DigestFunctions) (settings : Settings) (script : List (List Task)) (world : World Content)
     (orderly : IsOrderly functions settings script world) (terms : Terms) (made : AreTermsOf (shipped_host functions settings script) settings.absent world terms) where
@@ -114,10 +111,10 @@ module _ (functions : DigestFunctions) (settings : Settings) (script : List (Lis
                     absurd (no_hot kept (sym is ∙ made.contents place there ∙ ap shown_content (ap (first_at terms) (sym is_same) ∙ found)))
 
     -- The key's place owns the request.
-    pub owns_there : IsBlob longest_blob request.value → host.owns (place / 5) seats (place % 5) request ≡ true
+    pub owns_there : IsBlob (longest_of settings.header) request.value → host.owns (place / 5) seats (place % 5) request ≡ true
     owns_there fits =
-        and_from (serves_key seats request.key here) (is_blob longest_blob request.value)
-        (go here refl (subst (λ (c : Content). Owns longest_blob c request.key) (sym (made.contents place there)) at.owns)) (blob_test request.value fits)
+        and_from (serves_key seats request.key here) (is_blob (longest_of settings.header) request.value)
+        (go here refl (subst (λ (c : Content). Owns longest_blob c request.key) (sym (made.contents place there)) at.owns)) (fits_blob (longest_of settings.header) request.value fits)
       where
         go : (c : Content) → here ≡ c → Owns longest_blob c request.key → serves_key seats request.key c ≡ true
         go (cold shard) is own =

@@ -8,6 +8,7 @@ use Rattle.std.proofs.lemmas.List.Sorted.{IsPermutation-map, IsPermutation-sym}
 use Rattle.lamport_clocks.specs.Reading.{Reading}
 use Rattle.record_hash.specs.Functions.{DigestFunctions}
 use Rattle.record_text.specs.declared.request.Request.{Request}
+use Rattle.record_text.specs.Longest.{longest_of}
 use Rattle.script_text.specs.declared.task.Task.{Task}
 use Rattle.host_core.specs.Host.{Host, asked}
 use Rattle.host_core.specs.World.{Place, World, worker_at, set_up}
@@ -40,7 +41,7 @@ use Rattle.table_order.proofs.ListLemmas.{all-moved, all-flat, all-part, all-map
 use Rattle.table_order.proofs.ShapeLemmas.{list_is, services_in, lists_joined, pasts_joined, number_of, past_is, past_cases}
 use Rattle.table_order.proofs.PlaceLemmas.{place_back, is_place, owns_there}
 use Rattle.table_order.proofs.PastLemmas.{behind_leads, chain_leads, place_leads, had_shown, IsSmall, past_served}
-use Rattle.table_order.proofs.TurnLemmas.{worker_chain, stop_clock, next_small, all-stops, stops_apart}
+use Rattle.table_order.proofs.TurnLemmas.{worker_chain, stop_clock, next_value, next_small, all-stops, stops_apart}
 
 module _ (functions : DigestFunctions) (settings : Settings) (script : List (List Task)) (world : World Content) (terms : Terms)
     (after : List code.Content) (rows : List Row) (is : IsTableOf functions settings script world terms rows) (phase : IsPhase terms after rows)
@@ -70,17 +71,17 @@ module _ (functions : DigestFunctions) (settings : Settings) (script : List (Lis
 
   -- ---- the services
 
-  rows_small : AllByRecursion IsSmall (services_in rows)
-  rows_small = all-flat IsSmall (λ (row : Row). row.list) new_row rows
-      (λ i there. next_small functions settings script is.behind.keys world.phase i (worker_at host world i).served (row_at rows i).list
+  rows_small : AllByRecursion (IsSmall (longest_of settings.header)) (services_in rows)
+  rows_small = all-flat (IsSmall (longest_of settings.header)) (λ (row : Row). row.list) new_row rows
+      (λ i there. next_small functions settings script is.behind.keys is.behind.values world.phase i (worker_at host world i).served (row_at rows i).list
       (is.turns i (omega (arith, there, rows_are))).next)
 
   pasts_done : AllByRecursion IsDone (joined_from 0 (place_count terms) phase.past)
   pasts_done = all-joined IsDone phase.past 0 (place_count terms) (λ place from below.
       let there : place < place_count terms = omega (arith, below) in
       past_served functions settings script world orderly terms is.made is.digests does running place there (get_or after place Vacant) (phase.past place) (phase.leads place there)
-      (all-numbered IsSmall phase.past 0 (place_count terms) place from below
-      (all-moved IsSmall (services_in rows) (joined_from 0 (place_count terms) phase.past) phase.same rows_small)))
+      (all-numbered (IsSmall (longest_of settings.header)) phase.past 0 (place_count terms) place from below
+      (all-moved (IsSmall (longest_of settings.header)) (services_in rows) (joined_from 0 (place_count terms) phase.past) phase.same rows_small)))
 
   rows_done : AllByRecursion IsDone (services_in rows)
   rows_done = all-moved IsDone (joined_from 0 (place_count terms) phase.past) (services_in rows)
@@ -199,7 +200,8 @@ module _ (functions : DigestFunctions) (settings : Settings) (script : List (Lis
       there = there;
       at = is_place functions settings script world orderly terms is.made stop.place noted.at.there;
       running = running worker there;
-      owns = owns_there functions settings script world orderly terms is.made stop.place noted.at.there stop.request noted.at noted.value;
+      owns = owns_there functions settings script world orderly terms is.made stop.place noted.at.there stop.request noted.at
+          (next_value functions settings script is.behind.values world.phase worker _ stop.request ((is.turns worker there).last stop stops));
     };
     next =
         ap (λ (servings : List (Serving Content Request)). slice_get (asked host worker) ((worker_at host world worker).served + length servings)) (list_is rows worker)
@@ -257,6 +259,7 @@ module _ (functions : DigestFunctions) (settings : Settings) (script : List (Lis
   one_behind ends steady orders = record {
     settings_fit = is.behind.settings_fit;
     keys = is.behind.keys;
+    values = is.behind.values;
     events = is.behind.events ++ phase_events lists (stops_of rows);
     enabled = enabled-append host (set_up host) is.behind.events (phase_events lists (stops_of rows)) is.behind.enabled
         (subst (λ (w : World Content). AreEnabled host w (phase_events lists (stops_of rows))) is.behind.is (one_order ends steady orders).enabled);

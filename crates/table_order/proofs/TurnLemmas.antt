@@ -1,11 +1,13 @@
 -- The turns of a worker: its list is a chain from its clock, and its stop stands behind it.
-use Rattle.std.proofs.Common.{◌≡◌, ◌≢◌, ℕ, suc, ◌+◌, ◌<◌, List, [], ◌∷◌, ◌++◌, length, Option, Some, None, refl, sym, subst, arith}
+use Rattle.std.proofs.Common.{◌≡◌, ◌≢◌, ℕ, suc, ◌+◌, ◌^◌, ◌<◌, List, [], ◌∷◌, ◌++◌, length, slice_get, Option, Some, None, refl, sym, subst, arith}
 use Rattle.std.specs.List.{AllByRecursion}
 use Rattle.std.specs.Option.{ForSome}
 use Rattle.stamp_order.proofs.InOrderLaws.{every-append}
 use Rattle.lamport_clocks.specs.Reading.{Reading}
 use Rattle.record_hash.specs.Functions.{DigestFunctions}
 use Rattle.record_text.specs.declared.request.Request.{Request}
+use Rattle.record_text.specs.Value.{IsBlob}
+use Rattle.record_text.specs.Longest.{longest_of}
 use Rattle.script_text.specs.declared.task.Task.{Task}
 use Rattle.host_core.specs.Host.{Host, asked}
 use Rattle.host_shard.specs.Content.{Content}
@@ -17,9 +19,9 @@ use Rattle.host_table.specs.declared.views.Row.{Row}
 use Rattle.host_table.specs.Phase.{row_at}
 use Rattle.host_table.specs.Told.{Continues, TakesUp}
 use Rattle.host_world.specs.declared.settings.Settings.{Settings}
-use Rattle.host_world.specs.Behind.{AreInRange}
+use Rattle.host_world.specs.Behind.{AreInRange, HaveShortValues}
 use Rattle.host_world.specs.ShippedHost.{shipped_host}
-use Rattle.host_world.proofs.RangeLaws.{InRange, in_phases}
+use Rattle.host_world.proofs.RangeLaws.{in_phases}
 use Rattle.table_order.specs.Servings.{servings_of, stop_of, stops_from}
 use Rattle.table_order.specs.Phases.{first_clock, AreNext}
 use Rattle.table_order.proofs.ListLemmas.{all-got}
@@ -52,15 +54,26 @@ pub stop_clock : (clock : Reading) (services : List Service) (stop : Stop) → T
 stop_clock clock [] stop takes begins = sym (begins stop.clock refl)
 stop_clock clock (service ∷ services) stop takes begins = continues_behind service.later stop.clock services takes
 
--- ---- keys
+-- ---- keys and values
 
--- Of what the script asks each key has no more than 64 bits.
-pub next_small : (functions : DigestFunctions) (settings : Settings) (script : List (List Task)) → AreInRange script → (phase worker served : ℕ) (services : List Service)
-    → AreNext (shipped_host functions settings script) phase worker served services → AllByRecursion IsSmall services
-next_small functions settings script keys phase worker served [] next = tt
-next_small functions settings script keys phase worker served (service ∷ services) next = (
-  all-got InRange (asked (shipped_host functions settings script) worker) served (phase, service.request) (in_phases worker 0 script keys) next.0,
-  next_small functions settings script keys phase worker (suc served) services next.1,
+-- What the script asks next has a short value.
+pub next_value : (functions : DigestFunctions) (settings : Settings) (script : List (List Task)) → HaveShortValues settings.header script → (phase worker served : ℕ) (request : Request)
+    → slice_get (asked (shipped_host functions settings script) worker) served ≡ Some (phase, request) → IsBlob (longest_of settings.header) request.value
+next_value functions settings script values phase worker served request next =
+    all-got (λ (ask : ℕ × Request). IsBlob (longest_of settings.header) ask.1.value) (asked (shipped_host functions settings script) worker) served (phase, request)
+    (in_phases (λ request. IsBlob (longest_of settings.header) request.value) worker 0 script values) next
+
+-- Of what the script asks each key has no more than 64 bits, and each value is short.
+pub next_small : (functions : DigestFunctions) (settings : Settings) (script : List (List Task)) → AreInRange script → HaveShortValues settings.header script → (phase worker served : ℕ) (services : List Service)
+    → AreNext (shipped_host functions settings script) phase worker served services → AllByRecursion (IsSmall (longest_of settings.header)) services
+next_small functions settings script keys values phase worker served [] next = tt
+next_small functions settings script keys values phase worker served (service ∷ services) next = (
+  record {
+    key = all-got (λ (ask : ℕ × Request). ask.1.key < 2 ^ 64) (asked (shipped_host functions settings script) worker) served (phase, service.request)
+        (in_phases (λ request. request.key < 2 ^ 64) worker 0 script keys) next.0;
+    value = next_value functions settings script values phase worker served service.request next.0;
+  },
+  next_small functions settings script keys values phase worker (suc served) services next.1,
 )
 
 -- ---- stops
