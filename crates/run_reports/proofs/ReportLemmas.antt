@@ -7,7 +7,7 @@ use Rattle.lamport_clocks.specs.Header.{IsHeader}
 use Rattle.record_hash.specs.Functions.{DigestFunctions}
 use Rattle.record_text.specs.declared.exhibit.Exhibit.TheVariants.{Clean}
 use Rattle.record_text.specs.declared.request.Request.{Request}
-use Rattle.record_text.specs.Longest.{longest_blob}
+use Rattle.record_text.specs.Longest.{longest_of}
 use Rattle.record_text.specs.Format.{format_of}
 use Rattle.record_text.specs.Tree.{wide_of}
 use Rattle.log_codec.specs.Command.{IsPathCommand, IsCommandIn}
@@ -51,9 +51,9 @@ use Rattle.run_reports.proofs.RestLemmas.{LeftAtRest, logs_rest, shipped_is_bare
 
 module _ {C R : Type 0} (host : Host C R) where
   -- a verifier begins with nothing, or with the root
-  opening_good : (number : ℕ) → host.header.first < 2 ^ 32 → IsHeader host.header → IsGood longest_blob (opening number host.header)
+  opening_good : (number : ℕ) → host.header.first < 2 ^ 32 → IsHeader host.header → IsGood (longest_of host.header) (opening number host.header)
   opening_good number first is = record {
-    kinds = cond_both (number == 0) (root_entry (wide_of host.header) ∷ []) [] (AllByRecursion (IsKind longest_blob))
+    kinds = cond_both (number == 0) (root_entry (wide_of host.header) ∷ []) [] (AllByRecursion (IsKind (longest_of host.header)))
         (λ here. ((omega arith, tt, tt), tt)) (λ here. tt);
     narrow = opening_narrow number host.header first (omega (arith, is.end));
   }
@@ -61,9 +61,9 @@ module _ {C R : Type 0} (host : Host C R) where
   -- Logs that are accepted have texts, where their commands are typed and the stamps of what they add are in their ranges.
   logs_spelled : (number : ℕ) (workers : List Worker) (d : Worker) → GivesDigests host.functions.digest → host.header.first < 2 ^ 32 → IsHeader host.header
       → ((i : ℕ) → i < length workers → IsAccepted (machinery host (number + i)) (opening (number + i) host.header) (get_or workers i d).log)
-      → ArePathsTyped longest_blob (map (λ worker. worker.log) workers)
+      → ArePathsTyped (longest_of host.header) (map (λ worker. worker.log) workers)
       → AllByRecursion IsStamped (added_among (all_events (path_histories_from (scheme host) host.header number (map (λ worker. worker.log) workers))))
-      → AllByRecursion (AllByRecursion (IsPathCommand longest_blob)) (map (λ worker. worker.log) workers)
+      → AllByRecursion (AllByRecursion (IsPathCommand (longest_of host.header))) (map (λ worker. worker.log) workers)
   logs_spelled number [] d digests first is accepted typed stamped = tt
   logs_spelled number (worker ∷ workers) d digests first is accepted typed stamped = (
     accepted_spelled (rules_under (scheme host) host.header number) digests (omega (arith, is.verifiers)) number 0 (opening number host.header) worker.log
@@ -141,19 +141,19 @@ module _ (keeps : KeepsPromise) (functions : DigestFunctions) (settings : Settin
     promise : IsPromised host world
     promise = keeps functions settings script events can enabled
 
-    typed : ArePathsTypedIn (wide_of settings.header) longest_blob (logs_of world)
+    typed : ArePathsTypedIn (wide_of settings.header) (longest_of settings.header) (logs_of world)
     typed = logs_typed functions settings script events can enabled
 
     within : AllByRecursion (AllByRecursion (IsCommandIn (wide_of settings.header))) (logs_of world)
-    within = all_within (wide_of settings.header) longest_blob (logs_of world) typed
+    within = all_within (wide_of settings.header) (longest_of settings.header) (logs_of world) typed
 
     accepted : (i : ℕ) → i < length world.workers → IsAccepted (machinery host (0 + i)) (opening (0 + i) host.header) (worker_at host world i).log
     accepted i within = subst (λ (n : ℕ). IsAccepted (machinery host n) (opening n host.header) (worker_at host world i).log) (omega arith) (promise.accepted i within).0
 
-    spelled : AllByRecursion (AllByRecursion (IsPathCommand longest_blob)) (logs_of world)
+    spelled : AllByRecursion (AllByRecursion (IsPathCommand (longest_of settings.header))) (logs_of world)
     spelled =
         logs_spelled host 0 world.workers (fresh host.header) can.digests first can.in_range.header accepted
-        (paths_typed (wide_of settings.header) longest_blob (logs_of world) typed)
+        (paths_typed (wide_of settings.header) (longest_of settings.header) (logs_of world) typed)
         (logs_add (all_events (histories host world)) (pending_in host world)
         (logs_evict (scheme host) host.header 0 (logs_of world) first (omega (arith, can.in_range.header.end)))
         promise.even)
@@ -172,7 +172,7 @@ module _ (keeps : KeepsPromise) (functions : DigestFunctions) (settings : Settin
     rest : ComeToRestFrom host.header 0 (logs_of world)
     rest =
         logs_rest host (shipped_is_bare functions settings script) can.in_range.header 0 world.workers (fresh host.header)
-        (all_of_kind longest_blob (logs_of world) spelled)
+        (all_of_kind (longest_of settings.header) (logs_of world) spelled)
         (λ i within. subst (λ (n : ℕ). LeftAtRest host n (worker_at host world i)) (omega arith) (promise.accepted i within))
 
     ends : end_due functions settings.header texts ≡ Done (certified_count (scheme host) host.header.first (histories host world))

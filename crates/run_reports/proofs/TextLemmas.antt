@@ -1,6 +1,6 @@
 -- Logs whose commands have texts are read back, in either version, and none of them is refused.
 use Rattle.std.proofs.Common.{◌≡◌, ℕ, zero, suc, ◌+◌, Bool, true, false, List, [], ◌∷◌, map, length, replicate, min, Option, None, refl, sym, ◌∙◌, ap, nat_lt, if◌then◌else◌, arith}
-use Rattle.record_text.specs.Longest.{longest_blob}
+use Rattle.record_text.specs.Longest.{longest_of}
 use Rattle.record_text.specs.Format.{LogFormat, format_of}
 use Rattle.base_words.specs.Traced.{traced}
 use Rattle.std.specs.List.{flat_map, AllByRecursion}
@@ -70,12 +70,12 @@ module _ (functions : DigestFunctions) (header : Header) (in_range : IsHeader he
   own = scheme_of functions header
 
   -- A log that is accepted by path is read back, where its commands have texts.
-  read_back : (number : ℕ) (log : List Command) → AllByRecursion (IsCommandIn (wide_of header)) log → AllByRecursion (IsPathCommand longest_blob) log
+  read_back : (number : ℕ) (log : List Command) → AllByRecursion (IsCommandIn (wide_of header)) log → AllByRecursion (IsPathCommand (longest_of header)) log
       → path_log_refusal own header number log ≡ None → IsReadBack own header number log
   read_back number log within spelled none = go (names_paths header) refl
     where
-      kinds : AllByRecursion (IsOfKind longest_blob) log
-      kinds = are_of_kind longest_blob log spelled
+      kinds : AllByRecursion (IsOfKind (longest_of header)) log
+      kinds = are_of_kind (longest_of header) log spelled
 
       go : (b : Bool) → names_paths header ≡ b → IsReadBack own header number log
       go true version = record {
@@ -102,7 +102,7 @@ AreReadBack scheme header number [] = Unit {0}
 AreReadBack scheme header number (log ∷ logs) = IsReadBack scheme header number log × AreReadBack scheme header (suc number) logs
 
 pub all_read_back : (functions : DigestFunctions) (header : Header) (number : ℕ) (logs : List (List Command)) → IsHeader header
-    → AllByRecursion (AllByRecursion (IsCommandIn (wide_of header))) logs → AllByRecursion (AllByRecursion (IsPathCommand longest_blob)) logs
+    → AllByRecursion (AllByRecursion (IsCommandIn (wide_of header))) logs → AllByRecursion (AllByRecursion (IsPathCommand (longest_of header))) logs
     → AreAccepted (scheme_of functions header) header number logs → AreReadBack (scheme_of functions header) header number logs
 all_read_back functions header number [] in_range within spelled accepted = tt
 all_read_back functions header number (log ∷ logs) in_range within spelled accepted = (

@@ -30,7 +30,7 @@ use Rattle.host_world.specs.declared.world.World as code
 use Rattle.host_world.specs.Shown.{shown_world, digests_of, requests_of}
 use Rattle.host_world.specs.ShippedHost.{shipped_host, turn_of}
 use Rattle.host_world.specs.Settings.{IsSettings}
-use Rattle.host_world.specs.Behind.{AreInRange, AreOfOneHost, host_of, with_logs}
+use Rattle.host_world.specs.Behind.{AreInRange, HaveShortValues, AreOfOneHost, host_of, with_logs}
 use Rattle.host_world.proofs.FrontLaws.{before_each-none}
 use Rattle.host_fits.specs.Promise.{CanRun}
 use Rattle.host_fits.specs.Holds.{ContentsHold}
@@ -98,6 +98,7 @@ pub record IsRunningFrom (functions : DigestFunctions) (settings : Settings) (sc
   pub settings_fit : IsSettings settings
   pub counters : settings.shards ≤ settings.header.end
   pub keys : AreInRange script
+  pub values : HaveShortValues settings.header script
   pub is : world ≡ set_up (shipped_host functions settings script)
   pub count : length world.workers ≡ settings.header.verifiers
 
@@ -116,6 +117,7 @@ running-new receipts functions settings script world rounds vault vault_after ou
       settings_fit = from.settings_fit;
       counters = from.counters;
       keys = from.keys;
+      values = from.values;
       logs = logs;
       joined = refl;
       each = length-replicate settings.header.verifiers [] ∙ sym from.count;

@@ -176,6 +176,7 @@ module _ (receipts : Bool) {D : Type 0} (functions : D → DigestFunctions) (old
         settings_fit = runs.running.settings_fit;
         counters = runs.running.counters;
         keys = runs.running.keys;
+        values = runs.running.values;
         logs = runs.running.logs;
         joined = runs.running.joined;
         each = runs.running.each;

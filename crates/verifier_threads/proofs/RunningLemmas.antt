@@ -96,6 +96,7 @@ module _ (receipts : Bool) (functions : DigestFunctions) (settings : Settings) (
   running-behind = record {
     settings_fit = running.settings_fit;
     keys = running.keys;
+    values = running.values;
     events = running.way.events;
     enabled = running.way.enabled;
     is = running.way.is;
@@ -122,6 +123,7 @@ module _ (receipts : Bool) (functions : DigestFunctions) (settings : Settings) (
     settings_fit = running.settings_fit;
     counters = running.counters;
     keys = running.keys;
+    values = running.values;
     logs = running.logs;
     joined = running.joined;
     each = running.each ∙ sym (leads-length own_host world later next way.leads);
@@ -148,6 +150,7 @@ module _ (receipts : Bool) (functions : DigestFunctions) (settings : Settings) (
         settings_fit = running.settings_fit;
         counters = running.counters;
         keys = running.keys;
+        values = running.values;
         logs = logs;
         joined = ap (λ (all : Logs). logged_with all (logs_of world)) running.joined ∙ sym (logged-more first past (logs_of world));
         each = logged_with-length running.logs (logs_of world) ∙ running.each ∙ sym (length-map world.workers with_no_log);

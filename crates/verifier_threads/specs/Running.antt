@@ -14,7 +14,7 @@ use Rattle.host_world.specs.declared.settings.Settings.{Settings}
 use Rattle.host_world.specs.Settings.{IsSettings}
 use Rattle.host_world.specs.Shown.{shown_world, digests_of, requests_of}
 use Rattle.host_world.specs.ShippedHost.{shipped_host}
-use Rattle.host_world.specs.Behind.{AreInRange, with_logs}
+use Rattle.host_world.specs.Behind.{AreInRange, HaveShortValues, with_logs}
 use Rattle.host_serving.specs.Leading.{LeadsAs, CanDoNoMore}
 use Rattle.host_serving.specs.Form.{AreInRounds}
 use Rattle.host_serving.specs.Standing.{IsServedUpTo, IsServedOut, NoneStopped, SomeStopped, IsLowest, IsAllServed}
@@ -47,6 +47,7 @@ pub record IsRunning (receipts : Bool) (functions : DigestFunctions) (settings :
   pub settings_fit : IsSettings settings
   pub counters : settings.shards ≤ settings.header.end
   pub keys : AreInRange script
+  pub values : HaveShortValues settings.header script
   pub logs : Logs
   pub joined : logs ≡ logged_behind (no_logs settings.header.verifiers) past
   pub each : length logs ≡ length world.workers

@@ -11,7 +11,7 @@ ghost use Rattle.host_core.specs.World.{set_up, logs_of};
 ghost use Rattle.host_core.specs.WorldEvent.{IsLast};
 ghost use Rattle.host_world.specs.Settings.{IsSettings};
 ghost use Rattle.host_world.specs.Shown.{shown_world, digests_of, requests_of, settings_of};
-ghost use Rattle.host_world.specs.Behind.{AreInRange, AreOfOneHost, host_of};
+ghost use Rattle.host_world.specs.Behind.{AreInRange, HaveShortValues, AreOfOneHost, host_of};
 ghost use Rattle.host_serving.specs.Leading.{first_of};
 ghost use Rattle.host_serving.specs.Standing.{turns_of};
 ghost use Rattle.verifier_threads.specs.declared.runner.State.{State};
@@ -71,6 +71,7 @@ impl<'a, D: Digests> WorldRun<'a, D> {
         requires settings { IsSettings (settings_of world) }
         requires counters { (settings_of world).shards ≤ (settings_of world).header.end }
         requires keys { AreInRange (requests_of world) }
+        requires values { HaveShortValues (settings_of world).header (requests_of world) }
         requires some { 0 < length (requests_of world) }
         ensures runs { (receipts : Bool) (held : Option (List ℕ)) → IfOk result (λ runner. RunsBehind receipts D.functions runner 0 0
             (record { vault = V.held vault.old; vault_after = V.held vault.new; out = held; out_after = held })) }

@@ -4,7 +4,7 @@ use Rattle.std.proofs.lemmas.List.{length-replicate, length-set}
 use Rattle.std.proofs.lemmas.Option.{none-some, same_Some}
 use Rattle.lamport_clocks.specs.Reading.{Reading}
 use Rattle.lamport_clocks.specs.Clock.{last_epoch}
-use Rattle.record_text.specs.Longest.{longest_blob}
+use Rattle.record_text.specs.Longest.{longest_blob, longest_of}
 use Rattle.log_codec.specs.declared.command.Command.TheVariants.{NextEpoch}
 use Rattle.merkle_records.specs.Merkle.{Digest, GivesDigests}
 use Rattle.record_hash.specs.Functions.{DigestFunctions}
@@ -115,7 +115,7 @@ module _ (functions : DigestFunctions) (settings : Settings) (script : List (Lis
         others_bounded settings (with_worker world i worker) _ refl
         (worker_bounded settings world i worker bounded
         (move_end functions.digest i settings.hot (stage_at mirrors.shard mirrors.places clock) done
-        (seats_moved longest_blob functions.digest i settings.hot clock (shard_at world s).contents done digests behind.settings_fit.hot mirrors is) ∙ bounded.ends i))
+        (seats_moved (longest_of settings.header) functions.digest i settings.hot clock (shard_at world s).contents done digests behind.settings_fit.hot mirrors is) ∙ bounded.ends i))
 
     advance_bounded : (i : ℕ) → IsBounded settings (after_advance world i (worker_at host world i))
     advance_bounded i = go ((worker_at host world i).clock.at.epoch == last_epoch)
@@ -142,6 +142,7 @@ module _ (functions : DigestFunctions) (settings : Settings) (script : List (Lis
     step_behind event may = record {
       settings_fit = behind.settings_fit;
       keys = behind.keys;
+      values = behind.values;
       events = behind.events ++ event ∷ [];
       enabled = enabled-append host (set_up host) behind.events (event ∷ []) behind.enabled (subst (λ (w : World Content). IsEnabled host w event) behind.is may, tt);
       is = ap (λ (w : World Content). step host w event) behind.is ∙ sym (run-append host (set_up host) behind.events (event ∷ []));
@@ -178,5 +179,5 @@ module _ (functions : DigestFunctions) (settings : Settings) (script : List (Lis
     bounded_behind world behind =
         subst (IsBounded settings) (sym behind.is)
         (run_bounded (set_up host) behind.events
-        (record { settings_fit = behind.settings_fit; keys = behind.keys; events = []; enabled = tt; is = refl })
+        (record { settings_fit = behind.settings_fit; keys = behind.keys; values = behind.values; events = []; enabled = tt; is = refl })
         (set_up_bounded behind.settings_fit.header.some_verifiers) behind.enabled)

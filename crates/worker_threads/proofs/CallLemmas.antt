@@ -7,7 +7,10 @@ use Rattle.std.proofs.lemmas.List.Elements.{All-from_get_or}
 use Rattle.std.proofs.lemmas.Option.{get_or_from_slice_get, none-some, same_Some}
 use Rattle.log_codec.specs.declared.command.Command.{Command}
 use Rattle.record_hash.specs.Functions.{DigestFunctions}
+use Rattle.lamport_clocks.specs.declared.header.Header.{Header}
 use Rattle.record_text.specs.declared.request.Request.{Request}
+use Rattle.record_text.specs.Longest.{longest_of}
+use Rattle.record_text.specs.Value.{IsBlob}
 use Rattle.script_text.specs.declared.task.Task.{Task}
 use Rattle.atomic_table.specs.Seated.{TableId}
 use Rattle.host_core.specs.Host.{Host}
@@ -24,7 +27,7 @@ use Rattle.host_table.specs.Terms.{Terms, IsClockOf, IsPlaceOf}
 use Rattle.host_world.specs.declared.fault.ClockEnd.{ClockEnd}
 use Rattle.host_world.specs.declared.settings.Settings.{Settings}
 use Rattle.host_world.specs.declared.world.World as world
-use Rattle.host_world.specs.Behind.{AreInRange, AreOfOneHost, IsBehindSetup, StandsWith, host_of, with_logs}
+use Rattle.host_world.specs.Behind.{AreInRange, HaveShortValues, AreOfOneHost, IsBehindSetup, StandsWith, host_of, with_logs}
 use Rattle.host_world.specs.Lending.{all_contents, filled}
 use Rattle.host_world.specs.Shown.{shown_world, digests_of, requests_of}
 use Rattle.host_world.specs.ShippedHost.{shipped_host}
@@ -89,6 +92,19 @@ keys_in : (script : List (List Task)) (phase : ℕ) → AreInRange script → Al
 keys_in [] phase all = tt
 keys_in (tasks ∷ script) zero all = all.0
 keys_in (tasks ∷ script) (suc phase) all = keys_in script phase all.1
+
+-- a task's value is short, and so are those of a phase
+pub short_at : (longest : ℕ) (tasks : List Task) (i : ℕ) (task : Task) → AllByRecursion (λ (t : Task). IsBlob longest t.request.value) tasks → i < length tasks → task ≡ get_or tasks i task
+    → IsBlob longest task.request.value
+short_at longest [] i task all there is = absurd (omega (arith, there))
+short_at longest (first ∷ tasks) zero task all there is = subst (λ (t : Task). IsBlob longest t.request.value) (sym is) all.0
+short_at longest (first ∷ tasks) (suc i) task all there is = short_at longest tasks i task all.1 (omega (arith, there)) is
+
+pub values_in : (header : Header) (script : List (List Task)) (phase : ℕ) → HaveShortValues header script
+    → AllByRecursion (λ (t : Task). IsBlob (longest_of header) t.request.value) (get_or script phase [])
+values_in header [] phase all = tt
+values_in header (tasks ∷ script) zero all = all.0
+values_in header (tasks ∷ script) (suc phase) all = values_in header script phase all.1
 
 -- The places of the phase's tasks are those of their keys.
 pub phase_places : (host : Host Content Request) (world : World Content) (script : List (List Task)) (terms : Terms) (places : List ℕ) → AreInRange script
@@ -188,6 +204,7 @@ goes_on {D} functions old new end same count way logs stands = record {
       (record {
         settings_fit = stands.behind.settings_fit;
         keys = stands.behind.keys;
+        values = stands.behind.values;
         events = stands.behind.events ++ led.events;
         enabled = enabled-append host (set_up host) stands.behind.events led.events stands.behind.enabled
             (subst (λ (w : World Content). AreEnabled host w led.events) stands.behind.is led.enabled);

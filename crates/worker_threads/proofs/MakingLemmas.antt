@@ -7,7 +7,7 @@ use Rattle.std.proofs.lemmas.List.{length-map, get_or_past}
 use Rattle.record_hash.specs.Functions.{DigestFunctions}
 use Rattle.record_text.specs.declared.element.Element.{Element}
 use Rattle.record_text.specs.declared.request.Request.{Request}
-use Rattle.record_text.specs.Longest.{longest_blob}
+use Rattle.record_text.specs.Longest.{longest_blob, longest_of}
 use Rattle.script_text.specs.declared.task.Task.{Task}
 use Rattle.host_core.specs.Host.{Host}
 use Rattle.host_core.specs.World.{World, worker_at, shard_at, epoch_of}
@@ -28,6 +28,7 @@ use Rattle.host_world.specs.Places.{place_of}
 use Rattle.host_world.specs.Seated.{SeatsMirror}
 use Rattle.host_world.specs.ShippedHost.{shipped_host, serves_key, is_blob}
 use Rattle.host_world.proofs.PlaceLaws.{waits_there}
+use Rattle.host_world.proofs.LongerLaws.{longest_fits, owns_longer}
 use Rattle.host_world.proofs.SeatLaws.{seat_serves, stage_mirrors, stage_at}
 use Rattle.move_laws.proofs.DescentLaws.{apart_by_number}
 use Rattle.table_order.specs.Phases.{AreTermsOf}
@@ -124,14 +125,15 @@ module _ (functions : DigestFunctions) (settings : Settings) (script : List (Lis
     place_is place request small is = record {
       there = there;
       owns = subst (λ (c : Content). Owns longest_blob c request.key) (lent_at terms.contents lent place there)
-          (seat_serves longest_blob functions.digest seats mirrors (place % 5) request small is.owns).own;
+          (owns_longer (longest_of settings.header) longest_blob (longest_fits settings.header) (get_or seats (place % 5) vacant) request.key
+          (seat_serves (longest_of settings.header) functions.digest seats mirrors (place % 5) request small is.owns).own);
       cold = λ other kept near found same. alone other kept near found same (cases_lt other (length terms.contents));
     }
       where
         seats : List Content
         seats = (shard_at world (place / 5)).contents
 
-        mirrors : SeatsMirror longest_blob functions.digest seats
+        mirrors : SeatsMirror (longest_of settings.header) functions.digest seats
         mirrors = (orderly.shards (place / 5) is.there.0).mirrors
 
         there : place < length terms.contents
@@ -145,12 +147,12 @@ module _ (functions : DigestFunctions) (settings : Settings) (script : List (Lis
         alone other kept near found same (inr past) = absurd (no_vacant kept (sym (get_or_past terms.contents other Vacant past) ∙ found))
         alone other kept near found same (inl below) =
             let stage = stage_at mirrors.shard mirrors.places (worker_at host world 0).clock in
-            let apart = apart_by_number longest_blob functions.digest 0 stage
-            (stage_mirrors longest_blob functions.digest seats (worker_at host world 0).clock mirrors) in
+            let apart = apart_by_number (longest_of settings.header) functions.digest 0 stage
+            (stage_mirrors (longest_of settings.header) functions.digest seats (worker_at host world 0).clock mirrors) in
             let shows : get_or seats (other % 5) vacant ≡ hot kept =
             ap (λ (s : ℕ). get_or (shard_at world s).contents (other % 5) vacant) (sym near)
             ∙ lent_at terms.contents lent other below ∙ ap shown_content found in
-            let serves = (and_parts (serves_key seats request.key (get_or seats (place % 5) vacant)) (is_blob longest_blob request.value) is.owns).0 in
+            let serves = (and_parts (serves_key seats request.key (get_or seats (place % 5) vacant)) (is_blob (longest_of settings.header) request.value) is.owns).0 in
             let few = five (place / 5) is.there.0 in
             let seat : other % 5 ≡ place % 5 =
             serves_alone seats mirrors.shard mirrors.places mirrors.is apart (place % 5) (other % 5) request.key kept (omega (arith, few)) serves shows same in

@@ -2,6 +2,8 @@
 ghost use Rattle.std.specs.Prelude.{◌≡◌, ◌≤◌, ◌<◌, List, IfOk, IfSome, OnOk, Ok, None, length, map, get_or};
 ghost use Rattle.std.specs.List.{AllByRecursion};
 ghost use Rattle.log_codec.specs.declared.command.Command.{Command};
+ghost use Rattle.record_text.specs.Longest.{longest_of};
+ghost use Rattle.record_text.specs.Value.{IsBlob};
 ghost use Rattle.slot_rewriting.specs.Writing.{written_logs};
 ghost use Rattle.verifier_run.specs.Progress.{weight};
 ghost use Rattle.host_core.specs.World.{logs_of};
@@ -38,6 +40,7 @@ fn places_for<D: Digests>(
     tasks: &[Task],
 ) -> Result<Vec<u32>, Memory>
     requires behind { StandsBehind (D.functions (digests_of world.now)) world.now }
+    requires short { AllByRecursion (λ task. IsBlob (longest_of (settings_of world.now).header) task.request.value) tasks.now }
     ensures places { IfOk result (λ places. ArePlacesFor (host_of (D.functions (digests_of world.now)) world.now)
         (shown_world world.now) tasks.now (length tasks.now) places.items) }
 {

@@ -3,6 +3,8 @@ use Rattle.std.proofs.lemmas.List.{length-map}
 use Rattle.std.specs.List.{AllByRecursion}
 use Rattle.lamport_clocks.specs.declared.header.Header.{Header}
 use Rattle.lamport_clocks.specs.Header.{IsHeader}
+use Rattle.record_text.specs.Longest.{longest_of}
+use Rattle.record_text.specs.Value.{IsBlob}
 use Rattle.verifier_run.specs.Progress.{weight}
 use Rattle.merkle_records.specs.Merkle.{GivesDigests}
 use Rattle.script_text.specs.declared.task.Task.{Task}
@@ -23,7 +25,7 @@ use Rattle.host_serving.proofs.FormLaws.{as-leads}
 use Rattle.worker_threads.specs.Parts.{ArePlaces}
 use Rattle.worker_threads.specs.Phase.{ArePlacesFor, first_stopped}
 use Rattle.worker_threads.specs.Participants.{HaveReadLogs}
-use Rattle.worker_threads.proofs.CallLemmas.{phase_places, lent_count, later_is, to_serve, served_at_once, goes_on, hosts_then, no_end}
+use Rattle.worker_threads.proofs.CallLemmas.{phase_places, values_in, lent_count, later_is, to_serve, served_at_once, goes_on, hosts_then, no_end}
 use Rattle.worker_threads.proofs.FeedLemmas.{all_take, few_all}
 use Rattle.worker_threads.proofs.ServedLemmas.{none_stopped, some_stopped}
 use Rattle.worker_threads.proofs.phases.serve_phase_at_once.Goals as goal
@@ -32,6 +34,13 @@ use Rattle.worker_threads.proofs.phases.serve_phase_at_once.Goals as goal
 asked : (script seen : List (List Task)) (phase at : ℕ) (tasks : List Task) → seen ≡ script → at ≡ phase → tasks ≡ get_or seen at [] → tasks ≡ get_or script phase []
 asked script seen phase at tasks same now is =
     is ∙ ap (λ (s : List (List Task)). get_or s at []) same ∙ ap (λ (n : ℕ). get_or script n []) now
+
+pub places_for-requires-clause-short : goal.places_for-requires-clause-short
+places_for-requires-clause-short g c =
+    let old = c.args.world.now in
+    subst (λ (tasks : List Task). AllByRecursion (λ (task : Task). IsBlob (longest_of old.settings.header) task.request.value) tasks)
+    (sym (asked (requests_of old) c.requests.result.now old.phase c.phase.result c.phase-tasks.result.now c.requests.ensures.value c.phase.ensures.value c.phase-tasks.ensures.value))
+    (values_in old.settings.header (requests_of old) old.phase c.requires.behind.1.behind.values)
 
 pub make-requires : goal.make-requires
 make-requires g c =

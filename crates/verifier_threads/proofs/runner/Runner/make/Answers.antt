@@ -11,7 +11,7 @@ use Rattle.host_world.specs.declared.settings.Settings.{Settings}
 use Rattle.host_world.specs.declared.world.World as code
 use Rattle.host_world.specs.Settings.{IsSettings}
 use Rattle.host_world.specs.Shown.{shown_world, digests_of, requests_of}
-use Rattle.host_world.specs.Behind.{AreInRange, host_of}
+use Rattle.host_world.specs.Behind.{AreInRange, HaveShortValues, host_of}
 use Rattle.verifier_threads.specs.Serving.{IsCutOff, IsCutInHeader, setup_end}
 use Rattle.verifier_threads.specs.Running.{RunsBehind, IsAtPhase}
 use Rattle.verifier_threads.proofs.PassingLemmas.{err_any}
@@ -34,6 +34,8 @@ new-requires-in-Ok g c =
       settings = subst IsSettings (sym says.numbers) c.requires.settings;
       counters = subst (λ (s : Settings). s.shards ≤ s.header.end) (sym says.numbers) suffices;
       keys = subst AreInRange (sym says.asked) (c.scripts_ask_for_keys_in_range.ensures.keys settings.header.verifiers c.args.requests.now c.requires.tasks);
+      values = subst (λ (s : Settings). HaveShortValues s.header (requests_of c.in-Ok.world)) (sym says.numbers)
+          (subst (HaveShortValues settings.header) (sym says.asked) (c.scripts_ask_for_keys_in_range.ensures.values settings.header.verifiers settings.header c.args.requests.now c.requires.tasks));
       some = omega (arith, c.a_script_has_a_phase.ensures.some, ap (λ (script : List (List Task)). length script) says.asked);
     }
 

@@ -56,7 +56,7 @@ returns-clause-runs g c = λ receipts held.
       runs = record {
         running =
             running-new receipts f world.settings (requests_of world) (shown_world world) c.in_ok-rounds.rounds (g.V.Sink.held c.args.vault.now) (g.V.Sink.held c.new.new.vault) held
-            (record { settings_fit = c.requires.settings; counters = c.requires.counters; keys = c.requires.keys; is = c.requires.setup; count = count })
+            (record { settings_fit = c.requires.settings; counters = c.requires.counters; keys = c.requires.keys; values = c.requires.values; is = c.requires.setup; count = count })
             (subst (λ (header : Header). Keeps f header (empty_logs header.verifiers) [] c.in_ok-rounds.rounds (g.V.Sink.held c.args.vault.now) (g.V.Sink.held c.new.new.vault)) header_is
             (c.in_ok-rounds.ensures.keeps f))
             c.in_ok-rounds.ensures.none;
