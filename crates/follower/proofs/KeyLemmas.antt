@@ -101,15 +101,15 @@ lines_of (suc count) from (entry ∷ entries) rising among =
         (value_below from (entry ∷ entries) (first, above))
         ∙ all (first, above)
 
--- all keys are of 64 bits
+-- all keys are below the bound of their type
 all_among : (entries : List (ℕ × Option (List ℕ))) (bound : ℕ) → AllByRecursion (λ entry. entry.0 < bound) entries → AllByRecursion (IsAmong 0 bound) entries
 all_among [] bound all = tt
 all_among (entry ∷ entries) bound all = ((omega arith, omega (arith, all.0)), all_among entries bound all.1)
 
-keys_within : (entries : List (ℕ × Option (List ℕ))) → AllByRecursion IsEntry entries → AllByRecursion (λ entry. entry.0 < 2 ^ 64) entries
+keys_within : (entries : List (ℕ × Option (List ℕ))) → AllByRecursion IsEntry entries → AllByRecursion (λ entry. entry.0 < 2 ^ 128) entries
 keys_within [] all = tt
 keys_within (entry ∷ entries) all = (all.0.0, keys_within entries all.1)
 
 pub map_text-entries : (entries : List (ℕ × Option (List ℕ))) → AreRising entries → AllByRecursion IsEntry entries
     → map_text (value_at entries) ≡ flat_map entry_line entries
-map_text-entries entries rising all = lines_of (2 ^ 64) 0 entries rising (all_among entries (2 ^ 64) (keys_within entries all))
+map_text-entries entries rising all = lines_of (2 ^ 128) 0 entries rising (all_among entries (2 ^ 128) (keys_within entries all))
