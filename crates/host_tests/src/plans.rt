@@ -365,11 +365,11 @@ fn serve_many<D: Digests>(rt: &impl Abort, alloc: Global, d: &D, host: &mut Host
 
 // A plain map has this answer, once the request was made there too.
 fn assert_answer(rt: &impl Abort, map: &mut PlainMap, request: &Request, answer: &Blob) {
+    let key = u128::from(request.key);
     if request.put {
-        map.put(request.key, request.value.copy())
-            .expect(rt, "memory");
+        map.put(key, request.value.copy()).expect(rt, "memory");
     }
-    same(rt, "answer", &map.get(request.key), answer);
+    same(rt, "answer", &map.get(key), answer);
 }
 
 // A verifier accepts a log under these digests, and so many gets and puts are in it.

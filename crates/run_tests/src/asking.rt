@@ -175,11 +175,16 @@ pub(crate) fn line_at<'a>(rt: &impl Abort, text: &'a str, number: usize) -> &'a 
     line.expect(rt, "a text with too few lines")
 }
 
+// A receipt of a key of 128 bits, which no report has: its tag was computed by Python's `hmac`.
+const WIDE_RECEIPT: &str =
+    "receipt 0300000000000000030000000000000000000607000000000000000100000000000000050102616210d913826feafdde3e27a9186cf2334d7d599ff8ce952e8cc6aa7b215b1277a8";
+
 // The line that a letter stands for, if it stands for one.
 fn line_for(rt: &impl Abort, letter: u8) -> Option<&'static str> {
     match letter {
         b'P' => Some(line_at(rt, REPORT, 2)),
         b'G' => Some(line_at(rt, REPORT, 4)),
+        b'B' => Some(WIDE_RECEIPT),
         b'C' => Some(line_at(rt, REPORT, 5)),
         b'L' => Some(line_at(rt, REPORT, 8)),
         b'D' => Some(line_at(rt, REPORT, 9)),
@@ -189,9 +194,9 @@ fn line_for(rt: &impl Abort, letter: u8) -> Option<&'static str> {
     }
 }
 
-/// The text that letters stand for: P, G and L for the receipts of the put, the get and the later get, C and D for the
-/// certificates of the epochs 0 and 1, Q and E for the receipt of the put and the certificate under another key, / for the
-/// end of a line and ^ for a carriage return.
+/// The text that letters stand for: P, G and L for the receipts of the put, the get and the later get, B for one of a key of 128
+/// bits, C and D for the certificates of the epochs 0 and 1, Q and E for the receipt of the put and the certificate under
+/// another key, / for the end of a line and ^ for a carriage return.
 pub(crate) fn text_of(rt: &impl Abort, alloc: Global, letters: &str) -> Vec<u8> {
     let mut text = Vec::new(alloc);
     for letter in letters.as_bytes() {

@@ -15,10 +15,12 @@ P/C     | done 0 | accepted 0.3 v0 put 5 6162
 G/C/    | done 0 | accepted 0.5 v0 get 5 6162
 P/D/    | done 0 | accepted 0.3 v0 put 5 6162
 L/D/    | done 0 | accepted 1.5 v0 get 5 6162
+B/C/    | done 0 | accepted 0.3 v0 put 18446744073709551621 6162
 L/C/    | not certified | not certified
 Q/C/    | not tagged | not tagged
 P/E/    | not tagged | not tagged
 Q/E/    | not tagged | not tagged
+B/E/    | not tagged | not tagged
 L/E/    | not tagged | not tagged
         | bad script line 1 Shape |
 /       | bad script line 1 Shape |
@@ -26,6 +28,7 @@ C/P/    | bad script line 1 Shape |
 /P/C/   | bad script line 1 Shape |
 P^/C^/  | bad script line 1 Hex |
 P0/C/   | bad script line 1 Hex |
+B0/C/   | bad script line 1 Hex |
 P/      | bad script line 2 Shape |
 P//C/   | bad script line 2 Shape |
 P/P/    | bad script line 2 Shape |

@@ -2,8 +2,8 @@
 use crate::rows::{bytes_of, data_value, field, same, same_bytes, stamp};
 use lamport_clocks::Header;
 use log_codec::{
-    Command, Decoded, LONGEST_PATH_COMMAND_TEXT, LogCommand, SlotCommand, read_command,
-    write_path_command, write_slot_command,
+    Command, Decoded, LONGEST_PATH_COMMAND_TEXT, LONGEST_SLOT_COMMAND_TEXT, LogCommand,
+    SlotCommand, read_command, write_path_command, write_slot_command,
 };
 use record_text::{Blob, Node, Pointer, Value};
 use std::process::Abort;
@@ -167,7 +167,7 @@ fn an_absence_by_slot_has_its_path(rt: HostRuntime) {
 
 // A pointer to the path one bit longer than this one, on a side.
 fn pointer_below(path: &Path, side: bool) -> Option<Pointer> {
-    if path.len() == 64 {
+    if path.is_data() {
         return None;
     }
     Some(Pointer {
@@ -184,6 +184,7 @@ const LONGEST: &str = "
 01020304 05060708 090a
 ";
 
+// A bundle of version 1 has none that is longer.
 #[test]
 fn the_longest_has_104_bytes(rt: HostRuntime) {
     let path = Path::root().child(false);
@@ -197,14 +198,28 @@ fn the_longest_has_104_bytes(rt: HostRuntime) {
         verifier: 0x090a,
     };
     let text = bytes_of(&rt, rt.alloc(), LONGEST);
-    same(
-        &rt,
-        "LONGEST_PATH_COMMAND_TEXT",
-        &LONGEST_PATH_COMMAND_TEXT,
-        &104,
-    );
     same(&rt, "text.len()", &text.len(), &104);
     assert_command(&rt, command, text, "the longest")
+}
+
+// Longer ones are written, of paths of the tree whose keys have 128 bits.
+#[test]
+fn the_longest_of_all_fill_their_room(rt: HostRuntime) {
+    let path = Path::of_wide(5);
+    let by_path = write_path_command(&Command::AddM {
+        path,
+        value: data_value(&rt, &[7; 255]),
+        parent: path,
+    });
+    same(&rt, "by path", &by_path.len(), &LONGEST_PATH_COMMAND_TEXT);
+    let by_slot = write_slot_command(&SlotCommand::AddB {
+        slot: 1,
+        path,
+        value: data_value(&rt, &[7; 255]),
+        stamp: stamp(1, 2),
+        verifier: 0,
+    });
+    same(&rt, "by slot", &by_slot.len(), &LONGEST_SLOT_COMMAND_TEXT);
 }
 
 // A tag of no command; a path too long, or with an unused bit; a value of another kind, or one whose

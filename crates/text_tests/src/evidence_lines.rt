@@ -4,19 +4,23 @@ use receipts::{read_certificate, read_receipt};
 use std::alloc::Global;
 use std::process::Abort;
 
-// A receipt and a certificate with their tags.
+// A receipt of a key of 64 bits with its tag, one of a key of 128, and a certificate.
 const RECEIPT: &str =
     "0100000000000000030000000000000000000607000000000000000501026162ac51fb70250d0b223d2e4761dd97884b0acded9052db66085942bb4b765bd2c6";
+
+const WIDE_RECEIPT: &str =
+    "0300000000000000030000000000000000000607000000000000000000000000000000050102616284750e951c1b909d857f7963ec8e504e69f33fa6f480ade943a33733cfa2bfe2";
 
 const CERTIFICATE: &str =
     "020000000000000000d9f6d832690ffe03b32ea0ea7d73a6896c7900651a4f0ee61aa7a1392b0e6348";
 
-// What a text is read as, and the text: R and C stand for the digits of the two, * and + for those digits without the first
-// and the last, / for the end of a line, _ for a blank and ^ for a carriage return.
+// What a text is read as, and the text: R, W and C stand for the digits of these, * and + for those of R and C without the
+// first and the last, / for the end of a line, _ for a blank and ^ for a carriage return.
 const TEXTS: &str = "
 read    | receipt_R/certificate_C/
 read    | receipt_R/certificate_C
 read    | receipt_0*a/certificate_0+a/
+read    | receipt_W/certificate_C/
 1 Shape |
 1 Shape | /
 1 Shape | x
@@ -42,7 +46,8 @@ read    | receipt_0*a/certificate_0+a/
 1 Hex   | receipt_R0/certificate_C/
 1 Hex   | receipt_R00/certificate_C/
 1 Hex   | receipt_RR/certificate_C/
-1 Hex   | receipt_RRRRR/certificate_C/
+1 Hex   | receipt_RRRRRR/certificate_C/
+1 Hex   | receipt_W00/certificate_C/
 1 Hex   | receipt_C/certificate_C/
 1 Hex   | receipt_R^/certificate_C/
 1 Hex   | receipt_^/
@@ -62,7 +67,8 @@ read    | receipt_0*a/certificate_0+a/
 2 Hex   | receipt_R/certificate_0+F/
 2 Hex   | receipt_R/certificate_+8/
 2 Hex   | receipt_R/certificate_C00/
-2 Hex   | receipt_R/certificate_CCCCCCC/
+2 Hex   | receipt_R/certificate_CCCCCCCC/
+2 Hex   | receipt_R/certificate_W/
 2 Hex   | receipt_R/certificate_R/
 2 Hex   | receipt_R/certificate_C^/
 2 Hex   | receipt_R/certificate_C0/0
@@ -86,6 +92,9 @@ fn text_of(rt: &impl Abort, alloc: Global, row: &str) -> Vec<u8> {
         match *byte {
             b'R' => text
                 .extend_from_slice(RECEIPT.as_bytes())
+                .expect(rt, "memory"),
+            b'W' => text
+                .extend_from_slice(WIDE_RECEIPT.as_bytes())
                 .expect(rt, "memory"),
             b'C' => text
                 .extend_from_slice(CERTIFICATE.as_bytes())

@@ -1,9 +1,10 @@
 //! Texts of paths, values and elements that were worked out by hand.
-use crate::rows::{bytes_of, data_value, field, path_of, same, same_bytes, stamp};
+use crate::rows::{bytes_of, data_value, field, path_below, path_of, same, same_bytes, stamp};
 use arrayvec::ArrayVec;
+use lamport_clocks::Header;
 use record_text::{
-    Blob, Element, Node, Pointer, TextFault, Value, element_text, initial, push_path, read_element,
-    read_path, read_value, value_text,
+    Blob, Element, LONGEST_PATH_TEXT, Node, Pointer, Reader, TextFault, Value, element_text,
+    initial, push_path, read_element, read_path, read_value, value_text,
 };
 use std::alloc::Global;
 use std::process::Abort;
@@ -13,8 +14,13 @@ const MALFORMED: TextFault = TextFault::Malformed;
 
 const TRUNCATED: TextFault = TextFault::Truncated;
 
+// The header of a bundle whose keys have 64 bits, and its values at most 64 bytes.
+fn header() -> Header {
+    Header::by_path(1, 4, 0, 16_777_215)
+}
+
 // The text of a path.
-fn path_text(path: &Path) -> ArrayVec<u8, 9> {
+fn path_text(path: &Path) -> ArrayVec<u8, LONGEST_PATH_TEXT> {
     let mut text = ArrayVec::new();
     push_path(&mut text, path);
     text
@@ -32,12 +38,17 @@ root | 00 0000000000000000
 // A path has this text, and is read from it, also where a byte follows, and from no front of it.
 fn assert_path(rt: &impl Abort, path: Path, mut text: Vec<u8>, row: &str) {
     same_bytes(rt, row, path_text(&path).as_slice(), text.as_slice());
-    same(rt, row, &read_path(&text), &Ok((path, 9)));
+    same(rt, row, &read_path(&header(), &text), &Ok((path, 9)));
     for len in 0..text.len() {
-        same(rt, row, &read_path(&text[..len]), &Err(TRUNCATED));
+        same(
+            rt,
+            row,
+            &read_path(&header(), &text[..len]),
+            &Err(TRUNCATED),
+        );
     }
     text.push(7).expect(rt, "memory");
-    same(rt, row, &read_path(&text), &Ok((path, 9)));
+    same(rt, row, &read_path(&header(), &text), &Ok((path, 9)));
 }
 
 #[test]
@@ -47,6 +58,36 @@ fn paths_have_nine_bytes(rt: HostRuntime) {
         let text = bytes_of(&rt, rt.alloc(), field(&rt, row, 1));
         assert_path(&rt, path, text, row);
     }
+}
+
+// Bits from the root of the tree whose keys have 128 bits, and the text of the path to which they lead.
+const WIDE_PATHS: &str = "
+root | 00 00000000000000000000000000000000
+0 | 01 00000000000000000000000000000000
+1 | 01 80000000000000000000000000000000
+01 | 02 40000000000000000000000000000000
+";
+
+// A path of that tree has this text, and is read from it and from no front of it.
+fn assert_wide_path(rt: &impl Abort, path: Path, text: &[u8], row: &str) {
+    same_bytes(rt, row, path_text(&path).as_slice(), text);
+    same(rt, row, &Reader::new(text).path(true), &Ok(path));
+    for len in 0..text.len() {
+        let front = Reader::new(&text[..len]).path(true);
+        same(rt, row, &front, &Err(TRUNCATED));
+    }
+}
+
+#[test]
+fn paths_of_wide_keys_have_seventeen_bytes(rt: HostRuntime) {
+    for row in WIDE_PATHS.trim().lines() {
+        let path = path_below(&rt, Path::root_of(true), field(&rt, row, 0));
+        let text = bytes_of(&rt, rt.alloc(), field(&rt, row, 1));
+        assert_wide_path(&rt, path, &text, row);
+    }
+    let row = "80 00000000000000000000000000000102";
+    let text = bytes_of(&rt, rt.alloc(), row);
+    assert_wide_path(&rt, Path::of_wide(258), &text, row);
 }
 
 // Unused bits that aren't 0, and lengths past 64.
@@ -61,9 +102,9 @@ ff 0000000000000000
 // The bytes of a row are no path.
 fn assert_no_path(rt: &impl Abort, alloc: Global, row: &str) {
     let text = bytes_of(rt, alloc, row);
-    same(rt, row, &read_path(&text), &Err(MALFORMED));
+    same(rt, row, &read_path(&header(), &text), &Err(MALFORMED));
     let front = text.get(..8).expect(rt, "a short row");
-    same(rt, row, &read_path(front), &Err(TRUNCATED));
+    same(rt, row, &read_path(&header(), front), &Err(TRUNCATED));
 }
 
 #[test]
@@ -77,12 +118,27 @@ fn bytes_outside_are_no_path(rt: HostRuntime) {
 fn assert_value(rt: &impl Abort, path: &Path, value: &Value, mut text: Vec<u8>, row: &str) {
     let len = text.len();
     same_bytes(rt, row, value_text(value).as_slice(), text.as_slice());
-    same(rt, row, &read_value(path, &text), &Ok((value.copy(), len)));
+    same(
+        rt,
+        row,
+        &read_value(&header(), path, &text),
+        &Ok((value.copy(), len)),
+    );
     for cut in 0..len {
-        same(rt, row, &read_value(path, &text[..cut]), &Err(TRUNCATED));
+        same(
+            rt,
+            row,
+            &read_value(&header(), path, &text[..cut]),
+            &Err(TRUNCATED),
+        );
     }
     text.push(7).expect(rt, "memory");
-    same(rt, row, &read_value(path, &text), &Ok((value.copy(), len)));
+    same(
+        rt,
+        row,
+        &read_value(&header(), path, &text),
+        &Ok((value.copy(), len)),
+    );
 }
 
 // The bytes of a data value, and its text.
@@ -94,7 +150,7 @@ const DATA_VALUES: &str = "
 
 // No value is read of this path from these bytes.
 fn assert_no_value(rt: &impl Abort, path: &Path, text: &[u8], fault: TextFault) {
-    match read_value(path, text) {
+    match read_value(&header(), path, text) {
         Err(found) => assert_eq!(rt; found, fault, "{text:?}"),
         Ok(_) => panic!(rt; "{text:?}"),
     }
@@ -115,7 +171,7 @@ fn data_values_have_a_flag_and_a_count(rt: HostRuntime) {
     let key = Path::of_key(5);
     let none = bytes_of(&rt, rt.alloc(), "00");
     assert_value(&rt, &key, &initial(&key), none, "none");
-    same(&rt, "too long", &Blob::of_bytes(&[7; 65]), &None);
+    same(&rt, "too long", &Blob::of_bytes(&[7; 256]), &None);
     assert_no_value(&rt, &key, &[2], MALFORMED);
     assert_no_value(&rt, &key, &[1, 65], MALFORMED);
 }
@@ -214,11 +270,11 @@ fn assert_element(rt: &impl Abort, element: &Element, mut text: Vec<u8>) {
     let found = element_text(element);
     same_bytes(rt, "element_text", found.as_slice(), &text);
     for cut in 0..len {
-        let front = read_element(&text[..cut]);
+        let front = read_element(&header(), &text[..cut]);
         same(rt, "a front", &front, &Err(TRUNCATED));
     }
     text.push(7).expect(rt, "memory");
-    match read_element(&text) {
+    match read_element(&header(), &text) {
         Ok((read, taken)) => {
             same(rt, "read_element", &read, element);
             same(rt, "taken", &taken, &len);

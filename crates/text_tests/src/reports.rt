@@ -91,11 +91,13 @@ fn each_status_has_its_number_and_text(rt: HostRuntime) {
     }
 }
 
-// Its epoch, counter, verifier, whether it is a put, and its key; its value in characters, or `none`.
+// Its epoch, counter, verifier, whether it is a put, and its key, of 128 bits where it doesn't fit 64; its value in characters, or
+// `none`.
 const OPERATIONS: &str = "
 0 | 0 | 0 | true | 5 | ab
 4294967295 | 16777215 | 63 | false | 18446744073709551615 | none
 1 | 2 | 3 | true | 0 |
+4294967295 | 16777215 | 63 | false | 340282366920938463463374607431768211455 | zzzzzzzzzzzzzzzzzzzzzzzzzzzzzzzzzzzzzzzzzzzzzzzzzzzzzzzzzzzzzzzzzzzzzzzzzzzzzzzzzzzzzzzzzzzzzzzzzzzzzzzzzzzzzzzzzzzzzzzzzzzzzzzzzzzzzzzzzzzzzzzzzzzzzzzzzzzzzzzzzzzzzzzzzzzzzzzzzzzzzzzzzzzzzzzzzzzzzzzzzzzzzzzzzzzzzzzzzzzzzzzzzzzzzzzzzzzzzzzzzzzzzzzzzzzzzzz
 ";
 
 // The value of a row.
@@ -108,12 +110,14 @@ fn value_of(rt: &impl Abort, row: &str) -> Blob {
 
 // The operation of a row.
 fn operation_of(rt: &impl Abort, row: &str) -> Operation {
+    let key = number(rt, row, 4);
     Operation::new(
         stamp(number(rt, row, 0), number(rt, row, 1)),
         number(rt, row, 2),
         9,
         number(rt, row, 3),
-        number(rt, row, 4),
+        key > u128::from(u64::MAX),
+        key,
         value_of(rt, row),
     )
 }
@@ -129,12 +133,13 @@ epoch 0 certified 2
 0.0 v0 put 5 6162
 4294967295.16777215 v63 get 18446744073709551615 none
 1.2 v3 put 0 .
+4294967295.16777215 v63 get 340282366920938463463374607431768211455 7a7a7a7a7a7a7a7a7a7a7a7a7a7a7a7a7a7a7a7a7a7a7a7a7a7a7a7a7a7a7a7a7a7a7a7a7a7a7a7a7a7a7a7a7a7a7a7a7a7a7a7a7a7a7a7a7a7a7a7a7a7a7a7a7a7a7a7a7a7a7a7a7a7a7a7a7a7a7a7a7a7a7a7a7a7a7a7a7a7a7a7a7a7a7a7a7a7a7a7a7a7a7a7a7a7a7a7a7a7a7a7a7a7a7a7a7a7a7a7a7a7a7a7a7a7a7a7a7a7a7a7a7a7a7a7a7a7a7a7a7a7a7a7a7a7a7a7a7a7a7a7a7a7a7a7a7a7a7a7a7a7a7a7a7a7a7a7a7a7a7a7a7a7a7a7a7a7a7a7a7a7a7a7a7a7a7a7a7a7a7a7a7a7a7a7a7a7a7a7a7a7a7a7a7a7a7a7a7a7a7a7a7a7a7a7a7a7a7a7a7a7a7a7a7a7a7a7a7a7a7a7a7a7a7a7a7a7a7a7a7a7a7a7a7a7a7a7a7a7a7a7a7a7a7a
 done 1
 ";
 
 #[test]
 fn lines_are_written_whole(rt: HostRuntime) {
-    let mut sink = MemorySink::new(rt.alloc(), 1000, 7, &[]).expect(&rt, "memory");
+    let mut sink = MemorySink::new(rt.alloc(), 2000, 7, &[]).expect(&rt, "memory");
     write_epoch(0, 2, &mut sink).ok().expect(&rt, "head");
     for row in OPERATIONS.trim().lines() {
         let op = operation_of(&rt, row);

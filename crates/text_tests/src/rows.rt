@@ -38,12 +38,17 @@ pub fn path_of(rt: &impl Abort, text: &str) -> Path {
     if let Some(key) = text.strip_prefix('#') {
         return Path::of_key(key.parse().expect(rt, "a number"));
     }
-    let mut path = Path::root();
+    path_below(rt, Path::root(), text)
+}
+
+/// The path to which these bits lead from a root, or that root.
+pub fn path_below(rt: &impl Abort, root: Path, text: &str) -> Path {
+    let mut path = root;
     if text == "root" {
         return path;
     }
     for bit in text.bytes() {
-        if path.len() == 64 || (bit != b'0' && bit != b'1') {
+        if path.is_data() || (bit != b'0' && bit != b'1') {
             panic!(rt; "a path of other bits");
         }
         path = path.child(bit == b'1');
@@ -53,7 +58,7 @@ pub fn path_of(rt: &impl Abort, text: &str) -> Path {
 
 /// A data value of these bytes.
 pub fn data_value(rt: &impl Abort, bytes: &[u8]) -> Value {
-    Value::Blob(Blob::of_bytes(bytes).expect(rt, "more than 64 bytes"))
+    Value::Blob(Blob::of_bytes(bytes).expect(rt, "more than 255 bytes"))
 }
 
 /// A stamp of this epoch and counter.

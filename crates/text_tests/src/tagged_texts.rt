@@ -29,9 +29,14 @@ ee25028afd00aaf652588eae668e9028 | 010000000800000005000000000000000000150680000
 06b500aeb60db209abf17be7cfe4f1bf02 | 0100000001000000050000000000000000001c078000000000000000002ab511e4d30df9cf244c3df4e8f19a6b8a049fcd0a885644c3911a4da0f35d66 | 0200000000000000008b46106556b1ca3cab3a0cae4ce31afeb470cf518f17319229e4255b750b5aa1 | not certified
 7f539c836c6b5de7bea0f2a9382a0ba722d315cb64a21f334512b805ef3c281ef50788b1a0407706055ead3202e67bfa33a01b7751b576b097ac0b959397ad8f | 0100000009000000090000000000000000002206000000000000000500fcbfd2b0cdc45b3b974307267a00b717b7a74377f34dabee5cef73154c274dde | 020000000700000008b6eb18d951e2cf489e300323a4b01d766f49ba9fb677928feb86cfc05107e391 | not certified
 00000000000000000000000000000000 | 01000000070000000300000000000000000006060000000000000005007f89472c399ae4a48edad624e36fc2c7b88dc98d22673066b476e9989de98406 | 0200000007000000072c762deae75b8160cc726f2d52741d2d0c1c6bd6cb1296dc801b46eaf0fbffec | not tagged
+00000000000000000000000000000000 | 0300000000000000030000000000000000000607000000000000000000000000000000050102616284750e951c1b909d857f7963ec8e504e69f33fa6f480ade943a33733cfa2bfe2 | 020000000000000000d9f6d832690ffe03b32ea0ea7d73a6896c7900651a4f0ee61aa7a1392b0e6348 | 0.3 v0 6 put wide 5
+00000000000000000000000000000000 | 010000000000000003000000000000000000060700000000000000050141000102030405060708090a0b0c0d0e0f101112131415161718191a1b1c1d1e1f202122232425262728292a2b2c2d2e2f303132333435363738393a3b3c3d3e3f403a770a482bcc537d0a46327f786c46a562b37db5375e0b3a583d7139ee0b9767 | 020000000000000000d9f6d832690ffe03b32ea0ea7d73a6896c7900651a4f0ee61aa7a1392b0e6348 | 0.3 v0 6 put 5
+000102030405060708090a0b0c0d0e0f101112131415161718191a1b1c1d1e1f202122232425262728292a2b2c2d2e2f303132333435363738393a3b3c3d3e3f | 03ffffffff00ffffff003fffffffffffffffff06ffffffffffffffffffffffffffffffff01ff000102030405060708090a0b0c0d0e0f101112131415161718191a1b1c1d1e1f202122232425262728292a2b2c2d2e2f303132333435363738393a3b3c3d3e3f404142434445464748494a4b4c4d4e4f505152535455565758595a5b5c5d5e5f606162636465666768696a6b6c6d6e6f707172737475767778797a7b7c7d7e7f808182838485868788898a8b8c8d8e8f909192939495969798999a9b9c9d9e9fa0a1a2a3a4a5a6a7a8a9aaabacadaeafb0b1b2b3b4b5b6b7b8b9babbbcbdbebfc0c1c2c3c4c5c6c7c8c9cacbcccdcecfd0d1d2d3d4d5d6d7d8d9dadbdcdddedfe0e1e2e3e4e5e6e7e8e9eaebecedeeeff0f1f2f3f4f5f6f7f8f9fafbfcfdfe8f9b962ba6eb1402962067c804d8d301684212e088c2b5b365214aafc7197124 | 0200000007ffffffff331577c8b3fc0da20fcad9d910916824ef8b81b3ceed2376eed6f4f40d4739ee | 4294967295.16777215 v63 18446744073709551615 get wide 340282366920938463463374607431768211455
+00000000000000000000000000000000 | 03000000010000000300000000000000000006060000000000000001000000000000000000478700cc7c359fb6fbfc31c9480a129534ee0bedebe37a5c587ee7405cb20aab | 020000000000000000d9f6d832690ffe03b32ea0ea7d73a6896c7900651a4f0ee61aa7a1392b0e6348 | not certified
+00000000000000000000000000000000 | 03000000000000000300000000000000000006070000000000000000000000000000000501026162ac51fb70250d0b223d2e4761dd97884b0acded9052db66085942bb4b765bd2c6 | 020000000000000000d9f6d832690ffe03b32ea0ea7d73a6896c7900651a4f0ee61aa7a1392b0e6348 | not tagged
 ";
 
-// An operation as a row says it: its stamp, its verifier, its index, its kind and its key.
+// An operation as a row says it: its stamp, its verifier, its index, its kind, whether its key has 128 bits, and its key.
 fn told(rt: &impl Abort, alloc: Global, acceptance: &Acceptance) -> String {
     match acceptance {
         Acceptance::Accepted(operation) => {
@@ -40,12 +45,14 @@ fn told(rt: &impl Abort, alloc: Global, acceptance: &Acceptance) -> String {
                 verifier,
                 index,
                 put,
+                wide,
                 key,
                 value: _,
             } = operation;
             let kind = if *put { "put" } else { "get" };
+            let tree = if *wide { "wide " } else { "" };
             let (epoch, counter) = (stamp.epoch, stamp.counter);
-            format!(in alloc; "{epoch}.{counter} v{verifier} {index} {kind} {key}").expect(
+            format!(in alloc; "{epoch}.{counter} v{verifier} {index} {kind} {tree}{key}").expect(
                 rt, "memory",
             )
         }
@@ -85,9 +92,9 @@ fn what_is_tagged_is_issued_so(rt: HostRuntime) {
 }
 
 // The bytes with one bit changed.
-fn changed(rt: &impl Abort, alloc: Global, bytes: &[u8], bit: usize) -> Vec<u8> {
+fn changed(rt: &impl Abort, alloc: Global, bytes: &[u8], index: usize, bit: u8) -> Vec<u8> {
     let mut changed = Vec::from_slice(alloc, bytes).expect(rt, "memory");
-    if let Some(byte) = changed.get_mut(bit / 8) {
+    if let Some(byte) = changed.get_mut(index) {
         *byte ^= 1 << (bit % 8);
     }
     changed
@@ -106,39 +113,68 @@ fn is_accepted(digests: &ShaDigests, receipt: &[u8], certificate: &[u8]) -> bool
     }
 }
 
-#[test]
-fn no_bit_may_change(rt: HostRuntime) {
-    let alloc = rt.alloc();
-    let row = ANSWERS.trim().lines().next().expect(&rt, "no row");
-    let digests = ShaDigests::new(&bytes_of(&rt, alloc, row, 0));
-    let receipt = bytes_of(&rt, alloc, row, 1);
-    let certificate = bytes_of(&rt, alloc, row, 2);
+// The receipt and the certificate of a row are accepted, and neither is with one of its bits changed.
+fn assert_each_bit_counts(rt: &impl Abort, alloc: Global, row: &str) {
+    let digests = ShaDigests::new(&bytes_of(rt, alloc, row, 0));
+    let receipt = bytes_of(rt, alloc, row, 1);
+    let certificate = bytes_of(rt, alloc, row, 2);
     assert!(rt; is_accepted(&digests, &receipt, &certificate));
-    for bit in 0..8 * 64 {
-        assert!(rt;
-            !is_accepted(&digests, &changed(&rt, alloc, &receipt, bit), &certificate),
-            "{bit}"
-        );
+    for index in 0..receipt.len() {
+        for bit in 0..8 {
+            let changed = changed(rt, alloc, &receipt, index, bit);
+            assert!(rt;
+                !is_accepted(&digests, &changed, &certificate),
+                "{index} {bit}"
+            );
+        }
     }
-    for bit in 0..8 * 41 {
-        assert!(rt;
-            !is_accepted(&digests, &receipt, &changed(&rt, alloc, &certificate, bit)),
-            "{bit}"
-        );
+    for index in 0..certificate.len() {
+        for bit in 0..8 {
+            let changed = changed(rt, alloc, &certificate, index, bit);
+            assert!(rt; !is_accepted(&digests, &receipt, &changed), "{index} {bit}");
+        }
     }
     let other = ShaDigests::new(b"another key");
     assert!(rt; !is_accepted(&other, &receipt, &certificate));
 }
 
-#[test]
-fn only_whole_texts_are_read(rt: HostRuntime) {
-    let row = ANSWERS.trim().lines().next().expect(&rt, "no row");
-    let mut receipt = bytes_of(&rt, rt.alloc(), row, 1);
-    let mut certificate = bytes_of(&rt, rt.alloc(), row, 2);
+// Neither text of a row is one of the other, or with a byte more or fewer.
+fn assert_read_whole(rt: &impl Abort, alloc: Global, row: &str) {
+    let mut receipt = bytes_of(rt, alloc, row, 1);
+    let mut certificate = bytes_of(rt, alloc, row, 2);
     assert!(rt; read_receipt(&certificate).is_none());
     assert!(rt; read_certificate(&receipt).is_none());
-    receipt.push(0).expect(&rt, "memory");
-    certificate.push(0).expect(&rt, "memory");
+    receipt.push(0).expect(rt, "memory");
+    certificate.push(0).expect(rt, "memory");
     assert!(rt; read_receipt(&receipt).is_none());
     assert!(rt; read_certificate(&certificate).is_none());
+    for _ in 0..2 {
+        receipt.pop();
+        certificate.pop();
+    }
+    assert!(rt; read_receipt(&receipt).is_none());
+    assert!(rt; read_certificate(&certificate).is_none());
+}
+
+// Whether a row is one of those in which something is changed: of a key of 64 bits, and of one of 128.
+fn is_changed(rt: &impl Abort, row: &str) -> bool {
+    matches!(field(rt, row, 3), "0.3 v0 6 put 5" | "0.3 v0 6 put wide 5")
+}
+
+#[test]
+fn no_bit_may_change(rt: HostRuntime) {
+    for row in ANSWERS.trim().lines() {
+        if is_changed(&rt, row) {
+            assert_each_bit_counts(&rt, rt.alloc(), row);
+        }
+    }
+}
+
+#[test]
+fn only_whole_texts_are_read(rt: HostRuntime) {
+    for row in ANSWERS.trim().lines() {
+        if is_changed(&rt, row) {
+            assert_read_whole(&rt, rt.alloc(), row);
+        }
+    }
 }

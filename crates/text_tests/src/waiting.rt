@@ -6,15 +6,27 @@ use record_text::{Blob, Operation};
 use slice_queue::SliceQueue;
 use std::process::Abort;
 
-// A put of a value, or a get of none, in this epoch.
-fn operation(rt: &impl Abort, epoch: u32, index: u64, value: Option<&[u8]>) -> Operation {
+// A key of 64 bits, and one of 128, each with its tree.
+const NARROW: (bool, u128) = (false, 5);
+
+const WIDE: (bool, u128) = (true, u128::MAX - 5);
+
+// A put of a value, or a get of none, in this epoch, of a key of this tree.
+fn operation(
+    rt: &impl Abort,
+    epoch: u32,
+    index: u64,
+    key: (bool, u128),
+    value: Option<&[u8]>,
+) -> Operation {
     let stamp = Stamp { epoch, counter: 7 };
     let put = value.is_some();
     let value = match value {
         Some(bytes) => Blob::of_bytes(bytes).expect(rt, "a value that is too long"),
         None => Blob::none(),
     };
-    Operation::new(stamp, 3, index, put, 5, value)
+    let (wide, key) = key;
+    Operation::new(stamp, 3, index, put, wide, key, value)
 }
 
 // An operation joins those that wait.
@@ -37,11 +49,11 @@ fn assert_lent(rt: &impl Abort, label: &str, lent: Operations, wanted: &[Operati
 #[test]
 fn operations_come_back_as_they_were(rt: HostRuntime) {
     let early = [
-        operation(&rt, 0, 0, Some(&[9; 64])),
-        operation(&rt, 0, 1, None),
-        operation(&rt, 1, 2, Some(b"")),
+        operation(&rt, 0, 0, NARROW, Some(&[9; 255])),
+        operation(&rt, 0, 1, WIDE, None),
+        operation(&rt, 1, 2, NARROW, Some(b"")),
     ];
-    let late = [operation(&rt, 2, 3, Some(b"ab"))];
+    let late = [operation(&rt, 2, 3, WIDE, Some(b"ab"))];
     let mut queue = OperationQueue::new(rt.alloc());
     for operation in early.iter().chain(&late) {
         wait(&rt, &mut queue, operation);
