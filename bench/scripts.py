@@ -12,7 +12,7 @@ from bench.proved import built
 
 
 def main():
-    with built("script_speed", "base_words script_text") as program:
+    with built("script_speed", "base_words lamport_clocks script_text") as program:
         return subprocess.run([program]).returncode
 
 

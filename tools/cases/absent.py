@@ -21,7 +21,7 @@ def differ(program, count, seed):
     """How many scripts are told otherwise with the option than without."""
     chance, found = random.Random(seed), 0
     for number in range(count):
-        asked, script = random_run(chance, 1, hot=False, shared=False, version=1 + number % 2)
+        asked, script = random_run(chance, 1, hot=False, shared=False, version=1 + number % 3)
         with_option, without = served_by(program, [*asked, "--absent"], script), served_by(program, asked, script)
         if with_option[1:] != without[1:]:
             found += 1

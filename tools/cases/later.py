@@ -8,7 +8,7 @@ from tools.slow.bundles import magic_of
 from tools.slow.known import without
 
 LATER = [
-    *("FVB3", "--bits", "upgrade"),
+    "upgrade",
     *("FVB4", "--clients", "sign"),
     *("--seal", "resume"),
     "--rolling",

@@ -10,6 +10,7 @@ from tools.slow.words import options_of
 
 TAILS = [0, 1, 5, 2**53]  # of keys, behind their shard's frontier
 VALUES = [".", "00", "61", "6162", "ff" * 64]
+LONG_VALUES = ["ff" * 255, "00" * 65]  # from version 3 on
 WRONG_LINES = [
     b"",
     b" ",
@@ -64,15 +65,15 @@ def random_words(chance, workers, hot):
     return ["run"] + [word for pair in words for word in pair], shards
 
 
-def request_line(chance, worker, shards, own, bits):
+def request_line(chance, worker, shards, own, bits, values):
     """A request of a worker, for a key of one of its shards."""
     key = (chance.choice(own) << bits) // shards + chance.choice(TAILS + [(2**bits - 1) // shards])
     kind = chance.choice(["get", "get", "put", "put", "del"])
-    value = " " + chance.choice(VALUES) if kind == "put" else ""
+    value = " " + chance.choice(values) if kind == "put" else ""
     return f"{worker} {kind} {key}{value}".encode()
 
 
-def random_script(chance, workers, shards, shared, bits):
+def random_script(chance, workers, shards, shared, bits, values):
     """A script of a few phases. In each a shard is one worker's alone, unless the shards are shared."""
     lines = []
     for _ in range(chance.choice([1, 1, 2, 3, 5])):
@@ -80,7 +81,7 @@ def random_script(chance, workers, shards, shared, bits):
         for _ in range(chance.choice([0, 3, 12, 12 * workers])):
             worker = chance.randrange(workers)
             own = [shard for shard in range(shards) if shared or owner[shard] == worker]
-            lines += [request_line(chance, worker, shards, own, bits)] if own else []
+            lines += [request_line(chance, worker, shards, own, bits, values)] if own else []
         lines.append(b"epoch")
     return lines[:-1]
 
@@ -120,7 +121,8 @@ def random_run(chance, workers, hot, shared, version=1):
     words, shards = random_words(chance, workers, hot)
     more, bits, clients = version_words(chance, workers, version)
     words += more
-    lines = random_script(chance, workers, shards, shared, bits)
+    values = VALUES if version < 3 else VALUES + LONG_VALUES
+    lines = random_script(chance, workers, shards, shared, bits, values)
     if clients:
         lines = signed_lines(chance, lines, options_of(words), workers)
     if chance.random() < 0.15:

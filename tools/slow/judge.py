@@ -106,9 +106,9 @@ def judge_random(program, count, times, seed):
     chance, wrong, vaults = random.Random(seed), 0, 0
     for number in range(count):
         hot = number % 2 == 1 and "--hot" not in LATER
-        version = 2 if number % 4 > 1 and "--format" not in LATER else 1
+        version = 1 + number // 2 % 3
         asked, script = random_run(chance, chance.choice([2, 3, 8]), hot, shared=True, version=version)
-        asked += ["--absent"] if number % 3 == 1 and "--absent" not in LATER else []
+        asked += ["--absent"] if number % 5 == 1 and "--absent" not in LATER else []
         if fastver.fastver(asked, script)[0].status not in (0, 10):
             continue
         seen = set()

@@ -3,49 +3,48 @@ use Rattle.std.proofs.Common.{◌≡◌, ℕ, zero, suc, ◌+◌, ◌-◌, ◌�
 use Rattle.std.proofs.Math.Seq.{drop-append-add}
 use Rattle.std.proofs.lemmas.List.{length-take-le, take_all, drop-append-le, drop-drop}
 use Rattle.std.proofs.lemmas.Bool.{and_parts, and_left, or_cases, not-true, leb-true, lt-leb, ltb-true, cases_lt, cond_both, cond-false, false≢true}
-use Rattle.std.specs.List.{starts_with}
 use Rattle.std.specs.Option.{option_map}
-use Rattle.std.specs.Prelude.{nat_eq}
 use Rattle.lamport_clocks.specs.declared.header.Header.{Header}
 use Rattle.bundle_frames.specs.declared.found.Found.{Found}
 use Rattle.bundle_frames.specs.declared.found.Found.TheVariants.{Nothing, Head, Frame, Bad}
-use Rattle.bundle_frames.specs.Bundle.{Bundle, Frames, prefix, header_bytes, header_in, head_bytes, head_length, is_head, frame_in, frame_bytes, frames_behind, frames_up_to, frames_from, bundle_of, bundle_behind}
+use Rattle.bundle_frames.specs.Bundle.{Bundle, Frames, magic_bytes, version_in, header_bytes, header_bytes_in, header_numbers, header_in, head_bytes, head_length, is_head, frame_in, frame_bytes, frames_behind, frames_up_to, frames_from, bundle_of, bundle_behind}
 use Rattle.bundle_frames.specs.Bundle as bundle
 use Rattle.bundle_frames.specs.Progress.{Progress, meaning_at, rest_of, position, is_partial, is_bad, field_bytes}
 use Rattle.bundle_frames.specs.Finds.{FindsIn, FindsNothing, progress_after}
 use Rattle.bundle_frames.specs.Unfinished.{IsShort, IsUnfinished}
 use Rattle.bundle_frames.specs.Extent.{end_in, end_behind, IsDue}
-use Rattle.bundle_frames.proofs.FrontLaws.{head_length-front, is_head-front}
+use Rattle.bundle_frames.proofs.HeaderLemmas.{header_bytes-bounds, IsHeaderOf-from_header_in}
+use Rattle.bundle_frames.proofs.FrontLaws.{header_bytes_in-front, head_length-front, is_head-front}
 use Rattle.bundle_frames.proofs.BundleLaws.{frames_from-first}
 use Rattle.bundle_frames.proofs.PartLaws.{held-rest, length-held}
-use Rattle.bundle_frames.proofs.FindsLaws.{IsFrameOf-from_frame_in, rest-end, rest-found, rest-bad, is_partial-bad, is_bad-front, is_bad-after}
+use Rattle.bundle_frames.proofs.FindsLaws.{IsFrameOf-from_frame_in, rest-end, rest-found, rest-bad, is_partial-bad, field_bytes-front, is_bad-front, is_bad-after}
 
 -- ---- where it ends
 
 -- the fields that are bad are there
-fields-there : (header : Option Header) (bytes : List ℕ) → is_bad header bytes ≡ true → field_bytes header ≤ length bytes
+fields-there : (header : Option Header) (bytes : List ℕ) → is_bad header bytes ≡ true → field_bytes header bytes ≤ length bytes
 fields-there None bytes bad = leb-true _ _ (and_parts _ _ bad).0
 fields-there (Some header) bytes bad = leb-true _ _ (and_parts _ _ bad).0
 
-some-fields : (header : Option Header) → 0 < field_bytes header
-some-fields None = omega arith
-some-fields (Some header) = omega arith
+some-fields : (header : Option Header) (bytes : List ℕ) → 0 < field_bytes header bytes
+some-fields None bytes = let least = (header_bytes-bounds (version_in bytes)).0 in omega arith
+some-fields (Some header) bytes = omega arith
 
 -- no more is read than there is
 pub end_in-within : (header : Option Header) (bad : Option ℕ) (bytes : List ℕ) → end_in header bad bytes ≤ length bytes
 end_in-within header None bytes = omega arith
 end_in-within header (Some at) bytes =
-    cond_both (is_bad header (drop at bytes)) (at + field_bytes header) (length bytes) (λ end. end ≤ length bytes)
-    (λ is. let there = fields-there header (drop at bytes) is in let some = some-fields header in omega (arith, length-drop at bytes))
+    cond_both (is_bad header (drop at bytes)) (at + field_bytes header (drop at bytes)) (length bytes) (λ end. end ≤ length bytes)
+    (λ is. let there = fields-there header (drop at bytes) is in let some = some-fields header (drop at bytes) in omega (arith, length-drop at bytes))
     (λ is. omega arith)
 
 -- the end lies above a number, if the bytes' end does and the end of what is bad
 end_in-above : (header : Option Header) (first : ℕ) (bad : Option ℕ) (bytes : List ℕ) (n : ℕ) → n < first + length bytes
-    → ((at : ℕ) → bad ≡ Some at → is_bad header (drop (at - first) bytes) ≡ true → n < first + (at - first + field_bytes header))
+    → ((at : ℕ) → bad ≡ Some at → is_bad header (drop (at - first) bytes) ≡ true → n < first + (at - first + field_bytes header (drop (at - first) bytes)))
     → n < first + end_in header (option_map (λ at. at - first) bad) bytes
 end_in-above header first None bytes n below above = below
 end_in-above header first (Some at) bytes n below above =
-    cond_both (is_bad header (drop (at - first) bytes)) (at - first + field_bytes header) (length bytes) (λ end. n < first + end)
+    cond_both (is_bad header (drop (at - first) bytes)) (at - first + field_bytes header (drop (at - first) bytes)) (length bytes) (λ end. n < first + end)
     (λ is. above at refl is) (λ is. below)
 
 cond-moved : (b : Bool) (x y x' y' first next : ℕ) → first + x ≡ next + x' → first + y ≡ next + y' → first + cond b x y ≡ next + cond b x' y'
@@ -61,8 +60,9 @@ end_in-moved header first k (Some at) bytes within later =
     let size = length-drop k bytes in
     let more : k + (at - (first + k)) ≡ at - first = omega arith in
     let same : drop (at - (first + k)) (drop k bytes) ≡ drop (at - first) bytes = drop-drop (at - (first + k)) k bytes ∙ ap (λ n. drop n bytes) more in
-    cond-moved (is_bad header (drop (at - first) bytes)) (at - first + field_bytes header) (length bytes) (at - (first + k) + field_bytes header) (length (drop k bytes)) first (first + k) (omega arith) (omega arith)
-    ∙ ap (λ (front : List ℕ). first + k + cond (is_bad header front) (at - (first + k) + field_bytes header) (length (drop k bytes))) (sym same)
+    let fields = field_bytes header (drop (at - first) bytes) in
+    cond-moved (is_bad header (drop (at - first) bytes)) (at - first + fields) (length bytes) (at - (first + k) + fields) (length (drop k bytes)) first (first + k) (omega arith) (omega arith)
+    ∙ ap (λ (front : List ℕ). first + k + cond (is_bad header front) (at - (first + k) + field_bytes header front) (length (drop k bytes))) (sym same)
 
 -- ---- what is bad
 
@@ -128,7 +128,7 @@ end-kept None offset held body piece n (Head found) finds within start more =
     let rest = rest-found None offset held body piece more n (Head found) finds within in
     let zero_is = start refl in
     let size = finds.size in
-    moved-on (record { header = None; offset = offset; held = held; body = body }) (record { header = Some found; offset = header_bytes; held = []; body = [] }) found piece more n within refl refl
+    moved-on (record { header = None; offset = offset; held = held; body = body }) (record { header = Some found; offset = header_bytes found.version; held = []; body = [] }) found piece more n within refl refl
     (omega arith) (ap (λ (b : Bundle). b.header) rest) (ap (λ (b : Bundle). b.bad) rest)
 end-kept (Some header) offset held body piece n (Head found) finds within start more = absurd (let due = finds.due in cc)
 end-kept None offset held body piece n (Frame verifier) finds within start more = absurd finds
@@ -164,9 +164,12 @@ end-bad header offset held body piece n (Bad at') at finds within start is more 
     let none : offset - offset ≡ 0 = omega arith in
     let here : is_bad header (drop (offset - offset) (now ++ more)) ≡ true = ap (λ k. is_bad header (drop k (now ++ more))) none ∙ is_bad-front header now more bad in
     let size = length-held held piece n within in
-    let fields = finds.1.size in
+    let there = fields-there header now bad in
+    let fields : field_bytes header (drop (offset - offset) (now ++ more)) ≡ length held + n =
+    ap (λ k. field_bytes header (drop k (now ++ more))) none ∙ field_bytes-front header now more there
+    ∙ sym (finds.1.size ∙ ap (field_bytes header) (held-rest held piece n) ∙ field_bytes-front header now (drop n piece) there) in
     ap (λ (b : Bundle). offset + end_in b.header (option_map (λ at. at - offset) b.bad) (now ++ more)) rest
-    ∙ ap (λ (b : Bool). offset + cond b (offset - offset + field_bytes header) (length (now ++ more))) here
+    ∙ ap (λ (b : Bool). offset + cond b (offset - offset + field_bytes header (drop (offset - offset) (now ++ more))) (length (now ++ more))) here
     ∙ omega arith
 
 -- where no byte is left reading has ended
@@ -179,12 +182,22 @@ end-all p =
 
 -- ---- before the end
 
-header-due : (header : Option Header) (first : ℕ) (rest : List ℕ) (bytes : List ℕ) (n : ℕ) → first ≡ 0 → n < header_bytes → n < length bytes
-    → first + n < first + end_in (bundle_behind header rest).header (option_map (λ at. at - first) (bundle_behind header rest).bad) bytes
-header-due None first rest bytes n start short below = end_in-above None first (Some 0) bytes (first + n) (omega arith) (λ at is bad. omega arith)
-header-due (Some header) first rest bytes n start short below =
-    end_in-above (Some header) first (frames_from header.verifiers header_bytes rest).bad bytes (first + n) (omega arith)
-    (λ at is bad. let later = frames_up_to-bad (length rest) header.verifiers header_bytes rest at is in omega arith)
+-- bytes that are no whole header are none, whatever follows
+partial-front : (held left : List ℕ) → length held < header_bytes_in held → length held < header_bytes_in (held ++ left)
+partial-front held left short =
+    ⊎_elim (λ less. let least = (header_bytes-bounds (version_in (held ++ left))).0 in omega arith)
+    (λ there. let same = header_bytes_in-front held left there in omega arith) (cases_lt (length held) magic_bytes)
+
+header-due : (header : Option Header) (first : ℕ) (bytes : List ℕ) (n : ℕ) → header_in bytes ≡ header → first ≡ 0 → n < header_bytes_in bytes → n < length bytes
+    → first + n < first + end_in (bundle_behind header bytes).header (option_map (λ at. at - first) (bundle_behind header bytes).bad) bytes
+header-due None first bytes n is start short below =
+    end_in-above None first (Some 0) bytes (first + n) (omega arith)
+    (λ at same bad. let none : at - first ≡ 0 = cc in let here = ap (λ k. header_bytes_in (drop k bytes)) none in omega arith)
+header-due (Some header) first bytes n is start short below =
+    let size = (IsHeaderOf-from_header_in bytes header is).size in
+    let rest = drop (header_bytes header.version) bytes in
+    end_in-above (Some header) first (frames_from header.verifiers (header_bytes header.version) rest).bad bytes (first + n) (omega arith)
+    (λ at same bad. let later = frames_up_to-bad (length rest) header.verifiers (header_bytes header.version) rest at same in omega arith)
 
 -- a head that is not whole, or is good, with less than its body
 frame-part : (header : Header) (held : List ℕ) → is_partial (Some header) held ≡ true → head_bytes ≤ length held → (is_head header.verifiers held ≡ true) × (length held < head_bytes + head_length held)
@@ -230,7 +243,7 @@ due-parts : (header : Option Header) (offset : ℕ) (held body left : List ℕ) 
     → offset + length held < end_behind (record { header = header; offset = offset; held = held; body = body }) left
 due-parts None offset held body left partial start some =
     let size = length-append held left in
-    header-due (header_in (held ++ left)) offset (drop header_bytes (held ++ left)) (held ++ left) (length held) (start refl) (ltb-true _ _ partial) (omega arith)
+    header-due (header_in (held ++ left)) offset (held ++ left) (length held) refl (start refl) (partial-front held left (ltb-true _ _ partial)) (omega arith)
 due-parts (Some header) offset held body left partial start some =
     let bytes = held ++ left in
     let size = length-append held left in
@@ -278,10 +291,10 @@ some-same x y is = cc
 -- a part of a header or a frame is not whole
 unfinished-partial : (header : Option Header) (held : List ℕ) → is_partial header held ≡ true → IsUnfinished header held
 unfinished-partial None held partial =
-    let short : length held < header_bytes = ltb-true _ _ partial in
+    let short : length held < header_bytes_in held = ltb-true _ _ partial in
     record {
       short_header = λ _. omega arith;
-      no_header = λ _. cond-false _ _ _ (and_left (leb header_bytes (length held) && starts_with nat_eq held prefix) _ (and_left (leb header_bytes (length held)) _ (lt-leb _ _ short)));
+      no_header = λ _. cond-false _ _ _ (and_left (leb (header_bytes_in held) (length held)) _ (lt-leb _ _ short));
       short_frame = λ h is. absurd (cc);
     }
 unfinished-partial (Some header) held partial =

@@ -1,27 +1,22 @@
 -- What a splitter finds in a piece is what the grammar says of the bytes, whatever follows.
-use Rattle.std.proofs.Common.{◌≡◌, ℕ, ◌+◌, ◌≤◌, ◌<◌, cond, leb, ◌&&◌, not, Bool, true, false, List, [], ◌∷◌, ◌++◌, length, take, drop, Option, Some, None, sym, ap, subst, ◌∙◌, refl, arith, ⊎_elim, length-append, length-drop}
+use Rattle.std.proofs.Common.{◌≡◌, ℕ, ◌+◌, ◌≤◌, ◌<◌, leb, ◌&&◌, not, true, false, List, [], ◌∷◌, ◌++◌, length, take, drop, Option, Some, None, sym, ap, subst, ◌∙◌, refl, arith, inl, inr, eqb, ⊎_elim, length-append, length-drop}
 use Rattle.std.proofs.Math.Seq.{drop-append-add}
 use Rattle.std.proofs.lemmas.List.{append_assoc, append-nil, length-take-le, take-append-le, drop-append-le}
-use Rattle.std.proofs.lemmas.Bool.{and_parts, and_from, and_left, or_from, le-ltb, not-true, and_right, le-leb, lt-leb, cond-false, leb-true, cases_lt, cases_Bool, false≢true}
-use Rattle.std.specs.Prelude.{is_none, IsSomeAnd, nat_eq, if◌then◌else◌}
-use Rattle.std.specs.List.{starts_with}
+use Rattle.std.proofs.lemmas.Bool.{and_parts, and_from, and_left, or_from, or_cases, eqb-true, le-ltb, not-true, and_right, le-leb, lt-leb, cond-false, leb-true, cases_lt, cases_Bool, false≢true}
+use Rattle.std.specs.Prelude.{◌⊎◌, is_none, IsSomeAnd, if◌then◌else◌}
 use Rattle.lamport_clocks.specs.declared.header.Header.{Header}
-use Rattle.lamport_clocks.specs.Header.{IsHeader, is_in_range}
+use Rattle.lamport_clocks.specs.Header.{IsHeader}
 use Rattle.bundle_frames.specs.declared.found.Found.{Found}
 use Rattle.bundle_frames.specs.declared.found.Found.TheVariants.{Nothing, Head, Frame, Bad}
-use Rattle.bundle_frames.specs.Bundle.{Bundle, Frames, prefix, header_bytes, header_numbers, header_in, head_bytes, head_verifier, head_length, is_head, frame_in, frame_bytes, frames_behind, frames_from, bundle_of, bundle_behind, bundle_from}
+use Rattle.bundle_frames.specs.Bundle.{Bundle, Frames, version_in, header_bytes, header_bytes_in, header_in, head_bytes, head_verifier, head_length, is_head, frame_in, frame_bytes, frames_behind, frames_from, bundle_of, bundle_behind, bundle_from}
 use Rattle.bundle_frames.specs.Bundle as bundle
-use Rattle.bundle_frames.specs.Progress.{Progress, meaning_at, rest_of, position, is_partial, is_bad, is_boundary}
+use Rattle.bundle_frames.specs.Progress.{Progress, meaning_at, rest_of, position, is_partial, is_bad, field_bytes, is_boundary}
 use Rattle.bundle_frames.specs.Finds.{FindsHead, FindsFrame, FindsBad, FindsIn, progress_after, found_then}
 use Rattle.bundle_frames.specs.Unfinished.{IsShort, IsUnfinished}
-use Rattle.bundle_frames.proofs.FrontLaws.{header_in-front, head_verifier-front, head_length-front, is_head-front}
+use Rattle.bundle_frames.proofs.HeaderLemmas.{some_if, IsHeaderOf-from_header_in}
+use Rattle.bundle_frames.proofs.FrontLaws.{header_bytes_in-front, whole-magic, header_in-front, head_verifier-front, head_length-front, is_head-front}
 use Rattle.bundle_frames.proofs.BundleLaws.{frames_from-empty, frames_from-first}
-use Rattle.bundle_frames.proofs.PartLaws.{held-rest, length-held, header_in-held, is_head-held, IsHead, IsHead-from_test, frame_in-whole}
-
--- where a test gives a value, it passed
-pub some_if : {A : Type 0} (b : Bool) (x y : A) → cond b (Some x) None ≡ Some y → (b ≡ true) × (x ≡ y)
-some_if true x y is = (refl, cc)
-some_if false x y is = absurd (cc)
+use Rattle.bundle_frames.proofs.PartLaws.{held-rest, length-held, header_bytes_in-held, header-there, header_in-held, is_head-held, IsHead, IsHead-from_test, frame_in-whole}
 
 -- what a frame at the front of bytes says of them
 pub record IsFrameOf (verifiers : ℕ) (bytes : List ℕ) (frame : bundle.Frame) : Type 0 where
@@ -73,9 +68,8 @@ IsFrame-from_frame_in verifiers bytes frame is =
 -- a header that is read is in its ranges
 pub IsHeader-from_header_in : (bytes : List ℕ) (header : Header) → header_in bytes ≡ Some header → IsHeader header
 IsHeader-from_header_in bytes header is =
-    let found = some_if (leb header_bytes (length bytes) && starts_with nat_eq bytes prefix && is_in_range (header_numbers bytes)) _ _ is in
-    let good : is_in_range header ≡ true = ap is_in_range (sym found.1) ∙ (and_parts _ _ found.0).1 in
-    let end = and_parts _ _ good in
+    let bits = and_parts _ _ (IsHeaderOf-from_header_in bytes header is).good in
+    let end = and_parts _ _ bits.0 in
     let some_end = and_parts _ _ end.0 in
     let cache = and_parts _ _ some_end.0 in
     let some_cache = and_parts _ _ cache.0 in
@@ -91,13 +85,11 @@ IsHeader-from_header_in bytes header is =
       cache = leb-true _ _ cache.1;
       some_end = leb-true _ _ some_end.1;
       end = leb-true _ _ end.1;
+      bits =
+          ⊎_elim {C = (header.bits ≡ 64) ⊎ ((header.version ≡ 3) × (header.bits ≡ 128))} (λ short. inl (eqb-true _ _ short))
+          (λ long. let parts = and_parts _ _ long in inr (eqb-true _ _ parts.0, eqb-true _ _ parts.1))
+          (or_cases (eqb header.bits 64) (eqb header.version 3 && eqb header.bits 128) bits.1);
     }
-
--- a header is no shorter than a header
-pub header_in-long : (bytes : List ℕ) (header : Header) → header_in bytes ≡ Some header → header_bytes ≤ length bytes
-header_in-long bytes header is =
-    let found = some_if (leb header_bytes (length bytes) && starts_with nat_eq bytes prefix && is_in_range (header_numbers bytes)) _ _ is in
-    leb-true _ _ (and_parts _ _ (and_parts _ _ found.0).0).0
 
 none_from : {A : Type 0} (o : Option A) → is_none o ≡ true → o ≡ None
 none_from None is = refl
@@ -125,12 +117,12 @@ rest-taken held piece more n size is within =
     ap (λ k. drop k (held ++ (piece ++ more))) (sym is) ∙ drop-append-add held (piece ++ more) n ∙ drop-append-le n piece more within
 
 rest-head : (held piece more : List ℕ) (n : ℕ) (found : Header) → FindsHead None held piece n found → n ≤ length piece
-    → bundle_of (held ++ (piece ++ more)) ≡ bundle_from found header_bytes (drop n piece ++ more)
+    → bundle_of (held ++ (piece ++ more)) ≡ bundle_from found (header_bytes found.version) (drop n piece ++ more)
 rest-head held piece more n found finds within =
-    let long = header_in-long (held ++ piece) found finds.whole in
+    let long = (IsHeaderOf-from_header_in (held ++ piece) found finds.whole).there in
     let is = ap header_in (sym (append_assoc held piece more)) ∙ header_in-front (held ++ piece) more long ∙ finds.whole in
-    ap (λ o. bundle_behind o (drop header_bytes (held ++ (piece ++ more)))) is
-    ∙ ap (bundle_from found header_bytes) (rest-taken held piece more n header_bytes finds.size within)
+    ap (λ o. bundle_behind o (held ++ (piece ++ more))) is
+    ∙ ap (bundle_from found (header_bytes found.version)) (rest-taken held piece more n (header_bytes found.version) finds.size within)
 
 -- a frame that was found has at least one byte of body
 frame-long : (header : Header) (held piece : List ℕ) (n verifier : ℕ) → FindsFrame header held piece n verifier → n ≤ length piece → head_bytes < length (held ++ take n piece)
@@ -191,7 +183,9 @@ pub unfinished-bad : (header : Option Header) (held piece : List ℕ) (n : ℕ) 
 unfinished-bad None held piece n finds within =
     let size = length-held held piece n within in
     let taken = finds.size in
-    let long : header_bytes ≤ length (held ++ take n piece) = omega arith in
+    let long = header-there held piece n taken within in
+    let least = whole-magic (held ++ take n piece) long in
+    let size_is = header_bytes_in-held held piece n (omega arith) in
     record {
       short_header = λ _. omega arith;
       no_header = λ _. none_from _ (sym (ap is_none (header_in-held held piece n long)) ∙ (and_parts _ _ finds.bad).1);
@@ -243,11 +237,18 @@ pub is_bad-front : (header : Option Header) (xs ys : List ℕ) → is_bad header
 is_bad-front None xs ys bad =
     let parts = and_parts _ _ bad in
     let long = leb-true _ _ parts.0 in
+    let least = whole-magic xs long in
+    let size = header_bytes_in-front xs ys (omega arith) in
     and_from _ _ (le-leb _ _ (omega (arith, length-append xs ys))) (ap is_none (header_in-front xs ys long) ∙ parts.1)
 is_bad-front (Some header) xs ys bad =
     let parts = and_parts _ _ bad in
     let long = leb-true _ _ parts.0 in
     and_from _ _ (le-leb _ _ (omega (arith, length-append xs ys))) (ap not (is_head-front header.verifiers xs ys long) ∙ parts.1)
+
+-- the fields that are there are as many, whatever follows
+pub field_bytes-front : (header : Option Header) (xs ys : List ℕ) → field_bytes header xs ≤ length xs → field_bytes header (xs ++ ys) ≡ field_bytes header xs
+field_bytes-front None xs ys there = let least = whole-magic xs there in header_bytes_in-front xs ys (omega arith)
+field_bytes-front (Some header) xs ys there = refl
 
 -- where the fields that are held are bad, the answer is that again
 pub found-bad : (header : Option Header) (offset : ℕ) (held piece : List ℕ) (n : ℕ) (found : Found) → FindsIn header offset held piece n found → is_bad header held ≡ true
@@ -263,7 +264,9 @@ found-bad (Some header) offset held piece n (Frame verifier) finds bad =
     let tests = and_parts _ _ (is_bad-front (Some header) held piece bad) in
     absurd (false≢true (sym (not-true _ tests.1) ∙ facts.good))
 found-bad None offset held piece n (Bad at) finds bad =
-    let long : header_bytes ≤ length held = leb-true _ _ (and_parts _ _ bad).0 in
+    let long : header_bytes_in held ≤ length held = leb-true _ _ (and_parts _ _ bad).0 in
+    let least = whole-magic held long in
+    let same = header_bytes_in-front held piece (omega arith) in
     let size = finds.1.size in
     (omega arith, ap Bad finds.0)
 found-bad (Some header) offset held piece n (Bad at) finds bad =
@@ -274,9 +277,7 @@ found-bad (Some header) offset held piece n (Bad at) finds bad =
 -- what was found bad is bad in what is held now
 pub is_bad-after : (header : Option Header) (held piece : List ℕ) (n : ℕ) → FindsBad header held piece n → n ≤ length piece → is_bad header (held ++ take n piece) ≡ true
 is_bad-after None held piece n finds within =
-    let size = length-held held piece n within in
-    let taken = finds.size in
-    let long : header_bytes ≤ length (held ++ take n piece) = omega arith in
+    let long = header-there held piece n finds.size within in
     and_from _ _ (le-leb _ _ long) (sym (ap is_none (header_in-held held piece n long)) ∙ (and_parts _ _ finds.bad).1)
 is_bad-after (Some header) held piece n finds within =
     let size = length-held held piece n within in
@@ -307,7 +308,7 @@ pub rest-end : (header : Option Header) (offset : ℕ) (held : List ℕ) → IsU
     → meaning_at header offset (held ++ []) ≡ record { header = header; frames = []; bad = if is_boundary header held then None else Some offset }
 rest-end None offset held unfinished start =
     let none = ap header_in (append-nil held) ∙ unfinished.no_header refl in
-    ap (λ o. bundle_behind o (drop header_bytes (held ++ []))) none
+    ap (λ o. bundle_behind o (held ++ [])) none
     ∙ ap (λ at. let b : Bundle = record { header = None; frames = []; bad = Some at } in b) (sym (start refl))
 rest-end (Some header) offset [] unfinished start =
     let with : Frames → Bundle = λ frames. record { header = Some header; frames = frames.frames; bad = frames.bad } in
@@ -319,7 +320,7 @@ pub rest-bad : (header : Option Header) (offset : ℕ) (held more : List ℕ) �
     → meaning_at header offset (held ++ more) ≡ record { header = header; frames = []; bad = Some offset }
 rest-bad None offset held more bad start =
     let none = none_from _ (and_parts _ _ (is_bad-front None held more bad)).1 in
-    ap (λ o. bundle_behind o (drop header_bytes (held ++ more))) none
+    ap (λ o. bundle_behind o (held ++ more)) none
     ∙ ap (λ at. let b : Bundle = record { header = None; frames = []; bad = Some at } in b) (sym (start refl))
 rest-bad (Some header) offset held more bad start =
     let parts = and_parts _ _ (is_bad-front (Some header) held more bad) in

@@ -1,5 +1,6 @@
 -- What reading a bundle comes to, for callers too, and what this crate's proofs rest on.
 pub mod ReadingLaws
+mod HeaderLemmas
 mod FrontLaws
 mod BundleLaws
 mod PartLaws

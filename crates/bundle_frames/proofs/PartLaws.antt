@@ -5,10 +5,11 @@ use Rattle.std.proofs.lemmas.List.{take-append-drop, append_assoc, append-nil, l
 use Rattle.std.proofs.lemmas.Bool.{and_parts, and_from, or_right, le-leb, lt-ltb, cond-true, leb-true, ltb-true, cases_lt, false≢true, not_from_false}
 use Rattle.std.specs.Prelude.{is_none}
 use Rattle.lamport_clocks.specs.declared.header.Header.{Header}
-use Rattle.bundle_frames.specs.Bundle.{header_bytes, header_in, head_bytes, head_verifier, head_length, longest_body, is_head, frame_in, Frame}
+use Rattle.bundle_frames.specs.Bundle.{magic_bytes, version_in, header_bytes_in, header_in, head_bytes, head_verifier, head_length, longest_body, is_head, frame_in, Frame}
 use Rattle.bundle_frames.specs.Finds.{FindsNothing, FindsHead, FindsFrame, FindsBad}
 use Rattle.bundle_frames.specs.Unfinished.{IsShort}
-use Rattle.bundle_frames.proofs.FrontLaws.{header_in-front, head_verifier-front, head_length-front, is_head-front}
+use Rattle.bundle_frames.proofs.HeaderLemmas.{header_bytes-bounds, IsHeaderOf-from_header_in}
+use Rattle.bundle_frames.proofs.FrontLaws.{header_bytes_in-front, header_in-front, head_verifier-front, head_length-front, is_head-front}
 
 abbrev frame : ℕ → List ℕ → Frame
 frame v b = record { verifier = v; body = b }
@@ -27,7 +28,11 @@ pub held-twice : (held piece : List ℕ) (n m : ℕ) → (held ++ take n piece) 
 held-twice held piece n m =
     append_assoc held (take n piece) (take m (drop n piece)) ∙ ap (λ bytes. held ++ bytes) (sym (take-add n m piece))
 
-pub header_in-held : (held piece : List ℕ) (n : ℕ) → header_bytes ≤ length (held ++ take n piece) → header_in (held ++ piece) ≡ header_in (held ++ take n piece)
+pub header_bytes_in-held : (held piece : List ℕ) (n : ℕ) → magic_bytes ≤ length (held ++ take n piece) → header_bytes_in (held ++ piece) ≡ header_bytes_in (held ++ take n piece)
+header_bytes_in-held held piece n long =
+    ap header_bytes_in (held-rest held piece n) ∙ header_bytes_in-front (held ++ take n piece) (drop n piece) long
+
+pub header_in-held : (held piece : List ℕ) (n : ℕ) → header_bytes_in (held ++ take n piece) ≤ length (held ++ take n piece) → header_in (held ++ piece) ≡ header_in (held ++ take n piece)
 header_in-held held piece n long = ap header_in (held-rest held piece n) ∙ header_in-front (held ++ take n piece) (drop n piece) long
 
 pub is_head-held : (verifiers : ℕ) (held piece : List ℕ) (n : ℕ) → head_bytes ≤ length (held ++ take n piece) → is_head verifiers (held ++ piece) ≡ is_head verifiers (held ++ take n piece)
@@ -54,28 +59,60 @@ IsHead-from_test verifiers bytes good =
     let first = and_parts _ _ parts.0 in
     record { verifier = ltb-true _ _ first.0; some = leb-true _ _ first.1; bounded = leb-true _ _ parts.1 }
 
--- a header whose fields are bad
-pub finds_bad_header : (held piece : List ℕ) (n : ℕ) → length held ≤ header_bytes → n ≡ min (header_bytes - length held) (length piece)
-    → header_bytes ≤ length (held ++ take n piece) → header_in (held ++ take n piece) ≡ None → FindsBad None held piece n
-finds_bad_header held piece n short count long none =
+-- no more than the version is taken before it is known
+magic-bound : (held piece : List ℕ) (n : ℕ) → length held ≤ header_bytes_in held → n ≡ min (magic_bytes - length held) (length piece)
+    → magic_bytes ≤ length (held ++ take n piece) → length (held ++ take n piece) ≤ header_bytes_in (held ++ take n piece)
+magic-bound held piece n short count long =
     let size = length-held held piece n (omega arith) in
+    ⊎_elim (λ less. let least = (header_bytes-bounds (version_in (held ++ take n piece))).0 in omega arith)
+    (λ there. let same = header_bytes_in-front held (take n piece) there in omega arith) (cases_lt (length held) magic_bytes)
+
+-- the bytes of a header were all taken, and none behind them
+pub takes_header : (held piece : List ℕ) (n m : ℕ) → length held ≤ header_bytes_in held → n ≡ min (magic_bytes - length held) (length piece)
+    → magic_bytes ≤ length (held ++ take n piece)
+    → m ≡ min (header_bytes_in (held ++ take n piece) - length (held ++ take n piece)) (length (drop n piece))
+    → header_bytes_in (held ++ take n piece) ≤ length (held ++ take (n + m) piece)
+    → (length held + (n + m) ≡ header_bytes_in (held ++ piece)) × (n + m ≤ length piece)
+takes_header held piece n m short count long more enough =
+    let size = length-held held piece n (omega arith) in
+    let left = length-drop n piece in
+    let both = length-held held piece (n + m) (omega arith) in
+    let size_is = header_bytes_in-held held piece n long in
+    let bound = magic-bound held piece n short count long in
+    (omega arith, omega arith)
+
+-- what was taken is as many as its version has
+pub header-there : (held piece : List ℕ) (n : ℕ) → length held + n ≡ header_bytes_in (held ++ piece) → n ≤ length piece
+    → header_bytes_in (held ++ take n piece) ≤ length (held ++ take n piece)
+header-there held piece n taken within =
+    let size = length-held held piece n within in
+    let least = (header_bytes-bounds (version_in (held ++ piece))).0 in
+    let size_is = header_bytes_in-held held piece n (omega arith) in
+    omega arith
+
+-- a header whose fields are bad
+pub finds_bad_header : (held piece : List ℕ) (n : ℕ) → length held + n ≡ header_bytes_in (held ++ piece) → n ≤ length piece
+    → header_in (held ++ take n piece) ≡ None → FindsBad None held piece n
+finds_bad_header held piece n taken within none =
     let whole = length-append held piece in
+    let long = header-there held piece n taken within in
     record {
       bad = and_from _ _ (le-leb _ _ (omega arith)) (ap is_none (header_in-held held piece n long ∙ none));
-      size = omega arith;
+      size = taken;
     }
 
-pub finds_head : (held piece : List ℕ) (n : ℕ) (found : Header) → length held ≤ header_bytes → header_in held ≡ None → n ≡ min (header_bytes - length held) (length piece)
-    → header_bytes ≤ length (held ++ take n piece) → header_in (held ++ take n piece) ≡ Some found → FindsHead None held piece n found
-finds_head held piece zero found short not_yet count long is =
+pub finds_head : (held piece : List ℕ) (n : ℕ) (found : Header) → header_in held ≡ None → length held + n ≡ header_bytes_in (held ++ piece) → n ≤ length piece
+    → header_in (held ++ take n piece) ≡ Some found → FindsHead None held piece n found
+finds_head held piece zero found not_yet taken within is =
     let same = ap header_in (append-nil held) in
     absurd (cc)
-finds_head held piece (suc n) found short not_yet count long is =
-    let size = length-held held piece (suc n) (omega arith) in
+finds_head held piece (suc n) found not_yet taken within is =
+    let whole = header_in-held held piece (suc n) (header-there held piece (suc n) taken within) ∙ is in
+    let facts = IsHeaderOf-from_header_in (held ++ piece) found whole in
     record {
       due = refl;
-      whole = header_in-held held piece (suc n) long ∙ is;
-      size = omega arith;
+      whole = whole;
+      size = taken ∙ facts.size;
       some = omega arith;
     }
 

@@ -1,7 +1,7 @@
 -- What is read as a header or as a frame is spelled by its text.
-use Rattle.std.proofs.Common.{◌≡◌, ℕ, ◌+◌, ◌%◌, ◌<◌, ◌≤◌, leb, ◌&&◌, List, [], ◌∷◌, ◌++◌, length, get_or, take, drop, Some, sym, ap, subst, ◌∙◌, refl, arith, inl, inr, length-drop, length-take}
+use Rattle.std.proofs.Common.{◌≡◌, ℕ, ◌+◌, ◌-◌, ◌%◌, ◌<◌, ◌≤◌, cond, Bool, true, false, List, [], ◌∷◌, ◌++◌, length, get_or, take, drop, Some, sym, ap, subst, ◌∙◌, refl, arith, inl, inr, append-nil, length-drop, length-take}
 use Rattle.std.proofs.Math.Seq.{take-add}
-use Rattle.std.proofs.lemmas.Bool.{and_parts, cases_lt, leb-true}
+use Rattle.std.proofs.lemmas.Bool.{cases_lt}
 use Rattle.std.proofs.lemmas.List.{length-take-le, get_or-drop, get_or-take, get_or_past}
 use Rattle.std.proofs.lemmas.Nat.{be_bytes_2, be_bytes_4}
 use Rattle.std.proofs.lemmas.Slice.Eq.{bytes_eq-Decides}
@@ -9,9 +9,10 @@ use Rattle.std.specs.Prelude.{nat_eq, All}
 use Rattle.std.specs.Int.{w8, w16, w32, to_be_bytes, from_be_bytes}
 use Rattle.std.specs.List.{starts_with}
 use Rattle.lamport_clocks.specs.declared.header.Header.{Header}
-use Rattle.lamport_clocks.specs.Header.{is_in_range}
-use Rattle.bundle_frames.specs.Bundle.{Frame, prefix, digit_zero, header_bytes, header_text, header_numbers, header_in, head_bytes, head_length, frame_text, frame_in, frame_bytes}
-use Rattle.bundle_frames.proofs.FindsLaws.{some_if, IsHeader-from_header_in, IsFrameOf-from_frame_in}
+use Rattle.bundle_frames.specs.Bundle.{Frame, prefix, digit_zero, version_in, says_bits, header_bytes, header_bytes_in, header_text, header_numbers, header_in, head_bytes, head_length, frame_text, frame_in, frame_bytes}
+use Rattle.bundle_frames.proofs.HeaderLemmas.{IsHeaderOf-from_header_in}
+use Rattle.bundle_frames.proofs.FrontLaws.{whole-magic}
+use Rattle.bundle_frames.proofs.FindsLaws.{IsHeader-from_header_in, IsFrameOf-from_frame_in}
 
 abbrev AreBytes : List ℕ → Type 0
 AreBytes bytes = (i : ℕ) → get_or bytes i 0 < 256
@@ -54,33 +55,51 @@ one_byte (x ∷ []) is = refl
 one_byte (x ∷ y ∷ ys) is = absurd (omega arith)
 
 -- so is a version by its digit, where that is above `0`
-digit_spelled : (bytes : List ℕ) → AreBytes bytes → header_bytes ≤ length bytes → 1 ≤ (header_numbers bytes).version
-    → take 1 (drop 3 bytes) ≡ to_be_bytes w8 (digit_zero + (header_numbers bytes).version)
-digit_spelled bytes fits there some =
+digit_spelled : (bytes : List ℕ) → AreBytes bytes → 18 ≤ length bytes → starts_with nat_eq bytes prefix ≡ true → 1 ≤ version_in bytes
+    → take 1 (drop 3 bytes) ≡ to_be_bytes w8 (digit_zero + version_in bytes)
+digit_spelled bytes fits there begins some =
     let small = fits 3 in
+    let version = ap (λ (b : Bool). cond b (get_or bytes 3 0 - digit_zero) 0) begins in
     let digit : get_or (take 1 (drop 3 bytes)) 0 0 ≡ get_or bytes 3 0 = get_or-take 1 (drop 3 bytes) 0 0 (omega arith) ∙ get_or-drop 3 bytes 0 0 in
-    let is : get_or bytes 3 0 ≡ (digit_zero + (header_numbers bytes).version) % 256 = omega arith in
+    let is : get_or bytes 3 0 ≡ (digit_zero + version_in bytes) % 256 = omega arith in
     one_byte (take 1 (drop 3 bytes)) (length-run 3 1 bytes (omega arith)) ∙ ap (λ (x : ℕ). x ∷ []) (digit ∙ is)
 
-numbers_spelled : (bytes : List ℕ) → AreBytes bytes → header_bytes ≤ length bytes → take 3 bytes ≡ prefix → 1 ≤ (header_numbers bytes).version
-    → take header_bytes bytes ≡ header_text (header_numbers bytes)
-numbers_spelled bytes fits there is some =
-    joined bytes _ _ 14 4
+-- a version that there is has the prefix before it
+begins-some : (b : Bool) (n : ℕ) → 1 ≤ cond b n 0 → b ≡ true
+begins-some true n some = refl
+begins-some false n some = absurd (omega arith)
+
+-- what follows where the bits of a key do, and where they don't
+last_spelled : (b : Bool) (bytes front : List ℕ) → AreBytes bytes → cond b 19 18 ≤ length bytes → take 18 bytes ≡ front
+    → take (cond b 19 18) bytes ≡ front ++ cond b (to_be_bytes w8 (cond b (get_or bytes 18 0) 64)) []
+last_spelled true bytes front fits there is =
+    let small = fits 18 in
+    let last : get_or (take 1 (drop 18 bytes)) 0 0 ≡ get_or bytes 18 0 = get_or-take 1 (drop 18 bytes) 0 0 (omega arith) ∙ get_or-drop 18 bytes 0 0 in
+    let same : get_or bytes 18 0 ≡ get_or bytes 18 0 % 256 = omega arith in
+    joined bytes front _ 18 1 is (one_byte (take 1 (drop 18 bytes)) (length-run 18 1 bytes (omega arith)) ∙ ap (λ (x : ℕ). x ∷ []) (last ∙ same))
+last_spelled false bytes front fits there is = is ∙ sym (append-nil front)
+
+numbers_spelled : (bytes : List ℕ) → AreBytes bytes → header_bytes_in bytes ≤ length bytes → 1 ≤ version_in bytes
+    → take (header_bytes_in bytes) bytes ≡ header_text (header_numbers bytes)
+numbers_spelled bytes fits enough some =
+    let there = whole-magic bytes enough in
+    let begins = begins-some (starts_with nat_eq bytes prefix) _ some in
+    let is : take 3 bytes ≡ prefix = sym ((bytes_eq-Decides prefix (take 3 bytes)).0 begins) in
+    last_spelled (says_bits (version_in bytes)) bytes _ fits enough
+    (joined bytes _ _ 14 4
     (joined bytes _ _ 10 4
     (joined bytes _ _ 6 4
-    (joined bytes _ _ 4 2 (joined bytes _ _ 3 1 is (digit_spelled bytes fits there some)) (two_spelled 4 bytes fits (omega arith)))
+    (joined bytes _ _ 4 2 (joined bytes _ _ 3 1 is (digit_spelled bytes fits there begins some)) (two_spelled 4 bytes fits (omega arith)))
     (four_spelled 6 bytes fits (omega arith)))
     (four_spelled 10 bytes fits (omega arith)))
-    (four_spelled 14 bytes fits (omega arith))
+    (four_spelled 14 bytes fits (omega arith)))
 
-pub header_spelled : (bytes : List ℕ) (header : Header) → All (λ byte. byte < 256) bytes → header_in bytes ≡ Some header → take header_bytes bytes ≡ header_text header
+pub header_spelled : (bytes : List ℕ) (header : Header) → All (λ byte. byte < 256) bytes → header_in bytes ≡ Some header → take (header_bytes header.version) bytes ≡ header_text header
 header_spelled bytes header fits is =
-    let found = some_if (leb header_bytes (length bytes) && starts_with nat_eq bytes prefix && is_in_range (header_numbers bytes)) _ _ is in
-    let front = and_parts _ _ (and_parts _ _ found.0).0 in
-    let begins : take 3 bytes ≡ prefix = sym ((bytes_eq-Decides prefix (take 3 bytes)).0 front.1) in
-    let good = IsHeader-from_header_in bytes header is in
-    let some = subst (λ (h : Header). 1 ≤ h.version) (sym found.1) good.some_version in
-    numbers_spelled bytes (AreBytes-from_all bytes fits) (leb-true _ _ front.0) begins some ∙ ap header_text found.1
+    let facts = IsHeaderOf-from_header_in bytes header is in
+    let some = subst (λ (h : Header). 1 ≤ h.version) (sym facts.numbers) (IsHeader-from_header_in bytes header is).some_version in
+    ap (λ (size : ℕ). take size bytes) (sym facts.size)
+    ∙ numbers_spelled bytes (AreBytes-from_all bytes fits) facts.there some ∙ ap header_text facts.numbers
 
 pub frame_spelled : (verifiers : ℕ) (bytes : List ℕ) (frame : Frame) → All (λ byte. byte < 256) bytes → frame_in verifiers bytes ≡ Some frame
     → take (frame_bytes frame) bytes ≡ frame_text frame.verifier frame.body

@@ -1,20 +1,20 @@
 -- What is written is read back.
-use Rattle.std.proofs.Common.{◌≡◌, ℕ, ◌+◌, ◌-◌, ◌%◌, ◌^◌, ◌≤◌, ◌<◌, leb, ltb, ◌&&◌, true, List, [], ◌∷◌, ◌++◌, length, take, drop, Some, None, sym, ap, ◌∙◌, refl, arith, length-append}
+use Rattle.std.proofs.Common.{◌≡◌, ℕ, ◌+◌, ◌-◌, ◌%◌, ◌^◌, ◌≤◌, ◌<◌, leb, ltb, cond, ◌&&◌, Bool, true, false, List, [], ◌∷◌, ◌++◌, length, take, drop, Some, None, sym, ap, ◌∙◌, refl, arith, ⊎_elim, length-append}
 use Rattle.std.proofs.Math.Seq.{take-append_seam, drop-append_seam}
 use Rattle.std.proofs.lemmas.Nat.{from_be_bytes-to_be_bytes_2, from_be_bytes-to_be_bytes_4}
-use Rattle.std.proofs.lemmas.Bool.{cond-true, and_from, le-leb, lt-ltb}
-use Rattle.std.specs.Prelude.{nat_eq}
-use Rattle.std.specs.Int.{w16, w32, to_be_bytes, from_be_bytes}
-use Rattle.std.specs.List.{starts_with, flat_map, AllByRecursion}
+use Rattle.std.proofs.lemmas.Bool.{cond-true, and_from, or_left, or_right, le-leb, lt-ltb, eq-eqb, false≢true}
+use Rattle.std.specs.Int.{w8, w16, w32, to_be_bytes, from_be_bytes}
+use Rattle.std.specs.List.{slice_index, flat_map, AllByRecursion}
 use Rattle.lamport_clocks.specs.declared.header.Header.{Header}
 use Rattle.lamport_clocks.specs.Header.{IsHeader, is_in_range}
-use Rattle.bundle_frames.specs.Bundle.{prefix, digit_zero, header_bytes, header_text, header_numbers, header_in, head_verifier, head_length, longest_body, frame_text, frame_in, Frame, Frames, Bundle, IsFrame, frame_bytes, frames_behind, with_frame, frames_from, bundle_of, bundle_behind, bundle_text}
+use Rattle.bundle_frames.specs.Bundle.{digit_zero, says_bits, header_bytes, header_bytes_in, header_text, header_numbers, header_in, head_verifier, head_length, longest_body, frame_text, frame_in, Frame, Frames, Bundle, IsFrame, frame_bytes, frames_behind, with_frame, frames_from, bundle_of, bundle_behind, bundle_from, bundle_text}
+use Rattle.bundle_frames.proofs.HeaderLemmas.{length-header_text}
 use Rattle.bundle_frames.proofs.FrontLaws.{header_in-front}
 use Rattle.bundle_frames.proofs.BundleLaws.{frames_from-empty, frames_from-first}
 use Rattle.bundle_frames.proofs.PartLaws.{frame_in-whole, is_head-from}
 
-abbrev numbers : ℕ → ℕ → ℕ → ℕ → ℕ → Header
-numbers n v c f e = record { version = n; verifiers = v; cache = c; first = f; end = e }
+abbrev numbers : ℕ → ℕ → ℕ → ℕ → ℕ → ℕ → Header
+numbers n v c f e b = record { version = n; verifiers = v; cache = c; first = f; end = e; bits = b }
 
 -- a number of four bytes, written and read
 abbrev read : ℕ → ℕ
@@ -23,32 +23,54 @@ read n = from_be_bytes w32 (to_be_bytes w32 n)
 -- the test of the ranges passes in the ranges
 pub is_in_range-true : (header : Header) → IsHeader header → is_in_range header ≡ true
 is_in_range-true h ok =
-    and_from _ _ (and_from _ _ (and_from _ _ (and_from _ _ (and_from _ _ (and_from _ _ (and_from _ _ (le-leb _ _ ok.some_version) (le-leb _ _ ok.version))
+    and_from _ _ (and_from _ _ (and_from _ _ (and_from _ _ (and_from _ _ (and_from _ _ (and_from _ _ (and_from _ _ (le-leb _ _ ok.some_version) (le-leb _ _ ok.version))
     (le-leb _ _ ok.some_verifiers)) (le-leb _ _ ok.verifiers))
-    (le-leb _ _ ok.some_cache)) (le-leb _ _ ok.cache)) (le-leb _ _ ok.some_end)) (le-leb _ _ ok.end)
+    (le-leb _ _ ok.some_cache)) (le-leb _ _ ok.cache)) (le-leb _ _ ok.some_end)) (le-leb _ _ ok.end))
+    (⊎_elim (λ short. or_left _ _ (eq-eqb _ _ short)) (λ long. or_right _ _ (and_from _ _ (eq-eqb _ _ long.0) (eq-eqb _ _ long.1))) ok.bits)
+
+-- the bits of a key, which all but the last version leave out
+bits-read : (b : Bool) (bits : ℕ) → bits < 256 → (b ≡ false → bits ≡ 64) → cond b (slice_index (cond b (to_be_bytes w8 bits) []) 0) 64 ≡ bits
+bits-read true bits small other = omega arith
+bits-read false bits small other = sym (other refl)
+
+-- in other versions there are no more than 64
+bits-other : (header : Header) → IsHeader header → says_bits header.version ≡ false → header.bits ≡ 64
+bits-other header ok other =
+    ⊎_elim (λ short. short) (λ long. absurd (false≢true (sym other ∙ eq-eqb _ _ long.0))) ok.bits
+
+small-bits : (header : Header) → IsHeader header → header.bits < 256
+small-bits header ok = ⊎_elim (λ short. omega arith) (λ long. let is = long.1 in omega arith) ok.bits
+
+-- its text names the version
+version-text : (header : Header) → IsHeader header → (digit_zero + header.version) % 256 - digit_zero ≡ header.version
+version-text h ok = let bound = ok.version in omega arith
 
 header_numbers-text : (header : Header) → IsHeader header → header.first < 2 ^ 32 → header_numbers (header_text header) ≡ header
 header_numbers-text h ok first =
     let bound = ok.verifiers in
     let bound' = ok.cache in
     let bound'' = ok.end in
-    let bound''' = ok.version in
-    let n : (digit_zero + h.version) % 256 - digit_zero ≡ h.version = omega arith in
+    let n = version-text h ok in
     let v = from_be_bytes-to_be_bytes_2 h.verifiers (omega arith) in
     let c = from_be_bytes-to_be_bytes_4 h.cache (omega arith) in
     let f = from_be_bytes-to_be_bytes_4 h.first (omega arith) in
     let e = from_be_bytes-to_be_bytes_4 h.end (omega arith) in
-    ap (λ x. numbers x (from_be_bytes w16 (to_be_bytes w16 h.verifiers)) (read h.cache) (read h.first) (read h.end)) n
-    ∙ ap (λ x. numbers h.version x (read h.cache) (read h.first) (read h.end)) v
-    ∙ ap (λ x. numbers h.version h.verifiers x (read h.first) (read h.end)) c
-    ∙ ap (λ x. numbers h.version h.verifiers h.cache x (read h.end)) f ∙ ap (numbers h.version h.verifiers h.cache h.first) e
+    let b = bits-read (says_bits h.version) h.bits (small-bits h ok) (bits-other h ok) in
+    let last = slice_index (header_text h) 18 in
+    ap (λ x. numbers x (from_be_bytes w16 (to_be_bytes w16 h.verifiers)) (read h.cache) (read h.first) (read h.end) (cond (says_bits x) last 64)) n
+    ∙ ap (λ x. numbers h.version x (read h.cache) (read h.first) (read h.end) (cond (says_bits h.version) last 64)) v
+    ∙ ap (λ x. numbers h.version h.verifiers x (read h.first) (read h.end) (cond (says_bits h.version) last 64)) c
+    ∙ ap (λ x. numbers h.version h.verifiers h.cache x (read h.end) (cond (says_bits h.version) last 64)) f
+    ∙ ap (λ x. numbers h.version h.verifiers h.cache h.first x (cond (says_bits h.version) last 64)) e
+    ∙ ap (numbers h.version h.verifiers h.cache h.first h.end) b
 
 pub header_in-text : (header : Header) (more : List ℕ) → IsHeader header → header.first < 2 ^ 32 → header_in (header_text header ++ more) ≡ Some header
 header_in-text header more ok first =
     let text = header_text header in
     let numbers_are = header_numbers-text header ok first in
-    let tests = and_from (leb header_bytes (length text) && starts_with nat_eq text prefix) _ (and_from (leb header_bytes (length text)) _ refl refl) (ap is_in_range numbers_are ∙ is_in_range-true header ok) in
-    header_in-front text more (omega arith) ∙ cond-true _ _ _ tests ∙ ap Some numbers_are
+    let size : header_bytes_in text ≡ length text = ap header_bytes (version-text header ok) ∙ sym (length-header_text header) in
+    let tests = and_from (leb (header_bytes_in text) (length text)) _ (le-leb _ _ (omega (arith, size))) (ap is_in_range numbers_are ∙ is_in_range-true header ok) in
+    header_in-front text more (omega (arith, size)) ∙ cond-true _ _ _ tests ∙ ap Some numbers_are
 
 pub frame_in-text : (verifiers verifier : ℕ) (body more : List ℕ) → verifier < verifiers → verifier < 2 ^ 16 → 1 ≤ length body → length body ≤ longest_body
     → frame_in verifiers (frame_text verifier body ++ more) ≡ Some (record { verifier = verifier; body = body })
@@ -84,5 +106,9 @@ bundle_of-text header frames ok first good =
     let more = flat_map (λ (frame : Frame). frame_text frame.verifier frame.body) frames in
     let most = ok.verifiers in
     let with : Frames → Bundle = λ found. record { header = Some header; frames = found.frames; bad = found.bad } in
-    ap (λ o. bundle_behind o (drop header_bytes (bundle_text header frames))) (header_in-text header more ok first)
-    ∙ ap with (frames_from-text header.verifiers header_bytes frames (omega arith) good)
+    let size = header_bytes header.version in
+    let behind : drop size (bundle_text header frames) ≡ more =
+    ap (λ k. drop k (bundle_text header frames)) (sym (length-header_text header)) ∙ drop-append_seam (header_text header) more in
+    ap (λ o. bundle_behind o (bundle_text header frames)) (header_in-text header more ok first)
+    ∙ ap (bundle_from header size) behind
+    ∙ ap with (frames_from-text header.verifiers size frames (omega arith) good)

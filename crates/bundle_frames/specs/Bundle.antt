@@ -14,28 +14,50 @@ prefix = codes "FVB"
 abbrev pub digit_zero : ℕ
 digit_zero = 48
 
--- the bytes of a header
-abbrev pub header_bytes : ℕ
-header_bytes = 18
+-- the bytes that name the version
+abbrev pub magic_bytes : ℕ
+magic_bytes = 4
+
+-- the version that these name: 0, which is none, where the prefix isn't there
+abbrev pub version_in : List ℕ → ℕ
+version_in bytes = if starts_with nat_eq bytes prefix then slice_index bytes 3 - digit_zero else 0
+
+-- a header of this version says how many bits a key has
+abbrev pub says_bits : ℕ → Bool
+says_bits version = version == 3
+
+-- the bytes of a header of this version
+abbrev pub header_bytes : ℕ → ℕ
+header_bytes version = if says_bits version then 19 else 18
+
+-- How many bytes a header has that begins with these: its first four tell. Before they are there it counts as one of 18,
+-- and no header has fewer.
+abbrev pub header_bytes_in : List ℕ → ℕ
+header_bytes_in bytes = header_bytes (version_in bytes)
 
 -- the prefix, the version's digit, the number of verifiers, the cache, the first epoch and the counter's end
-abbrev pub header_text : Header → List ℕ
-header_text header = prefix ++ to_be_bytes w8 (digit_zero + header.version) ++ to_be_bytes w16 header.verifiers ++ to_be_bytes w32 header.cache ++ to_be_bytes w32 header.first ++ to_be_bytes w32 header.end
+abbrev pub fields_text : Header → List ℕ
+fields_text header = prefix ++ to_be_bytes w8 (digit_zero + header.version) ++ to_be_bytes w16 header.verifiers ++ to_be_bytes w32 header.cache ++ to_be_bytes w32 header.first ++ to_be_bytes w32 header.end
 
--- the numbers that 18 bytes spell
+-- these, and in version 3 the bits of a key
+abbrev pub header_text : Header → List ℕ
+header_text header = fields_text header ++ (if says_bits header.version then to_be_bytes w8 header.bits else [])
+
+-- the numbers that the bytes of a header spell; where they don't say how many bits a key has, it has 64
 abbrev pub header_numbers : List ℕ → Header
 header_numbers bytes = record {
-  version = slice_index bytes 3 - digit_zero;
+  version = version_in bytes;
   verifiers = from_be_bytes w16 (slice_range bytes 4 6);
   cache = from_be_bytes w32 (slice_range bytes 6 10);
   first = from_be_bytes w32 (slice_range bytes 10 14);
   end = from_be_bytes w32 (slice_range bytes 14 18);
+  bits = if says_bits (version_in bytes) then slice_index bytes 18 else 64;
 }
 
--- a header: all 18 bytes are there, the prefix first, and each number is in its range
+-- a header: all bytes of its version are there, and each number is in its range
 abbrev pub header_in : List ℕ → Option Header
 header_in bytes =
-    if nat_le header_bytes (length bytes) && starts_with nat_eq bytes prefix && is_in_range (header_numbers bytes)
+    if nat_le (header_bytes_in bytes) (length bytes) && is_in_range (header_numbers bytes)
     then Some (header_numbers bytes)
     else None
 
@@ -124,14 +146,14 @@ bundle_from header offset bytes =
     let rest = frames_from header.verifiers offset bytes in
     record { header = Some header; frames = rest.frames; bad = rest.bad }
 
--- the frames behind a header
+-- the bundle whose bytes begin with this header, if that is good
 abbrev pub bundle_behind : Option Header → List ℕ → Bundle
 bundle_behind None bytes = record { header = None; frames = []; bad = Some 0 }
-bundle_behind (Some header) bytes = bundle_from header header_bytes bytes
+bundle_behind (Some header) bytes = bundle_from header (header_bytes header.version) (drop (header_bytes header.version) bytes)
 
 -- What bytes mean as a bundle. Nothing is read behind what is bad.
 abbrev pub bundle_of : List ℕ → Bundle
-bundle_of bytes = bundle_behind (header_in bytes) (drop header_bytes bytes)
+bundle_of bytes = bundle_behind (header_in bytes) bytes
 
 -- a bundle with more frames in front
 abbrev pub with_frames : List Frame → Bundle → Bundle

@@ -8,7 +8,7 @@ use Rattle.bundle_frames.specs.Progress.{Progress, rest_of, is_partial, is_bad, 
 -- behind the fields at the offset of what is bad, where they are there and bad; else the number of bytes
 abbrev pub end_in : Option Header → Option ℕ → List ℕ → ℕ
 end_in header None bytes = length bytes
-end_in header (Some offset) bytes = if is_bad header (drop offset bytes) then offset + field_bytes header else length bytes
+end_in header (Some offset) bytes = if is_bad header (drop offset bytes) then offset + field_bytes header (drop offset bytes) else length bytes
 
 -- Where reading ends: behind the fields of the first header or frame head that are there and bad. Where none are it is
 -- the number of bytes, since a header or a frame that is cut is known only at their end.

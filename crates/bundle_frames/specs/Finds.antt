@@ -16,7 +16,7 @@ pub record FindsNothing (header : Option Header) (held piece : List ℕ) (taken 
 pub record FindsHead (header : Option Header) (held piece : List ℕ) (taken : ℕ) (found : Header) : Type 0 where
   pub due : header ≡ None
   pub whole : header_in (held ++ piece) ≡ Some found
-  pub size : length held + taken ≡ header_bytes
+  pub size : length held + taken ≡ header_bytes found.version
   pub some : 0 < taken
 
 -- a frame is whole
@@ -28,7 +28,7 @@ pub record FindsFrame (header : Header) (held piece : List ℕ) (taken verifier 
 -- the fields are all there and are bad; they were taken, and nothing behind them
 pub record FindsBad (header : Option Header) (held piece : List ℕ) (taken : ℕ) : Type 0 where
   pub bad : IsTrue (is_bad header (held ++ piece))
-  pub size : length held + taken ≡ field_bytes header
+  pub size : length held + taken ≡ field_bytes header (held ++ piece)
 
 -- what each answer says, where a header or a frame begins at an offset
 abbrev pub FindsIn : Option Header → ℕ → List ℕ → List ℕ → ℕ → Found → Type 0
@@ -44,7 +44,7 @@ Finds p piece fed = FindsIn p.header p.offset p.held piece fed.taken fed.found
 -- the progress after an answer, where these bytes were taken
 abbrev pub progress_after : Progress → List ℕ → Found → Progress
 progress_after p front Nothing = record p { held = p.held ++ front; body = [] }
-progress_after p front (Head header) = record { header = Some header; offset = header_bytes; held = []; body = [] }
+progress_after p front (Head header) = record { header = Some header; offset = header_bytes header.version; held = []; body = [] }
 progress_after p front (Frame verifier) =
     record p { offset = position p + length front; held = []; body = drop head_bytes (p.held ++ front) }
 progress_after p front (Bad at) = record p { held = p.held ++ front; body = [] }

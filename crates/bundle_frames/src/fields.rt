@@ -1,41 +1,76 @@
 //! The fields of a header and of a frame's head, read from their bytes.
 ghost use Rattle.std.specs.Prelude.{◌≡◌, ◌≤◌, ◌&&◌, nat_le, nat_lt, length};
 ghost use Rattle.std.specs.Int.{w16, w32, from_be_bytes};
-ghost use Rattle.bundle_frames.specs.Bundle.{header_bytes, header_in, header_numbers, head_bytes, head_verifier, head_length, longest_body};
+ghost use Rattle.bundle_frames.specs.Bundle.{magic_bytes, version_in, says_bits, header_bytes, header_bytes_in, header_in, header_numbers, head_bytes, head_verifier, head_length, longest_body};
 
 use lamport_clocks::Header;
 
-/// How many bytes a header has.
-pub const HEADER_BYTES: usize = 18;
+/// How many bytes name the version of a bundle.
+pub const MAGIC_BYTES: usize = 4;
+/// The most bytes of a header, with the bits of a key last.
+pub const LONGEST_HEADER: usize = 19;
 /// How many bytes a frame has before its body.
 pub const HEAD_BYTES: usize = 6;
 /// The most bytes of a frame's body.
 pub const LONGEST_BODY: usize = 65_536;
 
+// Whether a header of this version says how many bits a key has.
+fn says_bits(version: u8) -> bool
+    ensures value { result ≡ says_bits version }
+{
+    version == 3
+}
+
+// How many bytes a header of this version has.
+pub fn header_bytes(version: u8) -> usize
+    ensures value { result ≡ header_bytes version }
+{
+    if says_bits(version) {
+        LONGEST_HEADER
+    } else {
+        LONGEST_HEADER - 1
+    }
+}
+
+// The version that bytes begin with. Another prefix gives version 0, which is none, and so does a byte below
+// that of `0`.
+pub fn version_at(bytes: &[u8]) -> u8
+    requires magic { magic_bytes ≤ length bytes.now }
+    ensures value { result ≡ version_in bytes.now }
+{
+    if bytes.starts_with(b"FVB") {
+        bytes[3].saturating_sub(b'0')
+    } else {
+        0
+    }
+}
+
 // The header that bytes begin with.
 pub fn header_at(bytes: &[u8]) -> Option<Header>
-    requires whole { length bytes.now ≡ header_bytes }
+    requires whole { header_bytes_in bytes.now ≤ length bytes.now }
     ensures value { result ≡ header_in bytes.now }
 {
     let header = numbers_at(bytes);
-    if bytes.starts_with(b"FVB") && header.is_in_range() {
+    if header.is_in_range() {
         Some(header)
     } else {
         None
     }
 }
 
-// The numbers behind the prefix of a header. A byte below that of `0` gives version 0, which is none.
+// The numbers of a header.
 fn numbers_at(bytes: &[u8]) -> Header
-    requires whole { length bytes.now ≡ header_bytes }
+    requires whole { header_bytes_in bytes.now ≤ length bytes.now }
     ensures value { result ≡ header_numbers bytes.now }
 {
+    let version = version_at(bytes);
     Header {
-        version: bytes[3].saturating_sub(b'0'),
+        version,
         verifiers: number_of_two(&bytes[4..6]),
         cache: number_of_four(&bytes[6..10]),
         first: number_of_four(&bytes[10..14]),
         end: number_of_four(&bytes[14..18]),
+        bits: if says_bits(version) { bytes[18] } else { 64 },
     }
 }
 

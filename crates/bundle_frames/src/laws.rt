@@ -6,12 +6,13 @@ ghost use Rattle.lamport_clocks.specs.Header.{IsHeader};
 ghost use Rattle.bundle_frames.specs.Bundle.{Frame, header_bytes, header_text, header_in, frame_text, frame_in, frame_bytes, IsFrame, longest_body, bundle_of, bundle_text, frames_up_to, frames_from};
 
 /// A header in its ranges is read back from its text, whatever follows. What is read is spelled so, and in
-/// its ranges.
+/// its ranges. The text has as many bytes as its version says.
 pub fn headers_are_read_back()
     ensures read { (header : Header) (more : List ℕ) → IsHeader header → header.first < 2 ^ 32
         → header_in (header_text header ++ more) ≡ Some header }
     ensures spelled { (bytes : List ℕ) (header : Header) → All (λ byte. byte < 256) bytes
-        → header_in bytes ≡ Some header → take header_bytes bytes ≡ header_text header }
+        → header_in bytes ≡ Some header → take (header_bytes header.version) bytes ≡ header_text header }
+    ensures length { (header : Header) → length (header_text header) ≡ header_bytes header.version }
     ensures ranges { (bytes : List ℕ) (header : Header)
         → header_in bytes ≡ Some header → IsHeader header }
 {}

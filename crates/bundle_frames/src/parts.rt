@@ -4,7 +4,10 @@ ghost use Rattle.std.specs.Vec.{vec_capacity};
 ghost use Rattle.bundle_frames.specs.Finds.{FindsIn};
 ghost use Rattle.bundle_frames.specs.Unfinished.{IsUnfinished};
 
-use crate::fields::{HEAD_BYTES, HEADER_BYTES, LONGEST_BODY, head_at, header_at, is_head_in_range};
+use crate::fields::{
+    HEAD_BYTES, LONGEST_BODY, MAGIC_BYTES, head_at, header_at, header_bytes, is_head_in_range,
+    version_at,
+};
 use crate::found::{Fed, Found};
 use lamport_clocks::Header;
 
@@ -43,7 +46,7 @@ fn fill(buffer: &mut Vec<u8>, size: usize, piece: &[u8]) -> usize
     }
 }
 
-// Reads on in a header.
+// Reads on in a header. Its first bytes tell how many it has.
 fn read_header(buffer: &mut Vec<u8>, offset: u64, piece: &[u8]) -> Fed
     requires room { MOST_BYTES ≤ vec_capacity buffer.old }
     requires unfinished { IsUnfinished None buffer.old.items }
@@ -52,8 +55,16 @@ fn read_header(buffer: &mut Vec<u8>, offset: u64, piece: &[u8]) -> Fed
     ensures bytes { buffer.new.items ≡ buffer.old.items ++ take result.taken piece.now }
     ensures capacity { MOST_BYTES ≤ vec_capacity buffer.new }
 {
-    let taken = fill(buffer, HEADER_BYTES, piece);
-    if buffer.len() < HEADER_BYTES {
+    let magic = fill(buffer, MAGIC_BYTES, piece);
+    if buffer.len() < MAGIC_BYTES {
+        return Fed {
+            taken: magic,
+            found: Found::Nothing,
+        };
+    }
+    let size = header_bytes(version_at(buffer));
+    let taken = magic + fill(buffer, size, &piece[magic..]);
+    if buffer.len() < size {
         return Fed {
             taken,
             found: Found::Nothing,

@@ -2,7 +2,7 @@
 ghost use Rattle.std.specs.Prelude.{◌≡◌, ℕ, ◌+◌, ◌^◌, ◌<◌, ◌≤◌, false, List, [], ◌++◌, length, take, drop, IfOk, if◌then◌else◌, IsTrue, IsSomeAnd};
 ghost use Rattle.std.specs.Vec.{vec_capacity};
 
-use crate::fields::{HEAD_BYTES, HEADER_BYTES};
+use crate::fields::{HEAD_BYTES, header_bytes};
 use crate::found::{Fed, Found};
 use crate::frame_buffer::FrameBuffer;
 use crate::parts::{MOST_BYTES, read_on};
@@ -108,7 +108,7 @@ impl Splitter {
             Found::Head(header) => {
                 self.buffer.clear();
                 self.header = Some(header);
-                self.offset = HEADER_BYTES as u64;
+                self.offset = header_bytes(header.version) as u64;
             }
             Found::Frame(_) => {
                 self.is_whole = true;

@@ -1,15 +1,15 @@
 //! Writes the header and the frames of a bundle.
 ghost use Rattle.std.specs.Prelude.{◌≡◌, ◌≤◌, ◌++◌, length, OnOk, OnErr};
-ghost use Rattle.std.specs.Int.{w16, w32, to_be_bytes};
+ghost use Rattle.std.specs.Int.{w8, w16, w32, to_be_bytes};
 ghost use Rattle.fv_outside.specs.Faults.{Counts};
 ghost use Rattle.fv_outside.specs.Written.{Grows, GrowsByFront};
-ghost use Rattle.bundle_frames.specs.Bundle.{header_text, frame_text, longest_body};
+ghost use Rattle.bundle_frames.specs.Bundle.{fields_text, header_text, frame_text, longest_body};
 
-use crate::fields::{HEAD_BYTES, HEADER_BYTES};
+use crate::fields::{HEAD_BYTES, LONGEST_HEADER, header_bytes};
 use fv_outside::{Failed, Sink, write_all};
 use lamport_clocks::Header;
 
-/// Writes a bundle's header, of 18 bytes. On `Failed` the sink holds a front of it more.
+/// Writes a bundle's header, of 18 bytes, or in version 3 of 19. On `Failed` the sink holds a front of it more.
 pub fn write_header<O: Sink>(h: &Header, sink: &mut O) -> Result<(), Failed>
     ensures whole { OnOk result (Grows (O.held sink.old) (O.held sink.new) (header_text h.now)) }
     ensures front { OnErr result
@@ -17,7 +17,7 @@ pub fn write_header<O: Sink>(h: &Header, sink: &mut O) -> Result<(), Failed>
     ensures name { O.name sink.new ≡ O.name sink.old }
     ensures counts { Counts (O.faults sink.old) (O.faults sink.new) result }
 {
-    write_all(sink, &spell_header(h))
+    write_all(sink, &spell_header(h)[..header_bytes(h.version)])
 }
 
 /// Writes a frame: the verifier, the number of bytes of `body`, and those 1 to 65,536 bytes. On
@@ -36,14 +36,15 @@ pub fn write_frame<O: Sink>(verifier: u16, body: &[u8], sink: &mut O) -> Result<
     write_all(sink, body)
 }
 
-// The bytes of a header.
-fn spell_header(h: &Header) -> [u8; HEADER_BYTES]
-    ensures text { result ≡ header_text h.now }
+// The bytes of a header, with the bits of a key at their end, also where its version leaves them out.
+fn spell_header(h: &Header) -> [u8; LONGEST_HEADER]
+    ensures text { result ≡ fields_text h.now ++ to_be_bytes w8 h.now.bits }
 {
     let verifiers = h.verifiers.to_be_bytes();
     let cache = h.cache.to_be_bytes();
     let first = h.first.to_be_bytes();
     let end = h.end.to_be_bytes();
+    let bits = h.bits.to_be_bytes();
     [
         b'F',
         b'V',
@@ -63,6 +64,7 @@ fn spell_header(h: &Header) -> [u8; HEADER_BYTES]
         end[1],
         end[2],
         end[3],
+        bits[0],
     ]
 }
 

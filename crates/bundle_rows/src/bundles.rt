@@ -15,8 +15,8 @@ use std::alloc::Global;
 // The most bytes of all frames.
 const MOST_BYTES: usize = 1 << 20;
 
-// How many bytes a header has.
-const HEADER_BYTES: usize = 18;
+// The most bytes of a header.
+const HEADER_BYTES: usize = 19;
 
 // The most bytes of a frame's body.
 const LONGEST_BODY: usize = 65_536;
@@ -74,7 +74,7 @@ impl Draft {
     fn take_row<'a>(&mut self, alloc: Global, row: &'a str) -> Result<(), RowFault<'a>> {
         let (form, rest) = row.split_once(' ').unwrap_or((row, ""));
         match form {
-            "version" | "verifiers" | "cache" | "first" | "end" => {
+            "version" | "verifiers" | "cache" | "first" | "end" | "bits" => {
                 self.header = header_of(self.header, row).ok_or(RowFault::BadRow(row))?;
                 Ok(())
             }
@@ -144,7 +144,7 @@ fn push_log_row<'a>(alloc: Global, log: &mut Vec<u8>, row: &'a str) -> Result<()
 fn header_of(header: Header, row: &str) -> Option<Header> {
     let mut header = header;
     let mut words = row.split_whitespace();
-    for _ in 0..5 {
+    for _ in 0..6 {
         let Some(name) = words.next() else {
             return Some(header);
         };
@@ -155,6 +155,7 @@ fn header_of(header: Header, row: &str) -> Option<Header> {
             "cache" => header.cache = number.parse().ok()?,
             "first" => header.first = number.parse().ok()?,
             "end" => header.end = number.parse().ok()?,
+            "bits" => header.bits = number.parse().ok()?,
             _ => return None,
         }
     }

@@ -6,21 +6,39 @@ use tree_keys::{Path, key_bits};
 // How many bytes a digest has.
 const DIGEST_BYTES: usize = 32;
 
-/// The path of a word: `root`, a key as in `5`, bits as in `/01`, or a key's first bits as in `5/60`.
+/// The path of a word: `root`, a key as in `5`, bits as in `/01`, or a key's first bits as in `5/60`. Behind a `w` it
+/// is one of the tree whose keys have 128 bits.
 pub(crate) fn path_of(word: &str) -> Option<Path> {
-    if word == "root" {
-        return Some(Path::root());
-    }
-    match word.split_once('/') {
-        None => Some(Path::of_key(word.parse().ok()?)),
-        Some((key, bits)) if key.is_empty() => path_of_bits(bits),
-        Some((key, len)) => front_of_key(key.parse().ok()?, len.parse().ok()?),
+    match word.strip_prefix('w') {
+        None => path_in(false, word),
+        Some(word) => path_in(true, word),
     }
 }
 
+// The path of a word in a tree.
+fn path_in(wide: bool, word: &str) -> Option<Path> {
+    if word == "root" {
+        return Some(Path::root_of(wide));
+    }
+    match word.split_once('/') {
+        None => Some(Path::of_number(wide, key_of(wide, word)?)),
+        Some((key, bits)) if key.is_empty() => path_of_bits(wide, bits),
+        Some((key, len)) => front_of_key(wide, key_of(wide, key)?, len.parse().ok()?),
+    }
+}
+
+// The number of a key of a tree.
+fn key_of(wide: bool, word: &str) -> Option<u128> {
+    if wide {
+        return word.parse().ok();
+    }
+    let key: u64 = word.parse().ok()?;
+    Some(key.into())
+}
+
 // The path of these bits.
-fn path_of_bits(bits: &str) -> Option<Path> {
-    let mut path = Path::root();
+fn path_of_bits(wide: bool, bits: &str) -> Option<Path> {
+    let mut path = Path::root_of(wide);
     for bit in bits.bytes() {
         if path.is_data() {
             return None;
@@ -35,11 +53,11 @@ fn path_of_bits(bits: &str) -> Option<Path> {
 }
 
 // So many of the first bits of a key.
-fn front_of_key(key: u64, len: u8) -> Option<Path> {
-    if len > key_bits(false) {
+fn front_of_key(wide: bool, key: u128, len: u8) -> Option<Path> {
+    if len > key_bits(wide) {
         return None;
     }
-    Some(Path::of_key(key).front(len))
+    Some(Path::of_number(wide, key).front(len))
 }
 
 /// The value of a word, at this path.

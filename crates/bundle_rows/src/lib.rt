@@ -8,7 +8,7 @@
 //!
 //! | Row | Meaning |
 //! |---|---|
-//! | `version 1 verifiers 2 cache 8 first 7 end 9` | the header's numbers, in any order; 1, 1, 4, 0 and 16777215 where they are left out |
+//! | `version 1 verifiers 2 cache 8 first 7 end 9 bits 64` | the header's numbers, in any order; 1, 1, 4, 0, 16777215 and 64 where they are left out |
 //! | `log 1` | the rows behind it are of verifier 1's log, in a frame of their own; at the start it is verifier 0's |
 //! | `frames 3` | the logs behind it are cut in frames of 3 bytes; at the start of 65,536 |
 //! | `addM 5 6162 root`, `evictM 5 root` | an add and an evict by the tree: path, value, parent |
@@ -16,15 +16,16 @@
 //! | `evictBM 5 root 0.1` | a deferred evict: path, parent, stamp |
 //! | `get 5 6162`, `put 5 none`, `next` | a get, a put, the step to the next epoch |
 //! | `absent 5 root` | a key without a record, and its parent |
-//! | `addM s1 5 6162 s0`, `evictM s1 s0`, .. | the same by slots, which a log of version 2 names: that of a path is before it, that of a parent in the place of its path |
+//! | `addM s1 5 6162 s0`, `evictM s1 s0`, .. | the same by slots, which a log of version 2 or 3 names: that of a path is before it, that of a parent in the place of its path |
 //! | `get s1 6162`, `put s1 none` | the same of a slot in the place of a path |
 //! | `bytes 09` | these bytes in the log |
 //! | `raw 00ff` | these bytes of the bundle, behind the frames so far |
 //!
-//! A path is `root`, a key as a decimal number, bits as in `/01`, or a key's first bits: `5/60` is 60 of them. A
-//! value is `initial` (what its path starts with), `none`, `.` (no bytes), hexadecimal digits, `empty` (a node with
-//! nothing below it), or a node's two sides with a comma between: `-` where nothing is below, `5:c6` a pointer to 5
-//! with a digest that ends with the byte c6 and has zeros before it, `5?c6` the same, deferred.
+//! A path is `root`, a key as a decimal number, bits as in `/01`, or a key's first bits: `5/60` is 60 of them. Behind a
+//! `w`, as in `w5`, it is one of the tree whose keys have 128 bits. A value is `initial` (what its path starts with),
+//! `none`, `.` (no bytes), hexadecimal digits, `empty` (a node with nothing below it), or a node's two sides with a
+//! comma between: `-` where nothing is below, `5:c6` a pointer to 5 with a digest that ends with the byte c6 and has
+//! zeros before it, `5?c6` the same, deferred.
 //!
 //! Begin with `bundles.rt`; `commands.rt` and `slot_commands.rt` read a command's row, `fields.rt` its fields.
 #![tactic(auto)]

@@ -1,6 +1,7 @@
 -- What the clauses on a check cite, in reading order.
 pub mod Batch
 pub mod Feeding
+pub mod InRange
 pub mod Intake
 pub mod Outcomes
 pub mod Asked

@@ -3,6 +3,7 @@ ghost use Rattle.std.specs.Prelude.{◌≡◌, vec_len};
 ghost use Rattle.std.specs.Option.{ForSome};
 ghost use Rattle.lamport_clocks.specs.Header.{IsHeader};
 ghost use Rattle.bundle_report.specs.Logs.{log_count};
+ghost use Rattle.check_core.specs.InRange.{header_props};
 
 use lamport_clocks::Header;
 
@@ -15,6 +16,6 @@ pub struct Intake {
     pub logs: Vec<Vec<u8>>,
     /// The offset of the header or frame that is bad or cut, if one is.
     pub bad: Option<u64>,
-    ghost in_range: { ForSome header IsHeader },
+    ghost in_range: { ForSome header IsHeader } by { Prim.hlevel header_props },
     ghost count: { vec_len logs ≡ log_count header },
 }

@@ -16,7 +16,7 @@ use Rattle.host_world.specs.declared.settings.Settings.{Settings}
 use Rattle.verifier_threads.specs.declared.ending.RunEnd.{RunEnd}
 use Rattle.verifier_threads.specs.InRounds.{Logs}
 use Rattle.verifier_threads.specs.Serving.{AreOfRun, end_by, status_at}
-use Rattle.fastver_top.specs.Running.{Keeping, IsRunStatus, RunsTo, settings_for}
+use Rattle.fastver_top.specs.Running.{Keeping, IsRunStatus, RunsTo, header_for, settings_for}
 use Rattle.fastver_top.specs.Generating.{GensTo, IsGenStatus, script_for}
 use Rattle.fastver_top.specs.Accepting.{AnswersWhole, IsAnswered, IsAcceptStatus}
 use Rattle.fastver_top.specs.Auditing.{IsAuditStatus}
@@ -124,12 +124,12 @@ one-script read script own is also = cc
 
 module _ (functions : DigestFunctions) (run : RunWords) (most : ℕ) (bytes : List ℕ) (script : List (List Task)) (reading : Reading) (writing : Writing)
     (keeping : Keeping) (fine : NoneFailed reading writing keeping) (had : Had most bytes reading)
-    (good : script_of run.numbers.verifiers bytes ≡ Ok script) (going : NoClockEnds functions (settings_for run.numbers) script) where
+    (good : script_of (header_for run.numbers) bytes ≡ Ok script) (going : NoClockEnds functions (settings_for run.numbers) script) where
   run-done : (result : Status) → RunsTo functions run most result reading writing keeping → IsEnd result → IsOrWantsMemory result (statuses.Done (length script))
   run-done result runs end =
       let served = runs.served end in
-      let own : served.script ≡ script = one-script (script_of run.numbers.verifiers bytes) script served.script good
-      (of_bytes (λ b. script_of run.numbers.verifiers b ≡ Ok served.script) reading.left bytes had.bytes_are served.read.good) in
+      let own : served.script ≡ script = one-script (script_of (header_for run.numbers) bytes) script served.script good
+      (of_bytes (λ b. script_of (header_for run.numbers) b ≡ Ok served.script) reading.left bytes had.bytes_are served.read.good) in
       let own_going : NoClockEnds functions (settings_for run.numbers) served.script =
       subst (NoClockEnds functions (settings_for run.numbers)) (sym own) going in
       inl (served.is ∙ done-by functions (settings_for run.numbers) served.script served.served.rounds served.served.logs served.served.end served.end own_going
@@ -144,7 +144,7 @@ module _ (functions : DigestFunctions) (run : RunWords) (most : ℕ) (bytes : Li
   run-answered statuses.WriteFault can runs = absurd (fine.sink (runs.write_fault refl))
   run-answered statuses.VaultFault can runs = absurd (fine.vault (runs.vault_fault refl))
   run-answered (statuses.BadScript line cause) can runs =
-      let bad = of_bytes (λ b. script_of run.numbers.verifiers b ≡ Err (record { line = line; cause = cause })) reading.left bytes had.bytes_are
+      let bad = of_bytes (λ b. script_of (header_for run.numbers) b ≡ Err (record { line = line; cause = cause })) reading.left bytes had.bytes_are
       (runs.bad line cause refl).bad in
       absurd (cc)
   run-answered (statuses.BadBundle offset) can runs = absurd can

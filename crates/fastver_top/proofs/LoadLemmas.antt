@@ -1,12 +1,16 @@
 -- A load asks what a line of a script can ask, and what serving it does, by how it ends.
-use Rattle.std.proofs.Common.{◌≡◌, ◌⊎◌, ℕ, zero, suc, ◌+◌, ◌*◌, ◌^◌, ◌/◌, ◌%◌, ◌<◌, ◌≤◌, Bool, true, false, nat_lt, List, [], ◌∷◌, ◌++◌, length, get_or, Some, None, Ok, Err, inl, inr, refl, sym, subst, arith, if◌then◌else◌}
+use Rattle.std.proofs.Common.{◌≡◌, ◌⊎◌, ℕ, zero, suc, ◌+◌, ◌*◌, ◌^◌, ◌/◌, ◌%◌, ◌<◌, ◌≤◌, Bool, true, false, nat_lt, List, [], ◌∷◌, ◌++◌, length, get_or, Option, Some, None, Ok, Err, inl, inr, refl, sym, subst, arith, if◌then◌else◌}
 use Rattle.std.specs.Int.{w64, bytes_high_first, byte_at, to_be_bytes}
 use Rattle.std.specs.List.{AllByRecursion, onto_first}
 use Rattle.std.specs.Option.{ForSome}
 use Rattle.std.proofs.lemmas.Bool.{false≢true}
 use Rattle.std.proofs.lemmas.Nat.{mod_below}
 use Rattle.fv_outside.specs.Faults.{Rose}
+use Rattle.tree_keys.specs.Path.{key_bits}
+use Rattle.lamport_clocks.specs.declared.header.Header.{Header}
 use Rattle.record_hash.specs.Functions.{DigestFunctions}
+use Rattle.record_text.specs.Longest.{longest_blob, longest_of}
+use Rattle.record_text.specs.Tree.{wide_of}
 use Rattle.record_text.specs.declared.request.Request.{Request}
 use Rattle.record_text.proofs.FieldLaws.{AreBytes}
 use Rattle.program_words.specs.declared.load_words.GenWords.{GenWords}
@@ -25,7 +29,7 @@ use Rattle.fv_outside.specs.declared.failure.Failure.TheVariants as failures
 use Rattle.verifier_threads.specs.declared.ending.RunEnd.{RunEnd}
 use Rattle.verifier_threads.specs.declared.ending.RunEnd.TheVariants as ends
 use Rattle.verifier_threads.specs.Serving.{Outputs, IsCutOff, IsCutAtEnd, ServesTo, status_at}
-use Rattle.fastver_top.specs.Running.{settings_for, Keeping, outputs_of, IsNamedFor, IsUntouched}
+use Rattle.fastver_top.specs.Running.{header_for, settings_for, Keeping, outputs_of, IsNamedFor, IsUntouched}
 use Rattle.fastver_top.specs.Generating.{shape_for, script_for, account_for, GensTo}
 
 -- ---- what a load asks
@@ -41,10 +45,10 @@ bytes_fit (suc k) n zero = byte_fits k n
     byte_fits (suc at) n = mod_below (n / 256 ^ suc at) 256 (omega arith)
 bytes_fit (suc k) n (suc i) = bytes_fit k n i
 
--- what a line can ask
+-- what a line can ask, whatever the header
 abbrev IsAskable : Request → Type 0
 IsAskable request =
-    (request.key < 2 ^ 64) × ForSome request.value (λ bytes. length bytes ≤ 64) × ForSome request.value AreBytes
+    (request.key < 2 ^ 64) × ForSome request.value (λ bytes. length bytes ≤ 8) × ForSome request.value AreBytes
     × (request.put ≡ false → request.value ≡ None)
 
 -- a get, a put of eight bytes and a put of none
@@ -63,7 +67,7 @@ get_asked key fits = (fits, λ bytes is. absurd (cc), λ bytes is. absurd (cc), 
 put_asked : (key draw : ℕ) → key < 2 ^ 64 → IsAskable (put_of key draw)
 put_asked key draw fits = (
   fits,
-  λ bytes is. let same : to_be_bytes w64 draw ≡ bytes = cc in subst (λ (b : List ℕ). length b ≤ 64) same (omega arith),
+  λ bytes is. let same : to_be_bytes w64 draw ≡ bytes = cc in subst (λ (b : List ℕ). length b ≤ 8) same (omega arith),
   λ bytes is. let same : to_be_bytes w64 draw ≡ bytes = cc in subst AreBytes same (bytes_fit 8 draw),
   λ is. absurd (false≢true (sym is)),
 )
@@ -86,52 +90,75 @@ unfolding key_for
 key_fits shape worker draw =
     mod_below ((draw / 2 ^ 33 % shape.keys * shape.verifiers + worker) * 11400714819323198485) (2 ^ 64) (omega arith)
 
-task_fits : (shape : Shape) (number first second : ℕ) → 0 < shape.verifiers → IsTask shape.verifiers (task_for shape number first second)
+-- a key of 64 bits is one of either tree, and eight bytes are a value in each version
+key_in_tree : (wide : Bool) (key : ℕ) → key < 2 ^ 64 → key < 2 ^ key_bits wide
+key_in_tree false key fits = fits
+key_in_tree true key fits = omega (arith, fits)
+
+few_longest : (header : Header) → 8 ≤ longest_of header
+few_longest header = go (nat_lt header.version 3)
+  where
+    go : (early : Bool) → 8 ≤ (if early then 64 else longest_blob)
+    go true = omega arith
+    go false = omega arith
+
+few_bytes : (longest : ℕ) (value : Option (List ℕ)) → 8 ≤ longest → ForSome value (λ bytes. length bytes ≤ 8) → ForSome value (λ bytes. length bytes ≤ longest)
+few_bytes longest value room few bytes is = omega (arith, room, few bytes is)
+
+task_fits : (header : Header) (shape : Shape) (number first second : ℕ) → shape.verifiers ≡ header.verifiers → 0 < shape.verifiers
+    → IsTask header (task_for shape number first second)
 unfolding task_for
-task_fits shape number first second some =
+task_fits header shape number first second same some =
     let asked = asked_for (key_for shape (number % shape.verifiers) first) second (key_fits shape (number % shape.verifiers) first) in
-    record { worker = mod_below number shape.verifiers some; key = asked.0; size = asked.1; bytes = asked.2; get = asked.3 }
+    record {
+      worker = omega (arith, same, mod_below number shape.verifiers some);
+      key = key_in_tree (wide_of header) _ asked.0;
+      size = few_bytes (longest_of header) _ (few_longest header) asked.1;
+      bytes = asked.2;
+      get = asked.3;
+    }
 
 -- what a line says can be asked
-abbrev IsSaid : ℕ → Line → Type 0
-IsSaid verifiers (said.Task task) = IsTask verifiers task
-IsSaid verifiers said.Epoch = Unit {0}
+abbrev IsSaid : Header → Line → Type 0
+IsSaid header (said.Task task) = IsTask header task
+IsSaid header said.Epoch = Unit {0}
 
-both-said : (verifiers : ℕ) (front back : List Line) → AllByRecursion (IsSaid verifiers) front → AllByRecursion (IsSaid verifiers) back
-    → AllByRecursion (IsSaid verifiers) (front ++ back)
-both-said verifiers [] back fronts backs = backs
-both-said verifiers (line ∷ front) back fronts backs = (fronts.0, both-said verifiers front back fronts.1 backs)
+both-said : (header : Header) (front back : List Line) → AllByRecursion (IsSaid header) front → AllByRecursion (IsSaid header) back
+    → AllByRecursion (IsSaid header) (front ++ back)
+both-said header [] back fronts backs = backs
+both-said header (line ∷ front) back fronts backs = (fronts.0, both-said header front back fronts.1 backs)
 
-close-said : (verifiers : ℕ) (shape : Shape) (count : ℕ) → AllByRecursion (IsSaid verifiers) (close_behind shape count)
+close-said : (header : Header) (shape : Shape) (count : ℕ) → AllByRecursion (IsSaid header) (close_behind shape count)
 unfolding close_behind
-close-said verifiers shape count = go (closes_behind shape count)
+close-said header shape count = go (closes_behind shape count)
   where
-    go : (closes : Bool) → AllByRecursion (IsSaid verifiers) (if closes then said.Epoch ∷ [] else [])
+    go : (closes : Bool) → AllByRecursion (IsSaid header) (if closes then said.Epoch ∷ [] else [])
     go true = (tt, tt)
     go false = tt
 
-made-said : (x : ℕ) (shape : Shape) (count : ℕ) → 0 < shape.verifiers → AllByRecursion (IsSaid shape.verifiers) (lines_made x shape count)
+made-said : (header : Header) (x : ℕ) (shape : Shape) (count : ℕ) → shape.verifiers ≡ header.verifiers → 0 < shape.verifiers
+    → AllByRecursion (IsSaid header) (lines_made x shape count)
 unfolding lines_made
-made-said x shape zero some = tt
-made-said x shape (suc count) some =
-    both-said shape.verifiers (lines_made x shape count) _ (made-said x shape count some)
-    (task_fits shape count _ _ some, close-said shape.verifiers shape (suc count))
+made-said header x shape zero same some = tt
+made-said header x shape (suc count) same some =
+    both-said header (lines_made x shape count) _ (made-said header x shape count same some)
+    (task_fits header shape count _ _ same some, close-said header shape (suc count))
 
-onto-asked : (verifiers : ℕ) (task : Task) (phases : List (List Task)) → IsTask verifiers task → AreTasks verifiers phases → AreTasks verifiers (onto_first task phases)
-onto-asked verifiers task [] own are = ((own, tt), tt)
-onto-asked verifiers task (phase ∷ phases) own are = ((own, are.0), are.1)
+onto-asked : (header : Header) (task : Task) (phases : List (List Task)) → IsTask header task → AreTasks header phases → AreTasks header (onto_first task phases)
+onto-asked header task [] own are = ((own, tt), tt)
+onto-asked header task (phase ∷ phases) own are = ((own, are.0), are.1)
 
-phases-asked : (verifiers : ℕ) (lines : List Line) → AllByRecursion (IsSaid verifiers) lines → AreTasks verifiers (phases_of lines)
+phases-asked : (header : Header) (lines : List Line) → AllByRecursion (IsSaid header) lines → AreTasks header (phases_of lines)
 unfolding phases_of
-phases-asked verifiers [] are = (tt, tt)
-phases-asked verifiers (said.Epoch ∷ lines) are = (tt, phases-asked verifiers lines are.1)
-phases-asked verifiers (said.Task task ∷ lines) are = onto-asked verifiers task (phases_of lines) are.0 (phases-asked verifiers lines are.1)
+phases-asked header [] are = (tt, tt)
+phases-asked header (said.Epoch ∷ lines) are = (tt, phases-asked header lines are.1)
+phases-asked header (said.Task task ∷ lines) are = onto-asked header task (phases_of lines) are.0 (phases-asked header lines are.1)
 
 -- Each of its tasks is one that a line can ask.
-pub load-asks : (words : GenWords) → 0 < words.numbers.verifiers → AreTasks words.numbers.verifiers (script_for words)
+pub load-asks : (words : GenWords) → 0 < words.numbers.verifiers → AreTasks (header_for words.numbers) (script_for words)
 load-asks words some =
-    phases-asked words.numbers.verifiers (lines_made words.load.seed (shape_for words) words.load.ops)
-    (made-said words.load.seed (shape_for words) words.load.ops some)
+    phases-asked (header_for words.numbers) (lines_made words.load.seed (shape_for words) words.load.ops)
+    (made-said (header_for words.numbers) words.load.seed (shape_for words) words.load.ops refl some)
 
 -- ---- how it ends
 

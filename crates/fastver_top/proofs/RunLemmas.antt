@@ -28,7 +28,7 @@ use Rattle.verifier_threads.specs.InRounds.{Logs}
 use Rattle.verifier_threads.specs.Serving.{Outputs, AreOfRun, IsServed, IsCutOff, IsCutByVault, IsCutAtEnd, ServesTo, end_by, status_at}
 use Rattle.fastver_top.specs.declared.scripts.ScriptStop.{ScriptStop}
 use Rattle.fastver_top.specs.declared.scripts.ScriptStop.TheVariants as scripts
-use Rattle.fastver_top.specs.Running.{HasScript, HasBadLine, ReadsScript, script_stopped, settings_for, Keeping, outputs_of, EndsServed, EndsCutOff, IsDueByCheck, IsAnswerOfCheck, IsNamedFor, IsUntouched, IsBehindScript, RunsTo}
+use Rattle.fastver_top.specs.Running.{HasScript, HasBadLine, ReadsScript, script_stopped, header_for, settings_for, Keeping, outputs_of, EndsServed, EndsCutOff, IsDueByCheck, IsAnswerOfCheck, IsNamedFor, IsUntouched, IsBehindScript, RunsTo}
 
 -- ---- what a check of the vault's bytes answers
 
@@ -157,7 +157,7 @@ module _ (functions : DigestFunctions) (run : RunWords) (most : ℕ) (reading : 
       not_end (inr is) = cc
 
   -- what was read is no script
-  pub runs-bad_script : (line : ℕ) (cause : Cause) → TookAtMost most reading.left reading.left_after → HasBadLine run.numbers.verifiers reading line cause
+  pub runs-bad_script : (line : ℕ) (cause : Cause) → TookAtMost most reading.left reading.left_after → HasBadLine (header_for run.numbers) reading line cause
       → IsUntouched keeping.name keeping.name_after (outputs_of writing keeping)
       → RunsTo functions run most (statuses.BadScript line cause) reading writing keeping
   runs-bad_script line cause within bad untouched = record {
@@ -168,7 +168,7 @@ module _ (functions : DigestFunctions) (run : RunWords) (most : ℕ) (reading : 
     cut_by_vault = λ is. absurd (cc);
     cut_report = λ is. absurd (cc);
     bad = λ line' cause' is. let same : line ≡ line' = cc in let same' : cause ≡ cause' = cc in
-        subst (λ (l : ℕ). HasBadLine run.numbers.verifiers reading l cause') same (subst (HasBadLine run.numbers.verifiers reading line) same' bad);
+        subst (λ (l : ℕ). HasBadLine (header_for run.numbers) reading l cause') same (subst (HasBadLine (header_for run.numbers) reading line) same' bad);
     good = λ behind. absurd behind;
     limit = λ taken is. absurd (cc);
     within = λ _. within;
@@ -188,7 +188,7 @@ module _ (functions : DigestFunctions) (run : RunWords) (most : ℕ) (reading : 
       not_end (inr is) = cc
 
   -- the vault failed
-  pub runs-vault_fault : (script : List (List Task)) → HasScript run.numbers.verifiers reading script → TookAtMost most reading.left reading.left_after
+  pub runs-vault_fault : (script : List (List Task)) → HasScript (header_for run.numbers) reading script → TookAtMost most reading.left reading.left_after
       → IsCutOff (accounts.Report run.receipts) functions (settings_for run.numbers) script (outputs_of writing keeping)
       → IsCutByVault (accounts.Report run.receipts) functions (settings_for run.numbers) script (outputs_of writing keeping)
       → IsNamedFor run.logs keeping.name keeping.name_after ⊎ IsUntouched keeping.name keeping.name_after (outputs_of writing keeping)
@@ -217,7 +217,7 @@ module _ (functions : DigestFunctions) (run : RunWords) (most : ℕ) (reading : 
       not_end (inr is) = cc
 
   -- the sink failed
-  pub runs-write_fault : (script : List (List Task)) → HasScript run.numbers.verifiers reading script → TookAtMost most reading.left reading.left_after
+  pub runs-write_fault : (script : List (List Task)) → HasScript (header_for run.numbers) reading script → TookAtMost most reading.left reading.left_after
       → IsCutOff (accounts.Report run.receipts) functions (settings_for run.numbers) script (outputs_of writing keeping)
       ⊎ IsCutAtEnd (accounts.Report run.receipts) functions (settings_for run.numbers) script (outputs_of writing keeping)
       → IsNamedFor run.logs keeping.name keeping.name_after → Rose writing.faults writing.faults_after
@@ -275,7 +275,7 @@ module _ (functions : DigestFunctions) (run : RunWords) (most : ℕ) (reading : 
   -- ---- by what was read, and by what was served
 
   -- no script was read
-  pub runs-unread : (stop : ScriptStop) → ReadsScript run.numbers.verifiers most (Err stop) reading
+  pub runs-unread : (stop : ScriptStop) → ReadsScript (header_for run.numbers) most (Err stop) reading
       → IsUntouched keeping.name keeping.name_after (outputs_of writing keeping)
       → RunsTo functions run most (script_stopped most stop) reading writing keeping
   runs-unread (scripts.Failure failures.Memory) read untouched =
@@ -287,7 +287,7 @@ module _ (functions : DigestFunctions) (run : RunWords) (most : ℕ) (reading : 
   runs-unread (scripts.BadScript line cause) read untouched =
       runs-bad_script line cause (read.within (λ is. cc)) (read.bad line cause refl) untouched
 
-  module _ (script : List (List Task)) (read : ReadsScript run.numbers.verifiers most (Ok script) reading) where
+  module _ (script : List (List Task)) (read : ReadsScript (header_for run.numbers) most (Ok script) reading) where
     -- it was not served to its end
     pub runs-stopped : (stop : Failure) → ServesTo (accounts.Report run.receipts) functions (settings_for run.numbers) script (Err stop) (outputs_of writing keeping)
         → ((stop ≡ failures.VaultFault → ⊥) → IsNamedFor run.logs keeping.name keeping.name_after)

@@ -14,6 +14,7 @@ use Rattle.script_text.specs.declared.task.Line.{Line}
 use Rattle.script_text.specs.declared.task.Line.TheVariants as said
 use Rattle.script_text.specs.Lines.{lines_of}
 use Rattle.script_text.specs.Script.{BadLine, lines_say, phases_of, script_of, with_line}
+use Rattle.lamport_clocks.specs.declared.header.Header.{Header}
 use Rattle.lamport_clocks.specs.Clock.{last_epoch}
 use Rattle.host_core.specs.Host.{Host, Done as Deed}
 use Rattle.host_core.specs.World.{Place, Worker, Seats, World, set_up, logs_of, worker_at}
@@ -47,8 +48,8 @@ some_read : (lines : Result (List Line) BadLine) (script : List (List Task)) →
 some_read (Ok lines) script is = (let same : phases_of lines ≡ script = cc in subst (λ (s : List (List Task)). 0 < length s) same (some_phases lines))
 some_read (Err bad) script is = absurd (cc)
 
-pub script_some : (verifiers : ℕ) (bytes : List ℕ) (script : List (List Task)) → script_of verifiers bytes ≡ Ok script → 0 < length script
-script_some verifiers bytes script is = some_read (lines_say verifiers 1 (lines_of bytes)) script is
+pub script_some : (header : Header) (bytes : List ℕ) (script : List (List Task)) → script_of header bytes ≡ Ok script → 0 < length script
+script_some header bytes script is = some_read (lines_say header 1 (lines_of bytes)) script is
 
 -- ---- the phase is one of the script's
 
@@ -111,7 +112,7 @@ module _ (functions : DigestFunctions) (settings : Settings) (script : List (Lis
       ∙ ends advanced
       ∙ ap Done (ap (λ (w : World _). suc w.phase) (sym served.way.is) ∙ count)
 
-  pub run-end : EndsWithPhases → IsSettings settings → AreInRange script → GivesDigests functions.digest → settings.header.first < 2 ^ 32 → 0 < length script
+  pub run-end : EndsWithPhases → IsSettings settings → AreInRange settings.header script → GivesDigests functions.digest → settings.header.first < 2 ^ 32 → 0 < length script
       → AreOfRun functions settings script rounds logs None → end_due functions settings.header (written_logs settings.header logs) ≡ Done (length script)
   run-end promise in_range keys digests first some run =
       ⊎_elim (λ short. absurd (let no = (run.unserved short).2 in cc))

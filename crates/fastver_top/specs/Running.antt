@@ -1,9 +1,10 @@
 -- What a run of a script does: what it reads, how it serves it, and what stands in the vault and the sink then.
-use Rattle.std.specs.Prelude.{◌≡◌, Bool, ◌⊎◌, ◌≢◌, ℕ, ◌+◌, List, [], ◌∷◌, ◌++◌, Option, None, Some, IfSome, Result, Ok, Err, IfOk}
+use Rattle.std.specs.Prelude.{◌≡◌, ◌==◌, Bool, ◌⊎◌, ◌≢◌, ℕ, ◌+◌, List, [], ◌∷◌, ◌++◌, Option, None, Some, IfSome, Result, Ok, Err, IfOk}
 use Rattle.std.specs.Io.KnownBytes.{IsAtEnd}
 use Rattle.fv_outside.specs.Consumed.{TookAtMost, TookJust}
 use Rattle.fv_outside.specs.Faults.{Rose}
 use Rattle.fv_outside.specs.Written.{Grows, IsNamed}
+use Rattle.lamport_clocks.specs.declared.header.Header.{Header}
 use Rattle.record_hash.specs.Functions.{DigestFunctions}
 use Rattle.record_text.specs.declared.cause.Cause.{Cause}
 use Rattle.program_words.specs.declared.host_words.HostNumbers.{HostNumbers}
@@ -69,20 +70,20 @@ IsBehindScript = IsOneOf behind_script_kinds
 
 -- ---- what is read
 
--- the whole of a source is this script for so many workers
-pub record HasScript (verifiers : ℕ) (reading : Reading) (script : List (List Task)) : Type 0 where
-  pub good : IfSome reading.left (λ bytes. script_of verifiers bytes ≡ Ok script)
+-- the whole of a source is this script for this header
+pub record HasScript (header : Header) (reading : Reading) (script : List (List Task)) : Type 0 where
+  pub good : IfSome reading.left (λ bytes. script_of header bytes ≡ Ok script)
   pub all : IsAtEnd reading.left_after
 
 -- the whole of a source is no script: this line is the first outside the grammar, for this cause
-pub record HasBadLine (verifiers : ℕ) (reading : Reading) (line : ℕ) (cause : Cause) : Type 0 where
-  pub bad : IfSome reading.left (λ bytes. script_of verifiers bytes ≡ Err (record { line = line; cause = cause }))
+pub record HasBadLine (header : Header) (reading : Reading) (line : ℕ) (cause : Cause) : Type 0 where
+  pub bad : IfSome reading.left (λ bytes. script_of header bytes ≡ Err (record { line = line; cause = cause }))
   pub all : IsAtEnd reading.left_after
 
 -- A script is read of a source that has no more than so many bytes, or there is a cause why not.
-pub record ReadsScript (verifiers most : ℕ) (result : Result (List (List Task)) ScriptStop) (reading : Reading) : Type 0 where
-  pub script : IfOk result (HasScript verifiers reading)
-  pub bad : (line : ℕ) (cause : Cause) → result ≡ Err (scripts.BadScript line cause) → HasBadLine verifiers reading line cause
+pub record ReadsScript (header : Header) (most : ℕ) (result : Result (List (List Task)) ScriptStop) (reading : Reading) : Type 0 where
+  pub script : IfOk result (HasScript header reading)
+  pub bad : (line : ℕ) (cause : Cause) → result ≡ Err (scripts.BadScript line cause) → HasBadLine header reading line cause
   pub limit : result ≡ Err (scripts.Failure failures.InputLimit) → TookJust (most + 1) reading.left reading.left_after
   pub within : result ≢ Err (scripts.Failure failures.InputLimit) → TookAtMost most reading.left reading.left_after
   pub fault : result ≡ Err (scripts.Failure failures.ReadFault) → Rose reading.faults reading.faults_after
@@ -91,16 +92,21 @@ pub record ReadsScript (verifiers most : ℕ) (result : Result (List (List Task)
 
 -- ---- what is served
 
+-- the header of the bundle that a host of these numbers writes
+abbrev pub header_for : HostNumbers → Header
+header_for numbers = record {
+  version = numbers.version;
+  verifiers = numbers.verifiers;
+  cache = shipped_cache (numbers.bits == 128);
+  first = numbers.first;
+  end = numbers.counter;
+  bits = numbers.bits;
+}
+
 -- what a host of these numbers is set to
 abbrev pub settings_for : HostNumbers → Settings
 settings_for numbers = record {
-  header = record {
-    version = numbers.version;
-    verifiers = numbers.verifiers;
-    cache = shipped_cache;
-    first = numbers.first;
-    end = numbers.counter;
-  };
+  header = header_for numbers;
   shards = numbers.shards;
   hot = numbers.hot;
   absent = numbers.absent;
@@ -123,7 +129,7 @@ module _ (functions : DigestFunctions) (run : RunWords) (result : Status) (readi
   -- The script is served, and the status says how that ended.
   pub record EndsServed : Type 0 where
     pub script : List (List Task)
-    pub read : HasScript run.numbers.verifiers reading script
+    pub read : HasScript (header_for run.numbers) reading script
     pub end : RunEnd
     pub is : result ≡ status_at end
     pub served : IsServed (accounts.Report run.receipts) functions (settings_for run.numbers) script end outputs
@@ -131,19 +137,19 @@ module _ (functions : DigestFunctions) (run : RunWords) (result : Status) (readi
   -- It stopped before: the vault took a front of the bundle of the script's logs, and the sink one of the lines that this certifies.
   pub record EndsCutOff : Type 0 where
     pub script : List (List Task)
-    pub read : HasScript run.numbers.verifiers reading script
+    pub read : HasScript (header_for run.numbers) reading script
     pub cut : IsCutOff (accounts.Report run.receipts) functions (settings_for run.numbers) script outputs
 
   -- The vault failed in the header or in a round: the sink took all lines that the rounds up to the last close before certify.
   pub record EndsCutByVault : Type 0 where
     pub script : List (List Task)
-    pub read : HasScript run.numbers.verifiers reading script
+    pub read : HasScript (header_for run.numbers) reading script
     pub cut : IsCutByVault (accounts.Report run.receipts) functions (settings_for run.numbers) script outputs
 
   -- The sink failed: it took a front of the lines that the vault's bytes certify, or at the last line of the report.
   pub record EndsCut : Type 0 where
     pub script : List (List Task)
-    pub read : HasScript run.numbers.verifiers reading script
+    pub read : HasScript (header_for run.numbers) reading script
     pub cut : IsCutOff (accounts.Report run.receipts) functions (settings_for run.numbers) script outputs ⊎ IsCutAtEnd (accounts.Report run.receipts) functions (settings_for run.numbers) script outputs
 
 -- A check of what the vault took is due to write the same lines.
@@ -193,8 +199,8 @@ pub record RunsTo (functions : DigestFunctions) (run : RunWords) (most : ℕ) (r
   -- where the sink failed too, or it has a front of the report
   pub cut_report : result ≡ statuses.WriteFault → EndsCut functions run result reading (outputs_of writing keeping)
   -- a script is bad where the first line outside the grammar is this one
-  pub bad : (line : ℕ) (cause : Cause) → result ≡ statuses.BadScript line cause → HasBadLine run.numbers.verifiers reading line cause
-  pub good : IsBehindScript result → (script : List (List Task)) × HasScript run.numbers.verifiers reading script
+  pub bad : (line : ℕ) (cause : Cause) → result ≡ statuses.BadScript line cause → HasBadLine (header_for run.numbers) reading line cause
+  pub good : IsBehindScript result → (script : List (List Task)) × HasScript (header_for run.numbers) reading script
   -- the input is too long where the source gave just a byte more than the limit, and else it gave no more
   pub limit : (taken : ℕ) → result ≡ statuses.InputLimit taken → (taken ≡ most) × TookJust (most + 1) reading.left reading.left_after
   pub within : result ≢ statuses.InputLimit most → TookAtMost most reading.left reading.left_after

@@ -5,7 +5,7 @@ ghost use Rattle.program_words.specs.HostWords.{AreHostNumbers};
 ghost use Rattle.program_words.specs.LoadWords.{AreLoadNumbers};
 ghost use Rattle.script_text.specs.Text.{AreTasks};
 ghost use Rattle.verifier_threads.specs.Serving.{ServesTo};
-ghost use Rattle.fastver_top.specs.Running.{IsNamedFor, IsUntouched, settings_for};
+ghost use Rattle.fastver_top.specs.Running.{IsNamedFor, IsUntouched, header_for, settings_for};
 ghost use Rattle.fastver_top.specs.Generating.{GensTo, IsGenStatus, account_for, load_for, shape_for};
 
 use crate::running::{name_vault, settings_for};
@@ -65,7 +65,7 @@ fn serve_named<R: Threads + Wait + Sync, D: Digests + Sync, V: Vault, O: Sink, G
     out: &mut O,
 ) -> Result<RunEnd, Failure>
     requires numbers { AreHostNumbers words.now.numbers }
-    requires tasks { AreTasks words.now.numbers.verifiers requests.now }
+    requires tasks { AreTasks (header_for words.now.numbers) requests.now }
     requires fresh { V.fresh vault.old }
     ensures serves { ServesTo (account_for words.now.load) (D.functions d.now) (settings_for words.now.numbers) requests.now result
         (record { vault = V.held vault.old; vault_after = V.held vault.new; out = O.held out.old; out_after = O.held out.new }) }

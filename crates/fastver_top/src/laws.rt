@@ -12,7 +12,7 @@ ghost use Rattle.report_text.specs.Answer.{Reading, Writing};
 ghost use Rattle.bundle_report.specs.Answer.{sha_check_answer};
 ghost use Rattle.follower.specs.Answer.{sha_follow_answer};
 ghost use Rattle.fastver_top.specs.Auditing.{sha_audit_answer};
-ghost use Rattle.fastver_top.specs.Running.{Keeping, settings_for};
+ghost use Rattle.fastver_top.specs.Running.{Keeping, header_for, settings_for};
 ghost use Rattle.fastver_top.specs.Generating.{script_for};
 ghost use Rattle.fastver_top.specs.Accepting.{sha_accept_answer};
 ghost use Rattle.fastver_top.specs.Answers.{AnswersFor};
@@ -35,7 +35,7 @@ pub fn only_memory_may_be_wanting()
         (script : List (List Task))
         → IsStatusOf (Asked.Run run) result → AnswersFor (Asked.Run run) most result reading writing keeping
         → NoneFailed reading writing keeping → Had most bytes reading
-        → script_of run.numbers.verifiers bytes ≡ Ok script → NoClockEnds (sha_under run.key) (settings_for run.numbers) script
+        → script_of (header_for run.numbers) bytes ≡ Ok script → NoClockEnds (sha_under run.key) (settings_for run.numbers) script
         → IsOrWantsMemory result (Status.Done (length script)) }
     ensures load { (load : GenWords) (most : ℕ) (result : Status) (reading : Reading) (writing : Writing) (keeping : Keeping)
         → IsStatusOf (Asked.Gen load) result → AnswersFor (Asked.Gen load) most result reading writing keeping

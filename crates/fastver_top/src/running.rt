@@ -5,7 +5,7 @@ ghost use Rattle.host_world.specs.Settings.{IsSettings};
 ghost use Rattle.program_words.specs.HostWords.{AreHostNumbers};
 ghost use Rattle.script_text.specs.Text.{AreTasks};
 ghost use Rattle.verifier_threads.specs.Serving.{ServesTo};
-ghost use Rattle.fastver_top.specs.Running.{IsBeforeRun, IsNamedFor, IsRunStatus, IsUntouched, RunsTo, settings_for};
+ghost use Rattle.fastver_top.specs.Running.{IsBeforeRun, IsNamedFor, IsRunStatus, IsUntouched, RunsTo, header_for, settings_for};
 
 use crate::scripts::read_script;
 use fv_outside::{Failed, Failure, Gate, Sink, Source, Vault};
@@ -23,8 +23,10 @@ use std::sync::Wait;
 use std::thread::Threads;
 use verifier_threads::{Account, RunEnd, a_header_begins_the_bundle, serve};
 
-// How many entries a verifier of the host may cache.
-const HOST_CACHE: u32 = 128;
+// How many entries a verifier of the host may cache, where keys have 64 bits, and where they have 128.
+const SHORT_CACHE: u32 = 128;
+
+const LONG_CACHE: u32 = 256;
 
 /// Reads a script of no more than so many bytes to its end, names the vault if the words say so, and serves the script: the
 /// vault takes the bundle of the logs, and the sink its report, with receipts if the words say so.
@@ -64,7 +66,8 @@ pub fn run_script<
     digests_have_32_bytes(d);
     scripts_ask_for_keys_in_range();
     a_check_of_the_logs_ends_as_the_host_promises();
-    let requests = match read_script(alloc, limit, run.numbers.verifiers, source) {
+    let header = header_for(&run.numbers);
+    let requests = match read_script(alloc, limit, &header, source) {
         Ok(requests) => requests,
         Err(stop) => return stop.status(limit),
     };
@@ -86,7 +89,7 @@ fn serve_named<R: Threads + Wait + Sync, D: Digests + Sync, V: Vault, O: Sink, G
     out: &mut O,
 ) -> Result<RunEnd, Failure>
     requires numbers { AreHostNumbers run.now.numbers }
-    requires tasks { AreTasks run.now.numbers.verifiers requests.now }
+    requires tasks { AreTasks (header_for run.now.numbers) requests.now }
     requires fresh { V.fresh vault.old }
     ensures serves { ServesTo (Account.Report run.now.receipts) (D.functions d.now) (settings_for run.now.numbers) requests.now result
         (record { vault = V.held vault.old; vault_after = V.held vault.new; out = O.held out.old; out_after = O.held out.new }) }
@@ -129,15 +132,28 @@ pub(crate) fn settings_for(numbers: &HostNumbers) -> Settings
     ensures in_range { AreHostNumbers numbers.now → IsSettings result }
 {
     Settings {
-        header: Header {
-            version: numbers.version,
-            verifiers: numbers.verifiers,
-            cache: HOST_CACHE,
-            first: numbers.first,
-            end: numbers.counter,
-        },
+        header: header_for(numbers),
         shards: numbers.shards,
         hot: numbers.hot,
         absent: numbers.absent,
+    }
+}
+
+// The header of the bundle that a host of these numbers writes.
+fn header_for(numbers: &HostNumbers) -> Header
+    ensures value { result ≡ header_for numbers.now }
+{
+    let cache = if numbers.bits == 128 {
+        LONG_CACHE
+    } else {
+        SHORT_CACHE
+    };
+    Header {
+        version: numbers.version,
+        verifiers: numbers.verifiers,
+        cache,
+        first: numbers.first,
+        end: numbers.counter,
+        bits: numbers.bits,
     }
 }

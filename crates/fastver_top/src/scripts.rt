@@ -4,7 +4,9 @@ ghost use Rattle.script_text.specs.Text.{AreTasks};
 ghost use Rattle.fastver_top.specs.Running.{ReadsScript, script_stopped};
 
 use crate::reading::read_all;
+use base_words::a_number_of_16_bits_is_below;
 use fv_outside::{Failure, Source};
+use lamport_clocks::Header;
 use record_text::Cause;
 use report_text::Status;
 use script_text::{Requests, ScriptFault, scripts_are_read_back};
@@ -54,20 +56,21 @@ impl From<ScriptFault> for ScriptStop {
     }
 }
 
-/// Reads a script for so many workers from a source of no more than so many bytes.
+/// Reads a script for this header from a source of no more than so many bytes.
 pub fn read_script<S: Source>(
     alloc: Global,
     limit: u64,
-    verifiers: u16,
+    header: &Header,
     source: &mut S,
 ) -> Result<Requests, ScriptStop>
     requires limit { limit ≤ 2 ^ 40 }
-    ensures tasks { IfOk result (AreTasks verifiers) }
+    ensures tasks { IfOk result (AreTasks header.now) }
     ensures some { IfOk result (λ script. 0 < length script) }
-    ensures reads { ReadsScript verifiers limit result
+    ensures reads { ReadsScript header.now limit result
         (record { left = S.left source.old; left_after = S.left source.new; faults = S.faults source.old; faults_after = S.faults source.new }) }
 {
     scripts_are_read_back();
+    a_number_of_16_bits_is_below(header.verifiers);
     let bytes = read_all(alloc, limit, source)?;
-    Ok(Requests::read(alloc, &bytes, verifiers)?)
+    Ok(Requests::read(alloc, &bytes, header)?)
 }

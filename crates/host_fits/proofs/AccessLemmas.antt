@@ -1,18 +1,18 @@
 -- The one access of a request, as the operation of a deed that is storing.
-use Rattle.std.proofs.Common.{◌≡◌, ◌⊎◌, ℕ, suc, ◌^◌, ◌<◌, Bool, true, false, List, [], ◌∷◌, ◌++◌, length, take, Option, Some, None, Ok, nat_lt, if◌then◌else◌, refl, sym, ◌∙◌, ap, subst, inl, inr, arith}
+use Rattle.std.proofs.Common.{◌≡◌, ◌⊎◌, ℕ, suc, ◌^◌, ◌<◌, Bool, true, false, List, [], ◌∷◌, ◌++◌, length, Option, Some, None, Ok, nat_lt, if◌then◌else◌, refl, sym, ◌∙◌, ap, subst, inl, inr, arith}
 use Rattle.std.specs.Prelude.{nat_eq}
 use Rattle.std.specs.List.{AllByRecursion}
 use Rattle.std.specs.Map.{update}
 use Rattle.std.proofs.lemmas.Bool.{cases_eq, lt-ltb, ltb-true, ne_eqb}
 use Rattle.std.proofs.lemmas.Option.{none-some, same_Some}
 use Rattle.stamp_order.proofs.InOrderLaws.{every-filter}
-use Rattle.tree_keys.specs.Bits.{number_of}
-use Rattle.tree_keys.specs.Path.{key_path, key_of}
+use Rattle.tree_keys.specs.Path.{key_bits, key_path, key_of, IsBelow, IsIn}
 use Rattle.tree_keys.proofs.TreeLaws.{key_of-path}
 use Rattle.lamport_clocks.specs.declared.stamp.Stamp.{Stamp}
 use Rattle.lamport_clocks.specs.Stamp.{IsLater}
 use Rattle.record_text.specs.declared.request.Request.{Request}
 use Rattle.record_text.specs.Longest.{longest_of}
+use Rattle.record_text.specs.Tree.{wide_of}
 use Rattle.log_codec.specs.declared.command.Command.{Command}
 use Rattle.verifier_commands.specs.declared.state.State.{State}
 use Rattle.verifier_commands.specs.Outcome.{blob_of}
@@ -22,7 +22,7 @@ use Rattle.soundness.specs.StateHistory.{rules_under}
 use Rattle.soundness.specs.Certified.{operations_by, operations_in}
 use Rattle.soundness.specs.World.{Stored, stored_behind}
 use Rattle.host_shard.specs.declared.content.HotRecord.{HotRecord}
-use Rattle.host_shard.specs.Shard.{Shard}
+use Rattle.host_shard.specs.Shard.{Shard, key_path_in}
 use Rattle.host_shard.specs.Content.{Content, cold}
 use Rattle.host_shard.specs.Mirrors.{IsKeyOf}
 use Rattle.host_core.specs.Host.{scheme}
@@ -35,9 +35,8 @@ use Rattle.host_laws.proofs.RunLaws.{run-history}
 use Rattle.host_holds.specs.Holding.{hot_record_of, stamp_or, held_value, held_since, stored_after}
 use Rattle.host_world.specs.Seated.{SeatsMirror}
 use Rattle.host_fits.specs.Holds.{shard_of, storing_of}
-use Rattle.host_fits.proofs.Keeping.{Setting, bits_in, ranged, PlacesMirror, frontier_in}
-use Rattle.host_fits.proofs.PlaceLemmas.{home_of, home-below}
-use Rattle.host_fits.proofs.ServeLemmas.{small}
+use Rattle.host_fits.proofs.Keeping.{Setting, bits_in, ranged, PlacesMirror, frontier_in, home_of}
+use Rattle.host_fits.proofs.PlaceLemmas.{shard_tree, home-below, home_tests}
 
 -- ---- operations that are told
 
@@ -114,30 +113,35 @@ stamps_told P key number index told all =
 
 -- ---- keys and their shards
 
-pub home_small : (key : ℕ) (home : ℕ) (s : ℕ) → (if nat_lt key (2 ^ 64) then Some home else None) ≡ Some s → (key < 2 ^ 64) × (home ≡ s)
-home_small key home s is = go (nat_lt key (2 ^ 64)) refl is
+pub home_small : (limit key home s : ℕ) → (if nat_lt key limit then Some home else None) ≡ Some s → (key < limit) × (home ≡ s)
+home_small limit key home s is = go (nat_lt key limit) refl is
   where
-    go : (b : Bool) → nat_lt key (2 ^ 64) ≡ b → (if b then Some home else None) ≡ Some s → (key < 2 ^ 64) × (home ≡ s)
-    go true within same = (ltb-true key (2 ^ 64) within, same_Some home s same)
+    go : (b : Bool) → nat_lt key limit ≡ b → (if b then Some home else None) ≡ Some s → (key < limit) × (home ≡ s)
+    go true within same = (ltb-true key limit within, same_Some home s same)
     go false past same = absurd (none-some s same)
 
-pub home_is : (setting : Setting) (key : ℕ) → key < 2 ^ 64 → (storing_of setting.settings).home key ≡ Some (shard_of setting.settings key)
-home_is setting key small = ap (λ (b : Bool). if b then Some (shard_of setting.settings key) else None) (lt-ltb key (2 ^ 64) small)
+pub home_is : (setting : Setting) (key : ℕ) → key < 2 ^ key_bits (wide_of setting.settings.header)
+    → (storing_of setting.settings).home key ≡ Some (shard_of setting.settings key)
+home_is setting key small =
+    ap (λ (b : Bool). if b then Some (shard_of setting.settings key) else None) (lt-ltb key (2 ^ key_bits (wide_of setting.settings.header)) small)
 
 -- a key below the frontier of a shard is the shard's
 pub own_shard : (setting : Setting) (s : ℕ) (contents : List Content) (key : ℕ) → PlacesMirror setting s contents
     → (mirrors : SeatsMirror (longest_of setting.settings.header) setting.functions.digest contents)
-    → IsKeyOf mirrors.shard (key_path false key) → shard_of setting.settings key ≡ s
-own_shard setting s contents key places mirrors own = go (nat_lt (suc (bits_in setting)) (length (key_path false key))) home
+    → IsKeyOf mirrors.shard (key_path_in mirrors.shard key) → shard_of setting.settings key ≡ s
+own_shard setting s contents key places mirrors own = (home_tests wide (key_path wide key) (suc (bits_in setting)) s home).2
   where
-    home : home_of (suc (bits_in setting)) (key_path false key) ≡ Some s
-    home = home-below mirrors.shard.frontier (key_path false key) (suc (bits_in setting)) s
-        (subst (λ (cs : List Content). length (frontier_in cs) ≡ suc (bits_in setting)) mirrors.is places.levels)
-        (subst (λ (cs : List Content). number_of (frontier_in cs) ≡ s) mirrors.is places.number) own.below
+    wide : Bool
+    wide = wide_of setting.settings.header
 
-    go : (b : Bool) → (if b then Some (number_of (take (suc (bits_in setting)) (key_path false key))) else None) ≡ Some s → shard_of setting.settings key ≡ s
-    go true is = same_Some (number_of (take (suc (bits_in setting)) (key_path false key))) s is
-    go false is = absurd (none-some s is)
+    below : IsBelow mirrors.shard.frontier (key_path wide key)
+    below = subst (λ (w : Bool). IsBelow mirrors.shard.frontier (key_path w key)) (shard_tree setting s contents places mirrors) own.below
+
+    home : home_of wide (suc (bits_in setting)) (key_path wide key) ≡ Some s
+    home = home-below wide mirrors.shard.frontier (key_path wide key) (suc (bits_in setting)) s
+        (subst (λ (cs : List Content). IsIn wide (frontier_in cs)) mirrors.is places.tree)
+        (subst (λ (cs : List Content). length (frontier_in cs) ≡ suc (bits_in setting)) mirrors.is places.levels)
+        (subst (λ (cs : List Content). key_of (frontier_in cs) ≡ s) mirrors.is places.number) below
 
 -- ---- a deed that does one access
 
@@ -147,11 +151,11 @@ module _ (setting : Setting) (worker : ℕ) (from last : State) (commands : List
   -- it is done behind the stamp since which the key waits, and up to the one since which it waits then.
   pub record OneAccess : Type 0 where
     pub runs_so : run (rules_under (scheme (ranged setting)) setting.settings.header worker) from commands ≡ Ok (told, last)
-    pub access : accesses_told told ≡ access_for request answer ∷ []
-    pub in_range : request.key < 2 ^ 64
+    pub access : accesses_told told ≡ access_for (wide_of setting.settings.header) request answer ∷ []
+    pub in_range : request.key < 2 ^ key_bits (wide_of setting.settings.header)
     pub asked : (if request.put then answer else None) ≡ (if request.put then request.value else None)
     pub own : shard_of setting.settings request.key ≡ s
-    pub held : (key : ℕ) → key < 2 ^ 64 → held_value new key ≡ stored_after request (held_value old) key
+    pub held : (key : ℕ) → key < 2 ^ key_bits (wide_of setting.settings.header) → held_value new key ≡ stored_after request (held_value old) key
     pub behind : AllByRecursion (λ (one : Stamp × Change). IsLater one.0 (held_since old request.key)) told
     pub up_to : AllByRecursion (λ (one : Stamp × Change). IsNotAfter one.0 (held_since new request.key)) told
     pub rises : (key : ℕ) → IsNotAfter (held_since old key) (held_since new key)
@@ -163,17 +167,20 @@ module _ (setting : Setting) (worker : ℕ) (from last : State) (commands : List
     abbrev done_on : ℕ → ℕ → List Event
     done_on index key = operating key (as_events worker index told)
 
-    key_is : key_of (key_path false request.key) ≡ request.key
-    key_is = key_of-path false request.key one.in_range
+    abbrev wide : Bool
+    wide = wide_of setting.settings.header
+
+    key_is : key_of (key_path wide request.key) ≡ request.key
+    key_is = key_of-path wide request.key one.in_range
 
     none_on : (index key : ℕ) → (key ≡ request.key → ⊥) → done_on index key ≡ []
     none_on index key apart =
         other_told key worker index told
         (subst (AllByRecursion (λ (access : Access). nat_eq (key_of access.path) key ≡ false)) (sym one.access)
-        (ne_eqb (key_of (key_path false request.key)) key (λ same. apart (sym same ∙ key_is)), tt))
+        (ne_eqb (key_of (key_path wide request.key)) key (λ same. apart (sym same ∙ key_is)), tt))
 
     -- what the access leaves of a map
-    leaves : (stored : Stored) (key : ℕ) → written (access_for request answer) stored key ≡ stored_after request stored key
+    leaves : (stored : Stored) (key : ℕ) → written (access_for wide request answer) stored key ≡ stored_after request stored key
     leaves stored key =
         ap (λ (k : ℕ). (if request.put then update nat_eq stored k answer else stored) key) key_is
         ∙ go request.put one.asked
@@ -201,7 +208,7 @@ module _ (setting : Setting) (worker : ℕ) (from last : State) (commands : List
           ∙ (ap (λ (accesses : List Access). written_all stored accesses key) one.access
           ∙ (leaves stored key
           ∙ (same_left stored (held_value old) key same
-          ∙ sym (one.held key (home_small key (shard_of setting.settings key) s home).0))))));
+          ∙ sym (one.held key (home_small (2 ^ key_bits wide) key (shard_of setting.settings key) s home).0))))));
       behind = λ index key home.
           subst (λ (events : List Event). AllByRecursion (λ (event : Event). IsLater event.at (held_since old key)) (operating key events)) (sym (history.events worker index))
           (behind_on index key (cases_eq key request.key));

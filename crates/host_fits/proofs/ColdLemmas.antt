@@ -1,17 +1,18 @@
 -- A request that is served at a shard: its access is done where the key's value is held.
-use Rattle.std.proofs.Common.{◌≡◌, ℕ, false, List, ◌∷◌, get_or, set, Option, Some, None, sym, ◌∙◌, ap, subst}
+use Rattle.std.proofs.Common.{◌≡◌, ℕ, ◌^◌, ◌<◌, Bool, List, [], ◌∷◌, get_or, set, Option, Some, None, sym, ◌∙◌, ap, subst}
 use Rattle.std.specs.List.{AllByRecursion}
-use Rattle.tree_keys.specs.Path.{key_path}
+use Rattle.tree_keys.specs.Path.{key_bits}
 use Rattle.lamport_clocks.specs.declared.stamp.Stamp.{Stamp}
 use Rattle.lamport_clocks.specs.Stamp.{IsLater}
 use Rattle.lamport_clocks.specs.Reading.{Reading}
 use Rattle.record_text.specs.declared.request.Request.{Request}
 use Rattle.record_text.specs.Longest.{longest_of}
+use Rattle.record_text.specs.Tree.{wide_of}
 use Rattle.log_codec.specs.declared.command.Command.{Command}
 use Rattle.verifier_commands.specs.Change.{Change}
 use Rattle.soundness.specs.StateHistory.{rules_under}
 use Rattle.host_shard.specs.declared.content.HotRecord.{HotRecord}
-use Rattle.host_shard.specs.Shard.{Shard, pending_shard}
+use Rattle.host_shard.specs.Shard.{Shard, wide_in, key_path_in, pending_shard}
 use Rattle.host_shard.specs.Content.{Content, cold, vacant, pending}
 use Rattle.host_shard.specs.Mirrors.{IsKeyOf}
 use Rattle.host_plan.specs.Plan.{Owns, AreLinks, value_found}
@@ -19,7 +20,7 @@ use Rattle.host_core.specs.Host.{Done, scheme, resting}
 use Rattle.host_core.specs.Deeds.{IsStamped}
 use Rattle.host_core.specs.Clear.{IsNotAfter}
 use Rattle.host_laws.specs.Running.{run}
-use Rattle.host_laws.specs.Served.{IsWithin, PlanRuns, waiting}
+use Rattle.host_laws.specs.Served.{IsWithin, PlanRuns, access_for, waiting}
 use Rattle.host_laws.specs.Mirroring.{IsCold}
 use Rattle.protection_moves.specs.Stage.{hot_records, hot_paths}
 use Rattle.move_laws.proofs.PlaceLaws.{HasNone}
@@ -30,6 +31,7 @@ use Rattle.host_world.specs.Planned.{IsPlanned}
 use Rattle.host_world.specs.Seated.{SeatsMirror}
 use Rattle.host_world.proofs.SeatLaws.{stage_at, stage_mirrors}
 use Rattle.host_fits.proofs.Keeping.{Setting, ranged}
+use Rattle.host_fits.proofs.PlaceLemmas.{shard_tree}
 use Rattle.host_fits.proofs.ClearLemmas.{not_after, renewing-rises}
 use Rattle.host_fits.proofs.ServeLemmas.{Serves, asked_so, open_now, there, small, stamped}
 use Rattle.host_fits.proofs.FitLemmas.{all-weaker, shard_plan, shard_left, shard_behind, shard_did}
@@ -52,17 +54,23 @@ module _ (setting : Setting) (worker : ℕ) (clock : Reading) (s : ℕ) (content
   abbrev ran : PlanRuns (rules_under (scheme (ranged setting)) setting.settings.header worker) (resting (ranged setting) worker clock) (cold shard) (cold now) request plan.plan found.clock
   ran = shard_did setting worker clock s contents request found serves
 
-  owned : IsKeyOf shard (key_path false request.key)
+  tree : wide_in shard ≡ wide_of setting.settings.header
+  tree = shard_tree setting s contents serves.ready.mirrored seats
+
+  owned : IsKeyOf shard (key_path_in shard request.key)
   owned = (subst (λ (cs : List Content). Owns (longest_of setting.settings.header) (get_or cs 0 vacant) request.key) seats.is
       (there setting worker clock s 0 contents request found serves).own).1
 
   cold_key : HasNone request.key (hot_records seats.places)
-  cold_key = none_hot request.key seats.places
+  cold_key = none_hot shard request.key seats.places seats.in_range
       (subst (λ (cs : List Content). IsCold (hot_paths seats.places) (get_or cs 0 vacant) request.key) seats.is
       (there setting worker clock s 0 contents request found serves).cold_there)
 
   not_hot : hot_record_of request.key seats.places ≡ None
   not_hot = hot-none request.key seats.places cold_key
+
+  in_tree : (key : ℕ) → key < 2 ^ key_bits (wide_of setting.settings.header) → key < 2 ^ key_bits (wide_in shard)
+  in_tree key in_range = subst (λ (wide : Bool). key < 2 ^ key_bits wide) (sym tree) in_range
 
   waits_now : shard.stamp.epoch ≡ clock.at.epoch
   waits_now = (subst (λ (cs : List Content). AllByRecursion (IsStamped (ranged setting) clock.at.epoch) (waiting (pending (get_or cs 0 vacant)))) seats.is
@@ -79,7 +87,7 @@ module _ (setting : Setting) (worker : ℕ) (clock : Reading) (s : ℕ) (content
       contents (set contents 0 found.after) request plan.plan.answer
   shard_access = record {
     runs_so = ap (λ (commands : List Command). run (rules_under (scheme (ranged setting)) setting.settings.header worker) (resting (ranged setting) worker clock) commands) plan.logged ∙ ran.runs;
-    access = ran.access;
+    access = ran.access ∙ ap (λ (wide : Bool). access_for wide request plan.plan.answer ∷ []) tree;
     in_range = small setting worker clock s 0 contents request found serves;
     asked = asked_so request (value_found setting.settings.absent (get_or contents 0 vacant) plan.is.links request) plan.plan.answer plan.is.answer;
     own = own_shard setting s contents request.key serves.ready.mirrored seats owned;
@@ -88,10 +96,10 @@ module _ (setting : Setting) (worker : ℕ) (clock : Reading) (s : ℕ) (content
         (subst (λ (cs : List Content). held_value (cold now ∷ seats.places) key ≡ stored_after request (held_value cs) key) (sym seats.is)
         (shard_served (longest_of setting.settings.header) setting.functions.digest worker (stage_at shard seats.places clock)
         (stage_mirrors (longest_of setting.settings.header) setting.functions.digest contents clock seats)
-        setting.settings.absent request clock plan.is.links (small setting worker clock s 0 contents request found serves)
+        setting.settings.absent request clock plan.is.links (in_tree request.key (small setting worker clock s 0 contents request found serves))
         (subst (λ (cs : List Content). IsCold (hot_paths seats.places) (get_or cs 0 vacant) request.key) seats.is
         (there setting worker clock s 0 contents request found serves).cold_there)
-        (subst (λ (cs : List Content). AreLinks (get_or cs 0 vacant) request.key plan.is.links) seats.is plan.is.way) key in_range));
+        (subst (λ (cs : List Content). AreLinks (get_or cs 0 vacant) request.key plan.is.links) seats.is plan.is.way) key (in_tree key in_range)));
     behind =
         subst (λ (cs : List Content). AllByRecursion (λ (one : Stamp × Change). IsLater one.0 (held_since cs request.key)) ran.told) (sym seats.is)
         (subst (λ (at : Stamp). AllByRecursion (λ (one : Stamp × Change). IsLater one.0 at) ran.told) (sym (since_cold request.key shard seats.places not_hot))

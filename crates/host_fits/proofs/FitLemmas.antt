@@ -1,12 +1,13 @@
 -- What the host does for a request fits the machine, and is clear.
 use Rattle.std.proofs.Common.{◌≡◌, ℕ, zero, suc, Bool, true, List, [], ◌∷◌, length, get_or, set, Some, Ok, refl, sym, ◌∙◌, ap, subst}
 use Rattle.std.specs.List.{AllByRecursion}
-use Rattle.tree_keys.specs.Bits.{number_of}
+use Rattle.tree_keys.specs.Path.{IsIn, key_of}
 use Rattle.lamport_clocks.specs.declared.stamp.Stamp.{Stamp}
 use Rattle.lamport_clocks.specs.Stamp.{IsLater}
 use Rattle.lamport_clocks.specs.Reading.{Reading}
 use Rattle.record_text.specs.declared.request.Request.{Request}
 use Rattle.record_text.specs.Longest.{longest_of}
+use Rattle.record_text.specs.Tree.{wide_of}
 use Rattle.log_codec.specs.declared.command.Command.{Command}
 use Rattle.verifier_commands.specs.Change.{Change}
 use Rattle.verifier_commands.specs.declared.state.State.{State}
@@ -29,9 +30,9 @@ use Rattle.host_laws.proofs.RunLaws.{run-history}
 use Rattle.host_world.specs.Planned.{IsPlanned}
 use Rattle.host_world.specs.Seated.{IsHotPlace, SeatsMirror}
 use Rattle.host_world.proofs.PlaceLaws.{place_there}
-use Rattle.host_fits.proofs.Keeping.{Setting, IsSetting, bits_in, ranged, PlacesMirror, kept_of, front_of, frontier_in, keeping_of}
+use Rattle.host_fits.proofs.Keeping.{Setting, IsSetting, bits_in, ranged, PlacesMirror, kept_of, front_of, frontier_in, home_of, keeping_of}
 use Rattle.host_fits.proofs.EventLemmas.{touching-events, touching-none, touching-stamps}
-use Rattle.host_fits.proofs.PlaceLemmas.{home_of, home-below}
+use Rattle.host_fits.proofs.PlaceLemmas.{home-below}
 use Rattle.host_fits.proofs.ClearLemmas.{carried-clear, carried-keeps, not_after}
 use Rattle.host_fits.proofs.ServeLemmas.{Serves, planned, runs, logged, serve_deed, serve_mirrors, front}
 
@@ -46,7 +47,7 @@ all-weaker P Q weaker (one ∷ told) all = (weaker one.0 all.0, all-weaker P Q w
 clear_deed : (setting : Setting) (worker : ℕ) (from last : State) (commands : List Command) (told : Told) (s : ℕ) (old new : List Content)
     → run (rules_under (scheme (ranged setting)) setting.settings.header worker) from commands ≡ Ok (told, last)
     → ((path : List Bool) → IsCarried path (kept_of old path) (kept_of new path) (carried path told))
-    → ((path : List Bool) → (home_of (suc (bits_in setting)) path ≡ Some s → ⊥) → carried path told ≡ [])
+    → ((path : List Bool) → (home_of (wide_of setting.settings.header) (suc (bits_in setting)) path ≡ Some s → ⊥) → carried path told ≡ [])
     → AllByRecursion (λ (one : Stamp × Change). IsLater one.0 (front_of old)) told
     → AllByRecursion (λ (one : Stamp × Change). IsNotAfter one.0 (front_of new)) told
     → IsNotAfter (front_of old) (front_of new)
@@ -139,9 +140,10 @@ module _ (setting : Setting) (worker : ℕ) (clock : Reading) (s : ℕ) (content
         (subst (λ (cs : List Content). (path : List Bool) → IsCarried path (kept_of cs path) (kept_of (set contents 0 found.after) path) (carried path shard_did.told)) (sym at_shard.is)
         (subst (λ (cs : List Content). (path : List Bool) → IsCarried path (at_shard.shard.records path) (kept_of cs path) (carried path shard_did.told)) (sym shard_behind)
         shard_did.once))
-        (λ path not_home. shard_did.own path (λ below. not_home (home-below at_shard.shard.frontier path (suc (bits_in setting)) s
+        (λ path not_home. shard_did.own path (λ below. not_home (home-below (wide_of setting.settings.header) at_shard.shard.frontier path (suc (bits_in setting)) s
+        (subst (λ (cs : List Content). IsIn (wide_of setting.settings.header) (frontier_in cs)) at_shard.is serves.ready.mirrored.tree)
         (subst (λ (cs : List Content). length (frontier_in cs) ≡ suc (bits_in setting)) at_shard.is serves.ready.mirrored.levels)
-        (subst (λ (cs : List Content). number_of (frontier_in cs) ≡ s) at_shard.is serves.ready.mirrored.number) below)))
+        (subst (λ (cs : List Content). key_of (frontier_in cs) ≡ s) at_shard.is serves.ready.mirrored.number) below)))
         (subst (λ (cs : List Content). AllByRecursion (λ (one : Stamp × Change). IsLater one.0 (front_of cs)) shard_did.told) (sym at_shard.is)
         (all-weaker (IsWithin (Some (pending_shard at_shard.shard)) (Some (pending_shard shard_left))) (λ stamp. IsLater stamp at_shard.shard.stamp) (λ stamp is. is.0) shard_did.told shard_did.within))
         (subst (λ (cs : List Content). AllByRecursion (λ (one : Stamp × Change). IsNotAfter one.0 (front_of cs)) shard_did.told) (sym shard_behind)

@@ -1,5 +1,5 @@
 -- A request that is served at a hot place: its access is done where the key's value is held.
-use Rattle.std.proofs.Common.{◌≡◌, ◌⊎◌, ℕ, suc, false, List, ◌∷◌, get_or, set, Option, Some, refl, sym, ◌∙◌, ap, subst, inl, inr}
+use Rattle.std.proofs.Common.{◌≡◌, ◌⊎◌, ℕ, suc, Bool, List, ◌∷◌, get_or, set, Option, Some, refl, sym, ◌∙◌, ap, subst, inl, inr}
 use Rattle.std.specs.List.{AllByRecursion}
 use Rattle.std.proofs.lemmas.Bool.{cases_eq}
 use Rattle.tree_keys.specs.Path.{key_path}
@@ -11,8 +11,9 @@ use Rattle.record_text.specs.Longest.{longest_of}
 use Rattle.verifier_commands.specs.Change.{Change}
 use Rattle.soundness.specs.StateHistory.{rules_under}
 use Rattle.host_shard.specs.declared.content.HotRecord.{HotRecord}
-use Rattle.host_shard.specs.Content.{Content, cold, hot, vacant, pending, pending_hot}
-use Rattle.host_shard.specs.Mirrors.{IsKeyOf}
+use Rattle.host_shard.specs.Shard.{key_path_in}
+use Rattle.host_shard.specs.Content.{Content, cold, hot, vacant, hot_path, pending, pending_hot}
+use Rattle.host_shard.specs.Mirrors.{IsKeyOf, HasKeyOf}
 use Rattle.host_plan.specs.Plan.{Owns, content_after, value_found}
 use Rattle.host_plan.specs.Request.{served_hot}
 use Rattle.host_core.specs.Host.{Done, scheme, resting}
@@ -33,7 +34,7 @@ use Rattle.host_world.proofs.PlaceLaws.{place_there}
 use Rattle.host_world.proofs.SeatLaws.{stage_at, stage_mirrors}
 use Rattle.host_fits.proofs.Keeping.{Setting, ranged}
 use Rattle.host_fits.proofs.ClearLemmas.{not_after, renewing-rises}
-use Rattle.host_fits.proofs.ServeLemmas.{Serves, asked_so, open_now, planned, runs, logged, there, small, stamped}
+use Rattle.host_fits.proofs.ServeLemmas.{Serves, asked_so, open_now, planned, runs, logged, there, small, stamped, accessed}
 use Rattle.host_fits.proofs.FitLemmas.{all-weaker}
 use Rattle.host_fits.proofs.AccessLemmas.{own_shard, OneAccess, since_hot, same_since}
 
@@ -88,10 +89,15 @@ module _ (setting : Setting) (worker : ℕ) (clock : Reading) (s k : ℕ) (conte
   set_there : IsOne (hot_records places) old × (hot_record_of old.key (set places k (hot new)) ≡ Some new)
   set_there = own-set places k old new owner.1 refl apart
 
-  owned : IsKeyOf seats.shard (key_path false request.key)
-  owned = subst (λ (key : ℕ). IsKeyOf seats.shard (key_path false key)) owner.2
-      (one_of-all (λ r. IsKeyOf seats.shard (key_path false r.key)) (hot_records places) old
-      (hot_own (longest_of setting.settings.header) setting.functions.digest (stage_at seats.shard places clock) stage_there) set_there.0)
+  has_key : HasKeyOf seats.shard old
+  has_key = one_of-all (HasKeyOf seats.shard) (hot_records places) old seats.in_range set_there.0
+
+  owned : IsKeyOf seats.shard (key_path_in seats.shard request.key)
+  owned =
+      subst (λ (key : ℕ). IsKeyOf seats.shard (key_path_in seats.shard key)) owner.2
+      (subst (λ (wide : Bool). IsKeyOf seats.shard (key_path wide old.key)) has_key.tree
+      (one_of-all (λ r. IsKeyOf seats.shard (hot_path r)) (hot_records places) old
+      (hot_own (longest_of setting.settings.header) setting.functions.digest (stage_at seats.shard places clock) stage_there) set_there.0))
 
   old_since : held_since (cold seats.shard ∷ places) request.key ≡ old.stamp
   old_since = subst (λ (key : ℕ). held_since (cold seats.shard ∷ places) key ≡ old.stamp) owner.2
@@ -126,7 +132,7 @@ module _ (setting : Setting) (worker : ℕ) (clock : Reading) (s k : ℕ) (conte
       contents (set contents (suc k) found.after) request plan.plan.answer
   hot_access = record {
     runs_so = logged setting worker clock s (suc k) contents request found serves;
-    access = ran.access;
+    access = accessed setting worker clock s (suc k) contents request found serves;
     in_range = small setting worker clock s (suc k) contents request found serves;
     asked = asked_so request (value_found setting.settings.absent (get_or contents (suc k) vacant) plan.is.links request) plan.plan.answer plan.is.answer;
     own = own_shard setting s contents request.key serves.ready.mirrored seats owned;

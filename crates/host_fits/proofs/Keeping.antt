@@ -1,7 +1,6 @@
 -- What the shipped host keeps at the places of a shard, as the proofs speak of it.
-use Rattle.std.specs.Prelude.{◌≡◌, ℕ, ◌^◌, ◌<◌, ◌≤◌, ◌&&◌, nat_lt, Bool, false, List, [], ◌∷◌, length, take, IfSome, Option, Some, None, if◌then◌else◌, suc}
-use Rattle.tree_keys.specs.Bits.{number_of}
-use Rattle.tree_keys.specs.Path.{key_bits, IsIn}
+use Rattle.std.specs.Prelude.{◌≡◌, ℕ, ◌^◌, ◌<◌, ◌≤◌, ◌&&◌, nat_lt, Bool, List, [], ◌∷◌, length, take, IfSome, Option, Some, None, if◌then◌else◌, suc}
+use Rattle.tree_keys.specs.Path.{key_bits, tree_of, IsIn, key_of, same_bit}
 use Rattle.lamport_clocks.specs.declared.stamp.Stamp.{Stamp}
 use Rattle.lamport_clocks.specs.Reading.{Reading}
 use Rattle.record_hash.specs.Functions.{DigestFunctions}
@@ -39,7 +38,7 @@ bits_in setting = frontier_bits setting.settings.shards
 abbrev pub ranged : Setting → Host Content Request
 ranged setting = record (shipped_host setting.functions setting.settings setting.script) {
   owns = λ s seats seat request.
-      nat_lt request.key (2 ^ key_bits false) && is_place_of (longest_of setting.settings.header) seats seat request;
+      nat_lt request.key (2 ^ key_bits (wide_of setting.settings.header)) && is_place_of (longest_of setting.settings.header) seats seat request;
 }
 
 -- What the proofs take of its numbers: a worker at least, shards that can be set up, a cache with room for each path
@@ -47,7 +46,7 @@ ranged setting = record (shipped_host setting.functions setting.settings setting
 pub record IsSetting (setting : Setting) : Type 0 where
   pub some : 1 ≤ setting.settings.header.verifiers
   pub shards : CanSetUp setting.settings.header (bits_in setting)
-  pub room : key_bits false < setting.settings.header.cache
+  pub room : key_bits (wide_of setting.settings.header) < setting.settings.header.cache
   pub digests : GivesDigests setting.functions.digest
   pub threshold : IfSome setting.settings.hot (λ least. 0 < least)
 
@@ -86,20 +85,24 @@ frontier_in (cold shard ∷ rest) = shard.frontier
 frontier_in (hot record' ∷ rest) = []
 frontier_in (vacant ∷ rest) = []
 
--- The contents of a shard's places mirror; its frontier is a path of the header's tree, and its bits spell the shard's number; and
--- it waits since the first epoch or later.
+-- The contents of a shard's places mirror; its frontier is a path of the header's tree, and its bits behind the first spell the
+-- shard's number; and it waits since the first epoch or later.
 pub record PlacesMirror (setting : Setting) (s : ℕ) (contents : List Content) : Type 0 where
   pub mirrors : SeatsMirror (longest_of setting.settings.header) setting.functions.digest contents
   pub tree : IsIn (wide_of setting.settings.header) (frontier_in contents)
   pub levels : length (frontier_in contents) ≡ suc (bits_in setting)
-  pub number : number_of (frontier_in contents) ≡ s
+  pub number : key_of (frontier_in contents) ≡ s
   pub from_first : setting.settings.header.first ≤ (front_of contents).epoch
 
--- What the host keeps of its records: a path longer than the frontiers is of the shard whose number its first bits spell. Of
--- a path of the other tree they spell a number past those of all shards.
+-- The number of the shard below whose frontier a path lies, where frontiers of this tree have so many bits: those of the path
+-- behind the first spell it. A path that is no longer, or of the other tree, is of none.
+abbrev pub home_of : Bool → ℕ → List Bool → Option ℕ
+home_of wide bits path = if same_bit (tree_of path) wide && nat_lt bits (length path) then Some (key_of (take bits path)) else None
+
+-- What the host keeps of its records.
 abbrev pub keeping_of : Setting → Keeping Content
 keeping_of setting = record {
-  home = λ path. if nat_lt (suc (bits_in setting)) (length path) then Some (number_of (take (suc (bits_in setting)) path)) else None;
+  home = λ path. home_of (wide_of setting.settings.header) (suc (bits_in setting)) path;
   kept = λ s contents path. kept_of contents path;
   front = front_of;
 }

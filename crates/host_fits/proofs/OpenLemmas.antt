@@ -1,15 +1,13 @@
 -- The setup fits, and is clear.
-use Rattle.std.proofs.Common.{◌≡◌, ℕ, zero, suc, ◌+◌, ◌*◌, ◌^◌, ◌<◌, ◌≤◌, Bool, true, false, List, [], ◌∷◌, ◌++◌, length, take, map, replicate, get_or, nat_lt, Some, None, if◌then◌else◌, refl, sym, ◌∙◌, ap, subst, arith}
+use Rattle.std.proofs.Common.{◌≡◌, ℕ, zero, suc, ◌+◌, ◌*◌, ◌^◌, ◌<◌, ◌≤◌, Bool, true, false, List, [], ◌∷◌, ◌++◌, length, map, replicate, get_or, Some, None, if◌then◌else◌, refl, sym, ◌∙◌, ap, subst, arith}
 use Rattle.std.specs.Prelude.{◌==◌}
 use Rattle.std.specs.Option.{option_or}
 use Rattle.std.specs.List.{AllByRecursion, flat_map}
 use Rattle.std.proofs.lemmas.List.{length-append}
 use Rattle.std.proofs.lemmas.List.Concat.{flat_map-append}
 use Rattle.std.proofs.lemmas.Bool.Decides.{nat_tests}
-use Rattle.std.proofs.lemmas.Option.{none-some}
 use Rattle.std.proofs.Math.Nat.{pow-suc}
-use Rattle.tree_keys.specs.Bits.{number_of}
-use Rattle.tree_keys.specs.Path.{same_path, depth, root_of, IsIn}
+use Rattle.tree_keys.specs.Path.{same_path, depth, key_of, root_of, IsIn}
 use Rattle.tree_keys.proofs.TreeLaws.{in-child, length-in}
 use Rattle.lamport_clocks.specs.declared.stamp.Stamp.{Stamp}
 use Rattle.lamport_clocks.specs.Clock.{opening_reading}
@@ -34,24 +32,24 @@ use Rattle.host_laws.specs.Running.{Told, Access, IsHistory}
 use Rattle.host_laws.specs.Carried.{carrying, carried}
 use Rattle.host_laws.specs.Served.{waiting}
 use Rattle.host_laws.specs.SettingUp.{IsNew, SetupRuns, set_up_state}
-use Rattle.host_laws.proofs.NumberLaws.{number_of-child, count_first, count_between}
+use Rattle.host_laws.proofs.NumberLaws.{number_of-none, key_of-child, count_first, count_between}
 use Rattle.host_laws.proofs.RunLaws.{run-history}
 use Rattle.host_laws.proofs.SetUpLaws.{setup_runs}
 use Rattle.host_laws.proofs.FirstLaws.{new_mirrors}
 use Rattle.host_laws.proofs.DepthLaws.{node_in}
 use Rattle.host_world.specs.ShippedHost.{hot_places, new_seats}
-use Rattle.host_fits.proofs.Keeping.{Setting, IsSetting, bits_in, ranged, PlacesMirror, kept_of}
+use Rattle.host_fits.proofs.Keeping.{Setting, IsSetting, bits_in, ranged, PlacesMirror, kept_of, home_of}
 use Rattle.host_fits.proofs.EventLemmas.{ask_of, touching-events, touching-none}
 use Rattle.host_fits.proofs.DeedLemmas.{is_deed}
-use Rattle.host_fits.proofs.PlaceLemmas.{home_of, waiting_behind}
+use Rattle.host_fits.proofs.PlaceLemmas.{waiting_behind, home_longer}
 
 -- ---- the numbers of frontiers
 
--- these paths are of one tree and have so many bits, and these spell numbers one behind another from this one on
+-- these paths are of one tree and have so many bits, and those behind the first spell numbers one behind another from this one on
 abbrev AreNumbered : Bool → ℕ → ℕ → List (List Bool) → Type 0
 AreNumbered wide bits number [] = Unit {0}
 AreNumbered wide bits number (path ∷ paths) =
-    IsIn wide path × (number_of path ≡ number) × (length path ≡ bits) × AreNumbered wide bits (suc number) paths
+    IsIn wide path × (key_of path ≡ number) × (length path ≡ bits) × AreNumbered wide bits (suc number) paths
 
 numbered-append : (wide : Bool) (bits number : ℕ) (xs ys : List (List Bool)) → AreNumbered wide bits number xs → AreNumbered wide bits (number + length xs) ys
     → AreNumbered wide bits number (xs ++ ys)
@@ -65,26 +63,18 @@ count_below (suc levels) path =
     omega (arith, length-append (paths_below levels (child path false)) (paths_below levels (child path true)), count_below levels (child path false), count_below levels (child path true), pow-suc 2 levels)
 
 numbered_below : (wide : Bool) (levels bits : ℕ) (path : List Bool) → IsIn wide path → length path + levels ≡ bits
-    → AreNumbered wide bits (number_of path * 2 ^ levels) (paths_below levels path)
+    → AreNumbered wide bits (key_of path * 2 ^ levels) (paths_below levels path)
 numbered_below wide zero bits path within short = (within, omega arith, omega (arith, short), tt)
 numbered_below wide (suc levels) bits path within short =
-    let one = number_of-child path false in
-    let two = number_of-child path true in
-    let middle = count_between (number_of path) (number_of (child path false)) (number_of (child path true)) (2 ^ levels) one two in
-    let start = count_first (number_of path) (number_of (child path false)) (2 ^ levels) levels one refl in
-    numbered-append wide bits (number_of path * 2 ^ suc levels) (paths_below levels (child path false)) (paths_below levels (child path true))
+    let one = key_of-child wide path false within in
+    let two = key_of-child wide path true within in
+    let middle = count_between (key_of path) (key_of (child path false)) (key_of (child path true)) (2 ^ levels) one two in
+    let start = count_first (key_of path) (key_of (child path false)) (2 ^ levels) levels one refl in
+    numbered-append wide bits (key_of path * 2 ^ suc levels) (paths_below levels (child path false)) (paths_below levels (child path true))
     (subst (λ (n : ℕ). AreNumbered wide bits n (paths_below levels (child path false))) start
     (numbered_below wide levels bits (child path false) (in-child wide path false within) (omega (arith, length-append path (false ∷ []), short))))
     (subst (λ (n : ℕ). AreNumbered wide bits n (paths_below levels (child path true))) (omega (arith, middle, start, count_below levels (child path false)))
     (numbered_below wide levels bits (child path true) (in-child wide path true within) (omega (arith, length-append path (true ∷ []), short))))
-
--- the root, whose bit spells nothing
-abbrev root : List Bool
-root = root_of false
-
-number_of-root : number_of root ≡ 0
-unfolding number_of
-number_of-root = refl
 
 -- what is longer lies deeper
 longer-deeper : (path : List Bool) (bits : ℕ) → suc bits < length path → bits < depth path
@@ -99,6 +89,10 @@ module _ (setting : Setting) (is_setting : IsSetting setting) where
 
   abbrev first : ℕ
   first = setting.settings.header.first
+
+  -- the root of its tree
+  abbrev root : List Bool
+  root = root_of (wide_of setting.settings.header)
 
   abbrev after_of : List (List Bool) → List (List Content)
   after_of frontiers = map new_seats (first_contents first frontiers)
@@ -132,8 +126,8 @@ module _ (setting : Setting) (is_setting : IsSetting setting) where
 
   pub setup_mirrored : (s : ℕ) → s < length (ranged setting).setup.after → PlacesMirror setting s (get_or (ranged setting).setup.after s [])
   setup_mirrored s within =
-      subst (λ (n : ℕ). PlacesMirror setting n (get_or (ranged setting).setup.after s [])) (ap (λ (n : ℕ). n * 2 ^ bits_in setting + s) number_of-root ∙ omega arith)
-      (new_places (paths_below (bits_in setting) root) (number_of root * 2 ^ bits_in setting) (numbered_below (wide_of setting.settings.header) (bits_in setting) (suc (bits_in setting)) root refl (omega arith)) s within)
+      subst (λ (n : ℕ). PlacesMirror setting n (get_or (ranged setting).setup.after s [])) (ap (λ (n : ℕ). n * 2 ^ bits_in setting + s) number_of-none ∙ omega arith)
+      (new_places (paths_below (bits_in setting) root) (key_of root * 2 ^ bits_in setting) (numbered_below (wide_of setting.settings.header) (bits_in setting) (suc (bits_in setting)) root refl (omega arith)) s within)
 
   -- what waits there
   waits_first : (frontiers : List (List Bool)) → pending_of (ranged setting) (flat_map (λ contents. contents) (after_of frontiers))
@@ -217,15 +211,11 @@ module _ (setting : Setting) (is_setting : IsSetting setting) where
   none_kept (frontier ∷ frontiers) zero path = refl
   none_kept (frontier ∷ frontiers) (suc s) path = none_kept frontiers s path
 
-  pub setup_apart : (path : List Bool) (s : ℕ) → home_of (suc (bits_in setting)) path ≡ Some s → (touching path events ≡ []) × (kept_of (get_or (ranged setting).setup.after s []) path ≡ None)
+  pub setup_apart : (path : List Bool) (s : ℕ) → home_of (wide_of setting.settings.header) (suc (bits_in setting)) path ≡ Some s → (touching path events ≡ []) × (kept_of (get_or (ranged setting).setup.after s []) path ≡ None)
   setup_apart path s home = (
     ap (λ (es : List Event). touching path es) (history.events 0 0) ∙ touching-none path 0 0 ran.told (ran.apart path (longer-deeper path (bits_in setting) longer)),
     none_kept (paths_below (bits_in setting) root) s path,
   )
     where
       longer : suc (bits_in setting) < length path
-      longer = go (nat_lt (suc (bits_in setting)) (length path)) refl home
-        where
-          go : (b : Bool) → nat_lt (suc (bits_in setting)) (length path) ≡ b → (if b then Some (number_of (take (suc (bits_in setting)) path)) else None) ≡ Some s → suc (bits_in setting) < length path
-          go true long is = grind (arith, nat_tests)
-          go false short is = absurd (none-some s is)
+      longer = home_longer (wide_of setting.settings.header) path (suc (bits_in setting)) s home

@@ -3,18 +3,31 @@ use Rattle.std.proofs.Common.{◌≡◌, ◌⊎◌, ℕ, zero, suc, ◌<◌, ◌
 use Rattle.std.specs.Prelude.{◌&&◌}
 use Rattle.std.specs.List.{AllByRecursion, flat_map}
 use Rattle.std.proofs.lemmas.List.{length-take}
-use Rattle.std.proofs.lemmas.Bool.{false≢true}
+use Rattle.std.proofs.lemmas.Bool.{false≢true, ltb-true}
 use Rattle.std.proofs.lemmas.Bool.Decides.{nat_tests}
 use Rattle.std.proofs.lemmas.Option.{none-some, same_Some}
 use Rattle.tree_keys.specs.Bits.{bits_of, number_of}
-use Rattle.tree_keys.specs.Path.{side, IsBelow}
+use Rattle.tree_keys.specs.Path.{tree_of, IsIn, key_of, same_bit, side, IsBelow}
 use Rattle.tree_keys.proofs.BitsLaws.{bits_of-number_of}
 use Rattle.tree_keys.proofs.PathLaws.{is_prefix-take, is_prefix-true}
 use Rattle.tree_keys.proofs.SideLaws.{prefix_cases, prefix_of_side}
+use Rattle.tree_keys.proofs.TreeLaws.{length-in, tree-in, in-below}
+use Rattle.record_text.proofs.SameTestLaws.{same_bit-true, same_bit-self}
 use Rattle.merkle_records.proofs.KindLaws.{length-side}
-use Rattle.host_shard.specs.Content.{vacant, pending}
+use Rattle.record_text.specs.Longest.{longest_of}
+use Rattle.record_text.specs.Tree.{wide_of}
+use Rattle.merkle_records.specs.Merkle.{Digest}
+use Rattle.host_shard.specs.Shard.{wide_in}
+use Rattle.host_shard.specs.Content.{Content, cold, hot, vacant, wide_at, pending}
+use Rattle.host_shard.specs.Mirrors.{HasKeyOf}
+use Rattle.host_plan.specs.Plan.{Owns}
 use Rattle.host_laws.specs.Served.{waiting}
 use Rattle.host_core.specs.Host.{Done}
+use Rattle.protection_moves.specs.Stage.{hot_records}
+use Rattle.move_laws.proofs.PlaceLaws.{one_of-all}
+use Rattle.host_world.specs.Seated.{IsHotPlace, SeatsMirror}
+use Rattle.host_world.proofs.PlaceLaws.{hot_there, place_there}
+use Rattle.host_fits.proofs.Keeping.{Setting, PlacesMirror, frontier_in, home_of}
 
 -- what is said of each is said of each so
 pub all-each : {A : Type 0} (P Q : A → Type 0) → ((x : A) → P x → Q x) → (xs : List A) → AllByRecursion P xs → AllByRecursion Q xs
@@ -65,49 +78,104 @@ pub waiting_behind : (seats : ℕ) → flat_map (λ content. waiting (pending co
 waiting_behind zero = refl
 waiting_behind (suc seats) = waiting_behind seats
 
+-- ---- the tree of a shard
+
+-- it is the header's
+pub shard_tree : (setting : Setting) (s : ℕ) (contents : List Content) → PlacesMirror setting s contents
+    → (mirrors : SeatsMirror (longest_of setting.settings.header) setting.functions.digest contents) → wide_in mirrors.shard ≡ wide_of setting.settings.header
+shard_tree setting s contents places mirrors =
+    tree-in (wide_of setting.settings.header) mirrors.shard.frontier
+    (subst (λ (cs : List Content). IsIn (wide_of setting.settings.header) (frontier_in cs)) mirrors.is places.tree)
+
+-- and so is that of each content of its places that owns a key
+pub owner_tree : (longest : ℕ) (digest : Digest) (contents : List Content) (mirrors : SeatsMirror longest digest contents) (seat key : ℕ)
+    → Owns longest (get_or contents seat vacant) key → wide_at (get_or contents seat vacant) ≡ wide_in mirrors.shard
+owner_tree longest digest contents mirrors seat key own =
+    subst (λ (cs : List Content). wide_at (get_or cs seat vacant) ≡ wide_in mirrors.shard) (sym mirrors.is)
+    (go seat (subst (λ (cs : List Content). Owns longest (get_or cs seat vacant) key) mirrors.is own))
+  where
+    at_place : (k : ℕ) (content : Content) → get_or mirrors.places k vacant ≡ content → IsHotPlace content → Owns longest content key → wide_at content ≡ wide_in mirrors.shard
+    at_place k (cold shard) there alone own = absurd alone
+    at_place k (hot found) there alone own =
+        (one_of-all (HasKeyOf mirrors.shard) (hot_records mirrors.places) found mirrors.in_range (hot_there mirrors.places k found there)).tree
+    at_place k vacant there alone own = absurd own
+
+    go : (seat : ℕ) → Owns longest (get_or (cold mirrors.shard ∷ mirrors.places) seat vacant) key
+        → wide_at (get_or (cold mirrors.shard ∷ mirrors.places) seat vacant) ≡ wide_in mirrors.shard
+    go zero own = refl
+    go (suc k) own = at_place k (get_or mirrors.places k vacant) refl (place_there mirrors.places k mirrors.hot_alone) own
+
 -- ---- the paths of a shard
 
--- the number of the shard below whose frontier a path lies
-abbrev pub home_of : ℕ → List Bool → Option ℕ
-home_of bits path = if nat_lt bits (length path) then Some (number_of (take bits path)) else None
-
 -- a path below a frontier is its shard's
-pub home-below : (frontier path : List Bool) (bits s : ℕ) → length frontier ≡ bits → number_of frontier ≡ s → IsBelow frontier path → home_of bits path ≡ Some s
-home-below frontier path bits s levels number below = go (side frontier path) refl below
+pub home-below : (wide : Bool) (frontier path : List Bool) (bits s : ℕ) → IsIn wide frontier → length frontier ≡ bits → key_of frontier ≡ s → IsBelow frontier path
+    → home_of wide bits path ≡ Some s
+home-below wide frontier path bits s within levels number below = go (side frontier path) refl below
   where
-    go : (o : Option Bool) → side frontier path ≡ o → IsSome o → home_of bits path ≡ Some s
+    go : (o : Option Bool) → side frontier path ≡ o → IsSome o → home_of wide bits path ≡ Some s
     go None is some = absurd (false≢true some)
     go (Some on) is some =
         let longer = length-side frontier path on is in
         let test : nat_lt bits (length path) ≡ true = grind (arith, nat_tests) in
+        let tree : tree_of path ≡ wide = tree-in wide path (in-below wide frontier path on within is) in
         let front : take bits path ≡ frontier =
         subst (λ (n : ℕ). take n path ≡ frontier) levels (is_prefix-true frontier path (prefix_of_side frontier path on is)) in
-        ap (λ (b : Bool). if b then Some (number_of (take bits path)) else None) test
-        ∙ ap (λ (n : ℕ). Some n) (ap number_of front ∙ number)
+        ap (λ (b : Bool). if same_bit b wide && nat_lt bits (length path) then Some (key_of (take bits path)) else None) tree
+        ∙ (ap (λ (b : Bool). if b && nat_lt bits (length path) then Some (key_of (take bits path)) else None) (same_bit-self wide)
+        ∙ (ap (λ (b : Bool). if b then Some (key_of (take bits path)) else None) test
+        ∙ ap (λ (n : ℕ). Some n) (ap key_of front ∙ number)))
+
+-- a path that is a shard's is longer than a frontier, and of its tree
+pub home_tests : (wide : Bool) (path : List Bool) (bits s : ℕ) → home_of wide bits path ≡ Some s
+    → (tree_of path ≡ wide) × (nat_lt bits (length path) ≡ true) × (key_of (take bits path) ≡ s)
+home_tests wide path bits s is = go (same_bit (tree_of path) wide && nat_lt bits (length path)) refl is
+  where
+    go : (b : Bool) → (same_bit (tree_of path) wide && nat_lt bits (length path)) ≡ b → (if b then Some (key_of (take bits path)) else None) ≡ Some s
+        → (tree_of path ≡ wide) × (nat_lt bits (length path) ≡ true) × (key_of (take bits path) ≡ s)
+    go true tests is =
+        let each = both (same_bit (tree_of path) wide) (nat_lt bits (length path)) tests in
+        (same_bit-true (tree_of path) wide each.0, each.1, same_Some (key_of (take bits path)) s is)
+    go false short is = absurd (none-some s is)
+
+pub home_longer : (wide : Bool) (path : List Bool) (bits s : ℕ) → home_of wide bits path ≡ Some s → bits < length path
+home_longer wide path bits s is = ltb-true bits (length path) (home_tests wide path bits s is).1
 
 -- and no other path is
-pub below-home : (frontier path : List Bool) (bits s : ℕ) → length frontier ≡ bits → number_of frontier ≡ s → home_of bits path ≡ Some s → IsBelow frontier path
-below-home frontier path bits s levels number is = go (nat_lt bits (length path)) refl is
+pub below-home : (wide : Bool) (frontier path : List Bool) (bits s : ℕ) → IsIn wide frontier → length frontier ≡ bits → key_of frontier ≡ s
+    → home_of wide bits path ≡ Some s → IsBelow frontier path
+below-home wide frontier path bits s within levels number is =
+    behind (prefix_cases frontier path (is_prefix-take frontier path (sym one)))
   where
-    longer : nat_lt bits (length path) ≡ true → number_of (take bits path) ≡ s → IsBelow frontier path
-    longer long same = go (prefix_cases frontier path (is_prefix-take frontier path (subst (λ (n : ℕ). take n path ≡ frontier) (sym levels) front)))
-      where
-        long_path : bits < length path
-        long_path = grind (arith, nat_tests)
+    tests : (tree_of path ≡ wide) × (nat_lt bits (length path) ≡ true) × (key_of (take bits path) ≡ s)
+    tests = home_tests wide path bits s is
 
-        count : length (take bits path) ≡ bits
-        count = omega (arith, length-take bits path, long_path)
+    longer : bits < length path
+    longer = home_longer wide path bits s is
 
-        front : take bits path ≡ frontier
-        front =
-            sym (bits_of-number_of (take bits path))
-            ∙ (ap (λ (n : ℕ). bits_of n (number_of (take bits path))) (count ∙ sym levels)
-            ∙ (ap (λ (n : ℕ). bits_of (length frontier) n) (same ∙ sym number) ∙ bits_of-number_of frontier))
+    -- the first bits of a path of a tree are a path of it
+    of_tree : (p : List Bool) (n : ℕ) → tree_of p ≡ wide → 0 < n → tree_of (take n p) ≡ wide
+    of_tree [] zero tree some = tree
+    of_tree [] (suc n) tree some = tree
+    of_tree (first ∷ p) zero tree some = absurd (omega (arith, some))
+    of_tree (first ∷ p) (suc n) tree some = tree
 
-        go : (frontier ≡ path) ⊎ ((on : Bool) × (side frontier path ≡ Some on)) → IsBelow frontier path
-        go (inl whole) = absurd (omega (arith, ap (λ (p : List Bool). length p) whole, levels, long_path))
-        go (inr under) = ap (λ (o : Option Bool). is_some o) under.1
+    -- paths of one tree that have as many bits, and whose bits spell the same number, are one
+    one_path : (p k : List Bool) → IsIn wide p → tree_of k ≡ wide → length p ≡ length k → key_of p ≡ key_of k → p ≡ k
+    one_path [] k in_tree tree count same = absurd in_tree
+    one_path (first ∷ p) [] in_tree tree count same = absurd (omega (arith, count))
+    one_path (first ∷ p) (second ∷ k) in_tree tree count same =
+        ap (λ (b : Bool). b ∷ p) (in_tree ∙ sym tree)
+        ∙ ap (λ (bits : List Bool). second ∷ bits)
+        (sym (bits_of-number_of p)
+        ∙ (ap (λ (n : ℕ). bits_of n (number_of p)) (omega (arith, count))
+        ∙ (ap (λ (n : ℕ). bits_of (length k) n) same ∙ bits_of-number_of k)))
 
-    go : (b : Bool) → nat_lt bits (length path) ≡ b → (if b then Some (number_of (take bits path)) else None) ≡ Some s → IsBelow frontier path
-    go true long is = longer long (same_Some (number_of (take bits path)) s is)
-    go false short is = absurd (none-some s is)
+    one : frontier ≡ take (length frontier) path
+    one =
+        subst (λ (n : ℕ). frontier ≡ take n path) (sym levels)
+        (one_path frontier (take bits path) within (of_tree path bits tests.0 (omega (arith, levels, length-in wide frontier within)))
+        (omega (arith, levels, length-take bits path, longer)) (number ∙ sym tests.2))
+
+    behind : (frontier ≡ path) ⊎ ((on : Bool) × (side frontier path ≡ Some on)) → IsBelow frontier path
+    behind (inl whole) = absurd (omega (arith, ap (λ (p : List Bool). length p) whole, levels, longer))
+    behind (inr under) = ap (λ (o : Option Bool). is_some o) under.1

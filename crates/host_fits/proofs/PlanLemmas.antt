@@ -1,6 +1,5 @@
 -- A plan is what the host does for its request.
-use Rattle.std.proofs.Common.{◌≡◌, ℕ, ◌≤◌, false, List, Some, None, sym, ◌∙◌, ap}
-use Rattle.tree_keys.specs.Path.{key_path}
+use Rattle.std.proofs.Common.{◌≡◌, ℕ, ◌≤◌, List, Some, None, sym, ◌∙◌, ap}
 use Rattle.lamport_clocks.specs.Reading.{Reading}
 use Rattle.record_hash.specs.Functions.{DigestFunctions}
 use Rattle.record_text.specs.declared.request.Request.{Request}
@@ -9,6 +8,7 @@ use Rattle.log_codec.specs.declared.command.Command.{Command}
 use Rattle.merkle_records.specs.Merkle.{Digest}
 use Rattle.script_text.specs.declared.task.Task.{Task}
 use Rattle.host_shard.specs.declared.link.Link.{Link}
+use Rattle.host_shard.specs.Shard.{key_path_in}
 use Rattle.host_shard.specs.Content.{Content, cold, hot, vacant}
 use Rattle.host_plan.specs.Plan.{CanServe, AreLinks, IsPastEnd, IsPlan, commands_of, content_after, clock_after}
 use Rattle.host_plan.specs.declared.plans.Plan.{Plan}
@@ -23,7 +23,7 @@ use Rattle.host_fits.proofs.PlaceLemmas.{past_none, within_some}
 -- the links to a key that a content serves are one list
 links_are : (longest : ℕ) (digest : Digest) (content : Content) (key : ℕ) (links : List Link) → CanServe longest digest content key
     → AreLinks content key links → links ≡ links_of content key
-links_are longest digest (cold shard) key links can way = shard_chain_is longest shard (key_path false key) can.fits can.own links way
+links_are longest digest (cold shard) key links can way = shard_chain_is longest shard (key_path_in shard key) can.fits can.own links way
 links_are longest digest (hot found) key links can way = way
 links_are longest digest vacant key links can way = absurd can
 

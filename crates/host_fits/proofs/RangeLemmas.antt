@@ -2,8 +2,10 @@
 use Rattle.std.proofs.Common.{◌≡◌, ℕ, ◌^◌, Bool, List, [], ◌∷◌, refl, sym, ◌∙◌, ap, subst}
 use Rattle.std.specs.Prelude.{◌&&◌}
 use Rattle.std.proofs.lemmas.Bool.{lt-ltb}
+use Rattle.tree_keys.specs.Path.{key_bits}
 use Rattle.record_hash.specs.Functions.{DigestFunctions}
 use Rattle.record_text.specs.declared.request.Request.{Request}
+use Rattle.record_text.specs.Tree.{wide_of}
 use Rattle.script_text.specs.declared.task.Task.{Task}
 use Rattle.host_shard.specs.Content.{Content}
 use Rattle.host_core.specs.Host.{Host}
@@ -15,7 +17,7 @@ use Rattle.host_world.specs.Behind.{AreInRange}
 use Rattle.host_world.proofs.RangeLaws.{next_in_range}
 use Rattle.host_fits.proofs.Keeping.{setting_of, ranged}
 
-module _ (functions : DigestFunctions) (settings : Settings) (script : List (List Task)) (keys : AreInRange script) where
+module _ (functions : DigestFunctions) (settings : Settings) (script : List (List Task)) (keys : AreInRange settings.header script) where
   abbrev host : Host Content Request
   host = shipped_host functions settings script
 
@@ -50,7 +52,7 @@ module _ (functions : DigestFunctions) (settings : Settings) (script : List (Lis
     there = may.there;
     holds = may.holds;
     next = may.next;
-    owns = ap (λ (b : Bool). b && host.owns place.shard (shard_at world place.shard).contents place.seat request) (lt-ltb request.key (2 ^ 64) (next_in_range functions settings script keys world i request may.next)) ∙ may.owns;
+    owns = ap (λ (b : Bool). b && host.owns place.shard (shard_at world place.shard).contents place.seat request) (lt-ltb request.key (2 ^ key_bits (wide_of settings.header)) (next_in_range functions settings script keys world i request may.next)) ∙ may.owns;
   }
   enabled world (gives i place) may = record { serving = serving world i may.serving; holds = may.holds }
   enabled world (advances i) may = record { going = may.going; there = may.there; through = may.through; turns = may.turns }

@@ -2,8 +2,7 @@
 use Rattle.std.proofs.Common.{◌≡◌, ℕ, suc, ◌<◌, ◌≤◌, Bool, true, false, List, [], ◌∷◌, map, length, nat_lt, Some, refl, sym, ◌∙◌, ap, subst, arith}
 use Rattle.std.specs.List.{AllByRecursion}
 use Rattle.std.proofs.lemmas.Bool.Decides.{nat_tests}
-use Rattle.tree_keys.specs.Bits.{number_of}
-use Rattle.tree_keys.specs.Path.{IsIn}
+use Rattle.tree_keys.specs.Path.{key_bits, IsIn, key_of}
 use Rattle.lamport_clocks.specs.Reading.{Reading}
 use Rattle.lamport_clocks.specs.Clock.{is_open}
 use Rattle.record_text.specs.declared.element.Element.{Element}
@@ -31,11 +30,11 @@ use Rattle.move_laws.proofs.DeedLaws.{move_deed, clear_move}
 use Rattle.move_laws.proofs.MoveLaws.{move_runs, move_typed}
 use Rattle.move_laws.proofs.DescentLaws.{each-end, each-frontier}
 use Rattle.host_world.specs.Planned.{IsMoved}
-use Rattle.host_world.specs.Seated.{SeatsMirror, IsHotPlace, waiting_at}
+use Rattle.host_world.specs.Seated.{SeatsMirror, IsHotPlace, wide_among, waiting_at}
 use Rattle.host_world.proofs.PlaceLaws.{waits-hot, hot-moved}
 use Rattle.host_world.proofs.SeatLaws.{stage_at, stage_mirrors, MoveKeeps, move_keeps, seats_moved}
 use Rattle.host_fits.proofs.Keeping.{Setting, IsSetting, bits_in, ranged, PlacesMirror, front_of, frontier_in, keeping_of}
-use Rattle.host_fits.proofs.PlaceLemmas.{all-each, home-below}
+use Rattle.host_fits.proofs.PlaceLemmas.{all-each, shard_tree, home-below}
 use Rattle.host_fits.proofs.ServeLemmas.{bare_at_rest}
 
 open_before : (clock : Reading) (first epoch stamp : ℕ) → clock.first ≡ first → clock.at.epoch ≡ suc epoch → stamp ≡ epoch → first ≤ epoch → is_open clock stamp ≡ true
@@ -81,7 +80,7 @@ module _ (setting : Setting) (worker epoch : ℕ) (clock : Reading) (s : ℕ) (c
   moved_so : IsMoved digest worker setting.settings.hot old found
   moved_so = seats_moved longest digest worker setting.settings.hot clock contents found moves.settled.digests moves.settled.threshold mirrors moves.is
 
-  keeps : MoveKeeps longest digest worker clock found
+  keeps : MoveKeeps longest (wide_among contents) digest worker clock found
   keeps = move_keeps longest digest worker setting.settings.hot clock contents found moves.settled.digests moves.settled.threshold mirrors moves.is
 
   abbrev new : Stage
@@ -104,7 +103,7 @@ module _ (setting : Setting) (worker epoch : ℕ) (clock : Reading) (s : ℕ) (c
   can : CanMove rules cache setting.settings.hot old
   can = record {
     bare = bare_at_rest setting worker;
-    room = moves.settled.room;
+    room = subst (λ (w : Bool). key_bits w < setting.settings.header.cache) (sym (shard_tree setting s contents moves.ready.mirrored mirrors)) moves.settled.room;
     takable = all-each (IsStamped (ranged setting) epoch) (IsTakable rules clock)
         (λ element is. (is.0, open_before clock setting.settings.header.first epoch element.stamp.epoch moves.ready.is_clock.first moves.turned is.1 from_first))
         (waiting_in old) stamped;
@@ -177,7 +176,7 @@ module _ (setting : Setting) (worker epoch : ℕ) (clock : Reading) (s : ℕ) (c
     mirrors = keeps.mirrors;
     tree = subst (IsIn (wide_of setting.settings.header)) (sym frontier_new) moves.ready.mirrored.tree;
     levels = ap (λ (path : List Bool). length path) frontier_new ∙ moves.ready.mirrored.levels;
-    number = ap number_of frontier_new ∙ moves.ready.mirrored.number;
+    number = ap key_of frontier_new ∙ moves.ready.mirrored.number;
     from_first = subst (λ (cs : List Content). setting.settings.header.first ≤ (front_of cs).epoch) (sym moved_so.after)
         (subst (λ (n : ℕ). setting.settings.header.first ≤ n) (sym since) (omega (arith, from_first, moves.turned)));
   }
@@ -188,13 +187,13 @@ module _ (setting : Setting) (worker epoch : ℕ) (clock : Reading) (s : ℕ) (c
   levels : length mirrors.shard.frontier ≡ suc (bits_in setting)
   levels = subst (λ (cs : List Content). length (frontier_in cs) ≡ suc (bits_in setting)) mirrors.is moves.ready.mirrored.levels
 
-  number : number_of mirrors.shard.frontier ≡ s
-  number = subst (λ (cs : List Content). number_of (frontier_in cs) ≡ s) mirrors.is moves.ready.mirrored.number
+  number : key_of mirrors.shard.frontier ≡ s
+  number = subst (λ (cs : List Content). key_of (frontier_in cs) ≡ s) mirrors.is moves.ready.mirrored.number
 
   clear_there : IsClearDeed (PlacesMirror setting) (keeping_of setting) (ranged setting) worker (resting (ranged setting) worker clock) found.commands s
       (cold mirrors.shard ∷ mirrors.places) (cold new.shard ∷ new.places)
   clear_there = record {
-    apart = λ index path not_home. clears.apart worker index path (λ below. not_home (home-below mirrors.shard.frontier path (suc (bits_in setting)) s levels number below));
+    apart = λ index path not_home. clears.apart worker index path (λ below. not_home (home-below (wide_of setting.settings.header) mirrors.shard.frontier path (suc (bits_in setting)) s tree levels number below));
     clear = λ index path last home kept. clears.clear worker index path last kept;
     keeps = λ index path last home kept. clears.keeps worker index path last kept;
     behind = λ index path. clears.behind worker index path;

@@ -5,8 +5,7 @@ use Rattle.std.specs.List.{AllByRecursion}
 use Rattle.std.proofs.lemmas.Bool.{ltb-true}
 use Rattle.std.proofs.lemmas.Bool.Decides.{nat_tests}
 use Rattle.soundness.specs.Typed.{IsPathTypedIn}
-use Rattle.tree_keys.specs.Bits.{number_of}
-use Rattle.tree_keys.specs.Path.{key_bits, root_of, IsIn}
+use Rattle.tree_keys.specs.Path.{key_bits, root_of, IsIn, key_of}
 use Rattle.tree_keys.proofs.TreeLaws.{key_of-path}
 use Rattle.lamport_clocks.specs.declared.stamp.Stamp.{Stamp}
 use Rattle.lamport_clocks.specs.Reading.{Reading}
@@ -27,28 +26,28 @@ use Rattle.verifier_commands.specs.Transition.{Rules, is_root}
 use Rattle.soundness.specs.StateHistory.{rules_under}
 use Rattle.host_shard.specs.declared.link.Link.{Link}
 use Rattle.host_shard.specs.Shard.{Shard, pending_shard}
-use Rattle.host_shard.specs.Content.{Content, cold, hot, vacant, pending}
+use Rattle.host_shard.specs.Content.{Content, cold, hot, vacant, wide_at, pending}
 use Rattle.host_plan.specs.Request.{value_after}
 use Rattle.host_plan.specs.Plan.{IsOpenAt, clock_after, content_after, value_found}
 use Rattle.host_core.specs.Host.{Done, scheme, resting}
 use Rattle.host_core.specs.Deeds.{IsStamped, IsClock, IsReady, IsDeed}
 use Rattle.host_core.specs.Clear.{IsNotAfter}
-use Rattle.host_laws.specs.Running.{Access, run}
+use Rattle.host_laws.specs.Running.{Access, run, accesses_told}
 use Rattle.host_laws.specs.Served.{IsBare, CanTake, PlanRuns, access_for, waiting}
 use Rattle.host_laws.specs.SettingUp.{set_up_root}
 use Rattle.host_laws.proofs.RequestLaws.{plan_runs}
 use Rattle.host_laws.proofs.MirrorLaws.{mirrors_serve, plan_typed}
 use Rattle.protection_moves.specs.Stage.{hot_paths}
 use Rattle.host_world.specs.Planned.{IsPlanned}
-use Rattle.host_world.specs.Seated.{SeatsMirror, waiting_at}
+use Rattle.host_world.specs.Seated.{SeatsMirror, wide_among, waiting_at}
 use Rattle.host_world.specs.ShippedHost.{is_place_of, told, resting_cache}
 use Rattle.host_world.proofs.PlaceLaws.{waits_there}
 use Rattle.host_world.proofs.PlannedLaws.{served_is_planned}
-use Rattle.host_world.proofs.SeatLaws.{SeatServes, seat_serves, ServeKeeps, serve_keeps}
+use Rattle.host_world.proofs.SeatLaws.{tree_is, SeatServes, seat_serves, ServeKeeps, serve_keeps}
 use Rattle.host_fits.proofs.Keeping.{Setting, IsSetting, PlacesMirror, bits_in, served_at, ranged, frontier_in, front_of}
 use Rattle.host_fits.proofs.EventLemmas.{ask_of}
 use Rattle.host_fits.proofs.DeedLemmas.{is_deed}
-use Rattle.host_fits.proofs.PlaceLemmas.{all-each, both, done_within}
+use Rattle.host_fits.proofs.PlaceLemmas.{all-each, both, done_within, shard_tree, owner_tree}
 use Rattle.host_fits.proofs.ClearLemmas.{renewing-rises}
 
 -- ---- requests
@@ -70,7 +69,7 @@ bare_if false root is = inl refl
 
 pub bare_at_rest : (setting : Setting) (worker : ℕ) → IsBare (resting_cache setting.functions setting.settings.header (bits_in setting) worker).entries
 bare_at_rest setting worker =
-    bare_if (worker == 0) (new_entry (root_of false) (values.Node (set_up_root setting.functions.digest (bits_in setting))) Root) refl
+    bare_if (worker == 0) (new_entry (root_of (wide_of setting.settings.header)) (values.Node (set_up_root setting.functions.digest (wide_of setting.settings.header) (bits_in setting))) Root) refl
 
 pub open_now : (clock : Reading) (epoch : ℕ) → epoch ≡ clock.at.epoch → is_open clock epoch ≡ true
 open_now clock epoch same = grind (arith, nat_tests)
@@ -132,20 +131,31 @@ module _ (setting : Setting) (worker : ℕ) (clock : Reading) (s seat : ℕ) (co
   abbrev hot_keys : List (List Bool)
   hot_keys = hot_paths mirrors.places
 
-  range : (nat_lt request.key (2 ^ key_bits false) ≡ true) × (is_place_of longest contents seat request ≡ true)
-  range = both (nat_lt request.key (2 ^ key_bits false)) (is_place_of longest contents seat request) serves.owns
+  abbrev wide : Bool
+  wide = wide_of setting.settings.header
 
-  pub small : request.key < 2 ^ key_bits false
-  small = ltb-true request.key (2 ^ key_bits false) range.0
+  range : (nat_lt request.key (2 ^ key_bits wide) ≡ true) × (is_place_of longest contents seat request ≡ true)
+  range = both (nat_lt request.key (2 ^ key_bits wide)) (is_place_of longest contents seat request) serves.owns
+
+  pub small : request.key < 2 ^ key_bits wide
+  small = ltb-true request.key (2 ^ key_bits wide) range.0
+
+  small_among : request.key < 2 ^ key_bits (wide_among contents)
+  small_among = subst (λ (w : Bool). request.key < 2 ^ key_bits w)
+      (sym (tree_is contents mirrors ∙ shard_tree setting s contents serves.ready.mirrored mirrors)) small
 
   pub there : SeatServes longest digest hot_keys content request
-  there = seat_serves longest digest contents mirrors seat request small range.1
+  there = seat_serves longest digest contents mirrors seat request small_among range.1
+
+  -- the content is of the header's tree
+  pub tree_there : wide_at content ≡ wide
+  tree_there = owner_tree longest digest contents mirrors seat request.key there.own ∙ shard_tree setting s contents serves.ready.mirrored mirrors
 
   pub planned : IsPlanned setting.settings.absent digest worker clock content request found
   planned = served_is_planned setting.settings.absent longest digest worker clock content request found there.own serves.is
 
   keeps : ServeKeeps longest digest worker clock contents seat found
-  keeps = serve_keeps setting.settings.absent longest digest worker clock contents seat request found serves.settled.digests mirrors small range.1 serves.is
+  keeps = serve_keeps setting.settings.absent longest digest worker clock contents seat request found serves.settled.digests mirrors small_among range.1 serves.is
 
   counters : (clock_after content clock).at.counter ≤ clock.end
   counters = (done_within clock.end (clock_after content clock).at.counter (served_at setting worker clock content request) found serves.is).1
@@ -162,7 +172,7 @@ module _ (setting : Setting) (worker : ℕ) (clock : Reading) (s seat : ℕ) (co
   can = record {
     rest = record {
       bare = bare_at_rest setting worker;
-      room = serves.settled.room;
+      room = subst (λ (w : Bool). key_bits w < setting.settings.header.cache) (sym tree_there) serves.settled.room;
       known = λ element is. (of_waiting (IsStamped (ranged setting) clock.at.epoch) (pending content) element stamped is).0;
       open_epoch = opens content stamped;
     };
@@ -188,9 +198,13 @@ module _ (setting : Setting) (worker : ℕ) (clock : Reading) (s seat : ℕ) (co
       (λ element is. (subst (λ (n : ℕ). n < setting.settings.header.verifiers) (sym is.0) serves.ready.known, is.1 ∙ sym keeps.same_epoch.epoch))
       (waiting (pending found.after)) keeps.waits
 
-  asked : map (ask_of clock.at.epoch) (access_for request planned.plan.answer ∷ []) ≡ (clock.at.epoch, told request) ∷ []
+  -- its access is in the header's tree
+  pub accessed : accesses_told runs.told ≡ access_for wide request planned.plan.answer ∷ []
+  accessed = runs.access ∙ ap (λ (w : Bool). access_for w request planned.plan.answer ∷ []) tree_there
+
+  asked : map (ask_of clock.at.epoch) (access_for wide request planned.plan.answer ∷ []) ≡ (clock.at.epoch, told request) ∷ []
   asked =
-      ap asks (ap (λ (k : ℕ). record { put = request.put; key = k; value = if request.put then planned.plan.answer else None }) (key_of-path false request.key small)
+      ap asks (ap (λ (k : ℕ). record { put = request.put; key = k; value = if request.put then planned.plan.answer else None }) (key_of-path wide request.key small)
       ∙ ap (λ (v : Option (List ℕ)). record { put = request.put; key = request.key; value = v }) (asked_so request (value_found setting.settings.absent content planned.is.links request) planned.plan.answer planned.is.answer))
     where
       asks : Request → List (ℕ × Request)
@@ -200,14 +214,15 @@ module _ (setting : Setting) (worker : ℕ) (clock : Reading) (s seat : ℕ) (co
   serve_deed =
       is_deed (ranged setting) worker (resting (ranged setting) worker clock) found.commands runs.told found.clock (content ∷ []) (found.after ∷ []) ((clock.at.epoch, told request) ∷ [])
       logged
-      (subst (AllByRecursion (IsPathTypedIn (wide_of setting.settings.header) longest)) (sym planned.logged)
-      (plan_typed setting.settings.absent longest digest worker hot_keys content found.after request clock found.clock planned.plan there.fits there.mirrors there.own there.cold_there planned.is))
+      (subst (AllByRecursion (IsPathTypedIn wide longest)) (sym planned.logged)
+      (subst (λ (w : Bool). AllByRecursion (IsPathTypedIn w longest) planned.plan.commands) tree_there
+      (plan_typed setting.settings.absent longest digest worker hot_keys content found.after request clock found.clock planned.plan there.fits there.mirrors there.own there.cold_there planned.is)))
       (subst (IsClock (ranged setting)) (sym planned.is.clock) (clock_is content counters))
       keeps.same_epoch.epoch
       (subst (AllByRecursion (IsStamped (ranged setting) found.clock.at.epoch)) (sym (append-nil (waiting (pending found.after)))) renewed)
       (runs.added ∙ sym (append-nil (waiting (pending content))))
       (runs.evicted ∙ sym (append-nil (waiting (pending found.after))))
-      (ap (λ (xs : List Access). map (ask_of clock.at.epoch) xs) runs.access ∙ asked)
+      (ap (λ (xs : List Access). map (ask_of clock.at.epoch) xs) accessed ∙ asked)
 
   shard_stamped : IsStamped (ranged setting) clock.at.epoch (pending_shard mirrors.shard)
   shard_stamped = (subst (λ (cs : List Content). AllByRecursion (IsStamped (ranged setting) clock.at.epoch) (waiting_at cs)) mirrors.is serves.ready.stamped).0
@@ -224,7 +239,7 @@ module _ (setting : Setting) (worker : ℕ) (clock : Reading) (s seat : ℕ) (co
     mirrors = keeps.mirrors;
     tree = subst (IsIn (wide_of setting.settings.header)) (sym front.frontier) serves.ready.mirrored.tree;
     levels = ap (λ (path : List Bool). length path) front.frontier ∙ serves.ready.mirrored.levels;
-    number = ap number_of front.frontier ∙ serves.ready.mirrored.number;
+    number = ap key_of front.frontier ∙ serves.ready.mirrored.number;
     from_first = from front.since;
   }
     where

@@ -5,10 +5,11 @@ use Rattle.std.proofs.lemmas.Nat.{pow_pos}
 use Rattle.std.proofs.Math.Nat.{pow-suc}
 use Rattle.tree_keys.specs.Path.{key_bits}
 use Rattle.record_hash.specs.Functions.{DigestFunctions}
+use Rattle.record_text.specs.Tree.{wide_of}
 use Rattle.script_text.specs.declared.task.Task.{Task}
 use Rattle.host_plan.specs.Setup.{IsShardCount}
 use Rattle.host_world.specs.declared.settings.Settings.{Settings}
-use Rattle.host_world.specs.Settings.{bits_within}
+use Rattle.host_world.specs.Settings.{shipped_cache, bits_within}
 use Rattle.host_fits.specs.Promise.{CanRun}
 use Rattle.host_fits.proofs.Keeping.{IsSetting, setting_of}
 
@@ -47,17 +48,27 @@ two_shards shards is = go is.bits is.some is.power
     go zero some power = absurd (omega (arith, some))
     go (suc bits) some power = omega (arith, power, pow-suc 2 bits, pow_pos bits)
 
+-- keys of either tree have more bits than the frontiers of the most shards
+key_longer : (wide : Bool) → 10 < key_bits wide
+key_longer true = omega arith
+key_longer false = omega arith
+
+-- and the shipped caches have room for each path above a key
+cache_room : (wide : Bool) → key_bits wide < shipped_cache wide
+cache_room true = omega arith
+cache_room false = omega arith
+
 pub is_setting : (functions : DigestFunctions) (settings : Settings) (script : List (List Task)) → CanRun functions settings script
     → IsSetting (setting_of functions settings script)
 is_setting functions settings script can = record {
   some = can.in_range.header.some_verifiers;
   shards = record {
     some = bits_some 9 settings.shards two;
-    short = omega (arith, bits_most 10 settings.shards, width);
-    room = omega (arith, bits_most 10 settings.shards, can.in_range.cache);
+    short = omega (arith, bits_most 10 settings.shards, key_longer (wide_of settings.header));
+    room = omega (arith, bits_most 10 settings.shards, key_longer (wide_of settings.header), room);
     counters = omega (arith, bits_power 10 settings.shards (omega (arith, two)), can.counters);
   };
-  room = omega (arith, width, can.in_range.cache);
+  room = room;
   digests = can.digests;
   threshold = can.in_range.hot;
 }
@@ -65,5 +76,5 @@ is_setting functions settings script can = record {
     two : 2 ≤ settings.shards
     two = two_shards settings.shards can.in_range.shards
 
-    width : key_bits false ≡ 64
-    width = refl
+    room : key_bits (wide_of settings.header) < settings.header.cache
+    room = omega (arith, cache_room (wide_of settings.header), can.in_range.cache)

@@ -10,7 +10,7 @@ use Rattle.lamport_clocks.specs.declared.stamp.Stamp.{Stamp}
 use Rattle.lamport_clocks.specs.Reading.{Reading}
 use Rattle.lamport_clocks.specs.Clock.{greater_counter}
 use Rattle.lamport_clocks.proofs.ClockLaws.{greater_than_other}
-use Rattle.tree_keys.specs.Path.{is_prefix, key_path}
+use Rattle.tree_keys.specs.Path.{is_prefix}
 use Rattle.record_hash.specs.Functions.{DigestFunctions}
 use Rattle.record_text.specs.declared.element.Element.{Element}
 use Rattle.record_text.specs.declared.request.Request.{Request}
@@ -19,7 +19,7 @@ use Rattle.merkle_records.specs.Merkle.{Digest}
 use Rattle.script_text.specs.declared.task.Task.{Task}
 use Rattle.host_shard.specs.declared.link.Link.{Link}
 use Rattle.host_shard.specs.declared.content.HotRecord.{HotRecord}
-use Rattle.host_shard.specs.Shard.{pending_shard}
+use Rattle.host_shard.specs.Shard.{key_path_in, pending_shard}
 use Rattle.host_shard.specs.Content.{Content, cold, hot, vacant, pending_hot}
 use Rattle.host_plan.specs.Moments.{renewing}
 use Rattle.host_plan.specs.Request.{is_missed, served, served_hot}
@@ -150,7 +150,7 @@ module _ (functions : DigestFunctions) (settings : Settings) (script : List (Lis
   -- of the other seats it counts only whether one has the key
   serves_as : (old new : List Content) (key : ℕ) (content : Content) → list_any (is_hot_at key) new ≡ list_any (is_hot_at key) old
       → serves_key new key content ≡ serves_key old key content
-  serves_as old new key (cold shard) same = ap (λ (b : Bool). is_prefix shard.frontier (key_path false key) && not b) same
+  serves_as old new key (cold shard) same = ap (λ (b : Bool). is_prefix shard.frontier (key_path_in shard key) && not b) same
   serves_as old new key (hot found) same = refl
   serves_as old new key vacant same = refl
 

@@ -2,7 +2,7 @@
 use Rattle.std.proofs.Common.{◌≡◌, ℕ, zero, suc, ◌^◌, ◌<◌, Bool, true, false, List, [], ◌∷◌, length, map, get_or, set, Some, None, if◌then◌else◌, refl, sym, ◌∙◌, ap, subst, inl, arith}
 use Rattle.std.specs.Prelude.{◌==◌}
 use Rattle.std.specs.List.{AllByRecursion}
-use Rattle.tree_keys.specs.Path.{root_of}
+use Rattle.tree_keys.specs.Path.{key_bits, root_of}
 use Rattle.lamport_clocks.specs.declared.stamp.Stamp.{Stamp}
 use Rattle.lamport_clocks.specs.Stamp.{IsLater}
 use Rattle.lamport_clocks.specs.Reading.{Reading}
@@ -12,6 +12,7 @@ use Rattle.stamp_order.specs.Serial.{none_everywhere}
 use Rattle.record_text.specs.declared.element.Element.{Element}
 use Rattle.record_text.specs.declared.request.Request.{Request}
 use Rattle.record_text.specs.Longest.{longest_of}
+use Rattle.record_text.specs.Tree.{wide_of}
 use Rattle.soundness.specs.History.{Event}
 use Rattle.soundness.specs.StateHistory.{events_from}
 use Rattle.soundness.specs.Certified.{operations_in, order_of, certified_operations}
@@ -38,7 +39,7 @@ use Rattle.host_world.specs.ShippedHost.{shipped_host}
 use Rattle.host_fits.specs.Promise.{CanRun}
 use Rattle.host_fits.specs.Holds.{shard_of, storing_of, ContentsHold}
 use Rattle.host_fits.proofs.Keeping.{Setting, IsSetting, setting_of, bits_in, ranged, PlacesMirror}
-use Rattle.host_fits.proofs.PlaceLemmas.{all-each}
+use Rattle.host_fits.proofs.PlaceLemmas.{all-each, shard_tree}
 use Rattle.host_fits.proofs.ServeLemmas.{Serves}
 use Rattle.host_fits.proofs.RestLemmas.{rest_any}
 use Rattle.host_fits.proofs.SettingLemmas.{is_setting}
@@ -89,7 +90,7 @@ move_storing setting worker epoch clock s contents found settled ready turned is
   apart = λ index key not_home. none index key;
   stores = λ index key stored home same.
       ap (λ (events : List Event). stored_behind stored (operations_in events) key) (none index key)
-      ∙ (same ∙ sym (held_same key (home_small key (shard_of setting.settings key) s home).0));
+      ∙ (same ∙ sym (held_same key (home_small (2 ^ key_bits (wide_of setting.settings.header)) key (shard_of setting.settings key) s home).0));
   behind = λ index key home. subst (AllByRecursion (λ (event : Event). IsLater event.at (held_since contents key))) (sym (none index key)) tt;
   up_to = λ index key home. subst (AllByRecursion (λ (event : Event). IsNotAfter event.at (held_since found.after key))) (sym (none index key)) tt;
   rises = λ key home. inl (omega (arith, old_epoch key, new_epoch key, turned, fits.deed.epoch));
@@ -111,10 +112,11 @@ move_storing setting worker epoch clock s contents found settled ready turned is
     none index key =
         unanswered key (events_from (machinery (ranged setting) worker) worker index (resting (ranged setting) worker clock) found.commands) (fits.deed.answered index)
 
-    held_same : (key : ℕ) → key < 2 ^ 64 → held_value found.after key ≡ held_value contents key
+    held_same : (key : ℕ) → key < 2 ^ key_bits (wide_of setting.settings.header) → held_value found.after key ≡ held_value contents key
     held_same key in_range =
         ap (λ (cs : List Content). held_value cs key) moved_so.after
-        ∙ (move_same longest setting.functions.digest worker setting.settings.hot (stage_at mirrors.shard mirrors.places clock) moved_so.new found.commands key in_range
+        ∙ (move_same longest setting.functions.digest worker setting.settings.hot (stage_at mirrors.shard mirrors.places clock) moved_so.new found.commands key
+        (subst (λ (w : Bool). key < 2 ^ key_bits w) (sym (shard_tree setting s contents ready.mirrored mirrors)) in_range)
         settled.digests settled.threshold (stage_mirrors longest setting.functions.digest contents clock mirrors) moved_so.is
         ∙ ap (λ (cs : List Content). held_value cs key) (sym mirrors.is))
 
@@ -135,7 +137,7 @@ none_held first (frontier ∷ frontiers) (suc s) key = none_held first frontiers
 -- Whatever the host does is storing.
 pub is_storing : (setting : Setting) → IsSetting setting → IsStoring (PlacesMirror setting) (storing_of setting.settings) (ranged setting)
 is_storing setting settled = record {
-  setup_none = λ key s home. none_held setting.settings.header.first (paths_below (bits_in setting) (root_of false)) s key;
+  setup_none = λ key s home. none_held setting.settings.header.first (paths_below (bits_in setting) (root_of (wide_of setting.settings.header))) s key;
   serve = λ i clock s seat contents request done ready within owns serves.
       serve_storing setting i clock s seat contents request done (record { settled = settled; ready = ready; owns = owns; is = serves });
   move = λ i epoch clock s contents done ready turned moves. move_storing setting i epoch clock s contents done settled ready turned moves;

@@ -16,7 +16,7 @@ use Rattle.host_world.specs.Settings.{IsSettings}
 pub record CanRun (functions : DigestFunctions) (settings : Settings) (script : List (List Task)) : Type 0 where
   pub in_range : IsSettings settings
   pub counters : settings.shards ≤ settings.header.end
-  pub keys : AreInRange script
+  pub keys : AreInRange settings.header script
   pub digests : GivesDigests functions.digest
 
 -- What holds of a world of the host: no verifier refuses a command, what is answered is the front of what the script asks

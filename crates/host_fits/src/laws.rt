@@ -34,7 +34,7 @@ ghost use Rattle.host_fits.specs.Holds.{ContentsHold};
 
 /// Whatever the script, the workers, the shards, the first epoch and the counters' end: behind every list of events that
 /// are enabled from the setup on, the promise holds. It is asked that the numbers are in their ranges, that the setup's
-/// counters do not pass the end, that keys have no more than 64 bits, and that digests have 32 bytes.
+/// counters do not pass the end, that keys have no more bits than the header says, and that digests have 32 bytes.
 pub fn the_shipped_host_keeps_its_promise()
     ensures promised { (functions : DigestFunctions) (settings : Settings) (script : List (List Task)) (events : List (WorldEvent Request))
         → CanRun functions settings script
@@ -62,9 +62,8 @@ pub fn the_contents_hold_the_plain_map()
 
 /// What a script asks for line by line has keys in range, and values that are not too long for a bundle.
 pub fn scripts_ask_for_keys_in_range()
-    ensures keys { (verifiers : ℕ) (script : List (List Task)) → AreTasks verifiers script → AreInRange script }
-    ensures values { (verifiers : ℕ) (header : Header) (script : List (List Task)) → AreTasks verifiers script
-        → HaveShortValues header script }
+    ensures keys { (header : Header) (script : List (List Task)) → AreTasks header script → AreInRange header script }
+    ensures values { (header : Header) (script : List (List Task)) → AreTasks header script → HaveShortValues header script }
 {}
 
 /// A plan is what the host does for its request, and where its clock would pass the end the host does nothing.

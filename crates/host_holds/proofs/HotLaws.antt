@@ -4,27 +4,31 @@ use Rattle.std.specs.Prelude.{◌==◌}
 use Rattle.std.specs.List.{AllByRecursion, IsAmong}
 use Rattle.std.proofs.lemmas.Bool.{cases_eq, eqb-true, eq-eqb, ne_eqb}
 use Rattle.std.proofs.lemmas.Option.{none-some}
-use Rattle.tree_keys.specs.Path.{key_path}
 use Rattle.lamport_clocks.specs.Reading.{Reading}
 use Rattle.record_text.specs.declared.value.Value.{Value}
 use Rattle.host_shard.specs.declared.content.HotRecord.{HotRecord}
-use Rattle.host_shard.specs.Content.{Content, cold, hot, vacant}
+use Rattle.host_shard.specs.Content.{Content, cold, hot, vacant, hot_path}
+use Rattle.host_shard.specs.Mirrors.{HasKeyOf}
+use Rattle.host_shard.specs.Shard.{Shard, key_path_in}
 use Rattle.host_plan.specs.Moments.{renewing}
 use Rattle.protection_moves.specs.Stage.{hot_records, hot_paths, vacancies, replaced, placed}
 use Rattle.protection_moves.specs.Renewing.{renewed_record, renewed_places}
 use Rattle.move_laws.specs.Stages.{IsOne}
 use Rattle.move_laws.proofs.PlaceLaws.{HasNone, AreApart, all-are, all-map, apart-replaced, one-replaced, one_of-all}
+use Rattle.move_laws.proofs.KeyLaws.{path_in}
 use Rattle.move_laws.proofs.VacantLaws.{one-member, member-among}
 use Rattle.host_holds.specs.Holding.{hot_record_of, value_or}
 
 -- ---- whether a key is hot
 
--- a key that is none of the hot ones
-pub none_hot : (key : ℕ) (places : List Content) → (IsAmong (hot_paths places) (key_path false key) → ⊥) → HasNone key (hot_records places)
-none_hot key places cold_there =
+-- a key that is none of the hot ones, which are of the shard's tree
+pub none_hot : (shard : Shard) (key : ℕ) (places : List Content) → AllByRecursion (HasKeyOf shard) (hot_records places)
+    → (IsAmong (hot_paths places) (key_path_in shard key) → ⊥) → HasNone key (hot_records places)
+none_hot shard key places have cold_there =
     all-map (IsOne (hot_records places)) (λ found. found.key ≡ key → ⊥)
-    (λ found is same. cold_there (subst (λ (k : ℕ). IsAmong (hot_paths places) (key_path false k)) same
-    (member-among (hot_paths places) (key_path false found.key) (one-member (λ r. key_path false r.key) (hot_records places) found is))))
+    (λ found is same. cold_there (subst (IsAmong (hot_paths places))
+    (path_in shard found (one_of-all (HasKeyOf shard) (hot_records places) found have is) ∙ ap (key_path_in shard) same)
+    (member-among (hot_paths places) (hot_path found) (one-member hot_path (hot_records places) found is))))
     (hot_records places) (all-are (hot_records places))
 
 -- the first content doesn't tell

@@ -64,6 +64,11 @@ in-above wide (true ∷ p) (false ∷ k) some begins within = absurd (false≢tr
 in-above wide (false ∷ p) (true ∷ k) some begins within = absurd (false≢true begins)
 in-above wide (false ∷ p) (false ∷ k) some begins within = within
 
+-- a key has bits
+pub some_bits : (wide : Bool) → 0 < key_bits wide
+some_bits true = omega arith
+some_bits false = omega arith
+
 -- bits lead to a key
 pub key_deep : (wide : Bool) (key : ℕ) → 0 < depth (key_path wide key)
 key_deep true key = omega (arith, key_path-data true key)

@@ -60,38 +60,38 @@ change_by request at hold found =
 abbrev pub told_request : Request → List Bool → Hold → Value → Reading → Told
 told_request request at hold found clock = (clock.at, change_by request at hold found) ∷ []
 
--- the access of a request that finds this value
-abbrev pub access_by : Request → Value → Access
-access_by request found = record { put = request.put; path = key_path false request.key; value = value_after request found }
+-- the access of a request for a key of a tree that finds this value
+abbrev pub access_by : Bool → Request → Value → Access
+access_by wide request found = record { put = request.put; path = key_path wide request.key; value = value_after request found }
 
 -- what it is to stand at the end of a chain
-pub record IsEnd (rules : Rules) (at : List Bool) (found : Value) (clock : Reading) (request : Request) (hold : Hold) : Type 0 where
-  pub works : Works rules 0 at hold found clock (command_of request found ∷ []) (told_request request at hold found clock) (value_after request found) clock
+pub record IsEnd (rules : Rules) (wide : Bool) (at : List Bool) (found : Value) (clock : Reading) (request : Request) (hold : Hold) : Type 0 where
+  pub works : Works rules 0 at hold found clock (command_of wide request found ∷ []) (told_request request at hold found clock) (value_after request found) clock
   pub added : added_told (told_request request at hold found clock) ≡ []
   pub evicted : evicted_told (told_request request at hold found clock) ≡ []
-  pub accesses : accesses_told (told_request request at hold found clock) ≡ access_by request found ∷ []
+  pub accesses : accesses_told (told_request request at hold found clock) ≡ access_by wide request found ∷ []
   pub carried_none : (path : List Bool) → carried path (told_request request at hold found clock) ≡ []
 
 -- A request works at its key.
-works_parts : (rules : Rules) (found : Value) (clock : Reading) (put : Bool) (key : ℕ) (value : Option (List ℕ)) (hold : Hold)
-    → IsData (key_path false key)
-    → IsEnd rules (key_path false key) found clock (record { put = put; key = key; value = value }) hold
-works_parts rules found clock true key value hold whole = record {
-  works = works_put rules (key_path false key) hold found (values.Blob value) clock whole;
+works_parts : (rules : Rules) (wide : Bool) (found : Value) (clock : Reading) (put : Bool) (key : ℕ) (value : Option (List ℕ)) (hold : Hold)
+    → IsData (key_path wide key)
+    → IsEnd rules wide (key_path wide key) found clock (record { put = put; key = key; value = value }) hold
+works_parts rules wide found clock true key value hold whole = record {
+  works = works_put rules (key_path wide key) hold found (values.Blob value) clock whole;
   added = refl;
   evicted = refl;
   accesses = refl;
   carried_none = λ path. refl;
 }
-works_parts rules found clock false key value hold whole = record {
-  works = works_get rules (key_path false key) hold found clock whole;
+works_parts rules wide found clock false key value hold whole = record {
+  works = works_get rules (key_path wide key) hold found clock whole;
   added = refl;
   evicted = refl;
   accesses = refl;
   carried_none = λ path. refl;
 }
 
-pub works_request : (rules : Rules) (found : Value) (clock : Reading) (request : Request) (hold : Hold)
-    → IsData (key_path false request.key)
-    → IsEnd rules (key_path false request.key) found clock request hold
-works_request rules found clock request hold whole = works_parts rules found clock request.put request.key request.value hold whole
+pub works_request : (rules : Rules) (wide : Bool) (found : Value) (clock : Reading) (request : Request) (hold : Hold)
+    → IsData (key_path wide request.key)
+    → IsEnd rules wide (key_path wide request.key) found clock request hold
+works_request rules wide found clock request hold whole = works_parts rules wide found clock request.put request.key request.value hold whole

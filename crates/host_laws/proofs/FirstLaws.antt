@@ -79,12 +79,12 @@ first_mirror wide longest digest first (suc levels) path within below short =
     (first_mirror wide longest digest first levels (child path true) (in-child wide path true within) (omega (arith, far)) (omega (arith, far, short))))
 
 -- all shards of a setup mirror
-pub contents_mirror : (longest : ℕ) (digest : Digest) (first bits : ℕ) → 0 < bits → bits < key_bits false
-    → AllByRecursion (ContentMirrors longest digest []) (setup_contents first bits)
-contents_mirror longest digest first zero some short = absurd (omega arith)
-contents_mirror longest digest first (suc levels) some short =
+pub contents_mirror : (longest : ℕ) (digest : Digest) (wide : Bool) (first bits : ℕ) → 0 < bits → bits < key_bits wide
+    → AllByRecursion (ContentMirrors longest digest []) (setup_contents wide first bits)
+contents_mirror longest digest wide first zero some short = absurd (omega arith)
+contents_mirror longest digest wide first (suc levels) some short =
     subst (AllByRecursion (ContentMirrors longest digest []))
-    (sym (first_contents-append first (paths_below levels (child (root_of false) false)) (paths_below levels (child (root_of false) true))))
-    (all-append (ContentMirrors longest digest []) (first_contents first (paths_below levels (child (root_of false) false))) _
-    (first_mirror false longest digest first levels (child (root_of false) false) refl (omega arith) (omega (arith, short)))
-    (first_mirror false longest digest first levels (child (root_of false) true) refl (omega arith) (omega (arith, short))))
+    (sym (first_contents-append first (paths_below levels (child (root_of wide) false)) (paths_below levels (child (root_of wide) true))))
+    (all-append (ContentMirrors longest digest []) (first_contents first (paths_below levels (child (root_of wide) false))) _
+    (first_mirror wide longest digest first levels (child (root_of wide) false) refl (omega arith) (omega (arith, short)))
+    (first_mirror wide longest digest first levels (child (root_of wide) true) refl (omega arith) (omega (arith, short))))

@@ -18,8 +18,8 @@ use Rattle.soundness.specs.Typed.{IsPathTypedIn}
 use Rattle.host_shard.specs.declared.link.Link.{Link}
 use Rattle.host_shard.specs.Tree.{Tree, pointer_of}
 use Rattle.host_shard.specs.Chain.{IsChain, pointer_toward, last_value, end_path, known_links, closed_records}
-use Rattle.host_shard.specs.Shard.{Shard, tree_of, one_more, touched}
-use Rattle.host_shard.specs.Content.{Content, cold, hot, vacant}
+use Rattle.host_shard.specs.Shard.{key_path_in, wide_in, Shard, tree_of, one_more, touched}
+use Rattle.host_shard.specs.Content.{wide_at, Content, cold, hot, vacant}
 use Rattle.host_shard.specs.Mirrors.{IsKeyOf}
 use Rattle.host_plan.specs.Request.{command_of, value_after, is_missed, links_known, links_gone, end_command, served}
 use Rattle.host_plan.specs.Visit.{visit}
@@ -44,19 +44,19 @@ last_kind longest digest tree key lead path value (link ∷ links) kind known ch
     last_kind longest digest tree key lead link.path link.taken links next.kind next.known chain.1
 
 -- a request leaves its key a value of its kind
-pub after_kind : (longest : ℕ) (request : Request) (found : Value) → IsBlob longest request.value → IsData (key_path false request.key)
-    → IsOf longest (key_path false request.key) found → IsOf longest (key_path false request.key) (value_after request found)
-after_kind longest request found fits whole kind = go request.put
+pub after_kind : (longest : ℕ) (wide : Bool) (request : Request) (found : Value) → IsBlob longest request.value → IsData (key_path wide request.key)
+    → IsOf longest (key_path wide request.key) found → IsOf longest (key_path wide request.key) (value_after request found)
+after_kind longest wide request found fits whole kind = go request.put
   where
-    go : (b : Bool) → IsOf longest (key_path false request.key) (if b then values.Blob request.value else found)
+    go : (b : Bool) → IsOf longest (key_path wide request.key) (if b then values.Blob request.value else found)
     go true = (whole, fits)
     go false = kind
 
 -- The shard mirrors again once it served a request, with the same keys hot.
 pub served_mirrors : (longest : ℕ) (digest : Digest) (worker : ℕ) (shard : Shard) (hot_keys : List (List Bool)) (links : List Link) (request : Request) (clock : Reading) (missed : Bool)
-    → GivesDigests digest → IsBlob longest request.value → IsMirrored longest digest shard hot_keys → IsKeyOf shard (key_path false request.key)
-    → (IsAmong hot_keys (key_path false request.key) → ⊥)
-    → IsChain (tree_of shard) (key_path false request.key) shard.frontier shard.value links
+    → GivesDigests digest → IsBlob longest request.value → IsMirrored longest digest shard hot_keys → IsKeyOf shard (key_path_in shard request.key)
+    → (IsAmong hot_keys (key_path_in shard request.key) → ⊥)
+    → IsChain (tree_of shard) (key_path_in shard request.key) shard.frontier shard.value links
     → IsMirrored longest digest (served digest worker shard links request clock missed) hot_keys
 served_mirrors longest digest worker shard hot_keys links request clock true digests fits_blob mirrored own not_hot chain = record {
   fits = record {
@@ -95,7 +95,7 @@ served_mirrors longest digest worker shard hot_keys links request clock false di
     })
   where
     key : List Bool
-    key = key_path false request.key
+    key = key_path_in shard request.key
 
     tree : Tree
     tree = tree_of shard
@@ -117,7 +117,7 @@ served_mirrors longest digest worker shard hot_keys links request clock false di
 
     kind_last : IsOf longest key last
     kind_last =
-        after_kind longest request (last_value shard.value links) fits_blob own.whole
+        after_kind longest (wide_in shard) request (last_value shard.value links) fits_blob own.whole
         (last_kind longest digest tree key lead shard.frontier shard.value links kind (frontier_of shard) chain)
 
     bare : (on : Bool) → pointer_of last on ≡ None
@@ -169,11 +169,11 @@ mirrors_serve longest digest hot_keys vacant key mirrored owns not_hot = absurd 
 
 -- ---- the trees and the kinds of what is logged
 
-command_typed : (longest : ℕ) (request : Request) (found : Value) → IsBlob longest request.value → IsPathTypedIn false longest (command_of request found)
-command_typed longest request found fits = go request.put
+command_typed : (wide : Bool) (longest : ℕ) (request : Request) (found : Value) → IsBlob longest request.value → IsPathTypedIn wide longest (command_of wide request found)
+command_typed wide longest request found fits = go request.put
   where
-    go : (b : Bool) → IsPathTypedIn false longest (if b then Put (key_path false request.key) (values.Blob request.value) else Get (key_path false request.key) found)
-    go true = (refl, (key_path-data false request.key, fits))
+    go : (b : Bool) → IsPathTypedIn wide longest (if b then Put (key_path wide request.key) (values.Blob request.value) else Get (key_path wide request.key) found)
+    go true = (refl, (key_path-data wide request.key, fits))
     go false = (refl, tt)
 
 visit_typed : (wide : Bool) (longest : ℕ) (digest : Digest) (tree : Tree) (key : List Bool) → LeadTo longest digest tree key
@@ -225,20 +225,23 @@ known_in wide longest digest tree key lead path value (link ∷ links) within ki
     go rest true = rest
     go rest false = within
 
--- The paths that a plan's commands name are of one tree, and the values that they bring in are of their paths' kinds.
+-- The paths that a plan's commands name are of the tree of its content, and the values that they bring in are of their paths' kinds.
 pub plan_typed : (absent : Bool) (longest : ℕ) (digest : Digest) (worker : ℕ) (hot_keys : List (List Bool)) (content after : Content) (request : Request)
     (clock later : Reading) (plan : Plan)
     → IsBlob longest request.value → ContentMirrors longest digest hot_keys content → Owns longest content request.key → IsCold hot_keys content request.key
-    → IsPlan absent digest worker content request clock plan after later → AllByRecursion (IsPathTypedIn false longest) plan.commands
+    → IsPlan absent digest worker content request clock plan after later → AllByRecursion (IsPathTypedIn (wide_at content) longest) plan.commands
 plan_typed absent longest digest worker hot_keys (cold shard) after request clock later plan fits_blob mirrored owns not_hot is =
-    subst (AllByRecursion (IsPathTypedIn false longest)) (sym is.commands) (
+    subst (AllByRecursion (IsPathTypedIn wide longest)) (sym is.commands) (
       (within, kind),
-      all-append (IsPathTypedIn false longest) (visit shard.frontier (links_gone shard is.links request missed) (end_command shard is.links request missed ∷ [])) _
+      all-append (IsPathTypedIn wide longest) (visit shard.frontier (links_gone shard is.links request missed) (end_command shard is.links request missed ∷ [])) _
           (gone_typed missed) ((within, tt), tt),
     )
   where
+    wide : Bool
+    wide = wide_in shard
+
     key : List Bool
-    key = key_path false request.key
+    key = key_path_in shard request.key
 
     lead : LeadTo longest digest (tree_of shard) key
     lead = leads longest digest shard key (record { hot = hot_keys; fits = mirrored.fits; mirrors = mirrored.mirrors; own = owns.1; cold = not_hot })
@@ -246,21 +249,21 @@ plan_typed absent longest digest worker hot_keys (cold shard) after request cloc
     kind : IsOf longest shard.frontier shard.value
     kind = mirrored.fits.kinds shard.frontier shard.value (frontier_there shard)
 
-    within : IsIn false shard.frontier
-    within = frontier_in false longest shard key owns.0 owns.1 refl
+    within : IsIn wide shard.frontier
+    within = frontier_in wide longest shard key owns.0 owns.1 refl
 
     missed : Bool
     missed = is_missed absent shard is.links request
 
-    gone_typed : (b : Bool) → AllByRecursion (IsPathTypedIn false longest) (visit shard.frontier (links_gone shard is.links request b) (end_command shard is.links request b ∷ []))
+    gone_typed : (b : Bool) → AllByRecursion (IsPathTypedIn wide longest) (visit shard.frontier (links_gone shard is.links request b) (end_command shard is.links request b ∷ []))
     gone_typed true =
-        known_typed false longest digest (tree_of shard) key lead _ (absent_typed, tt) shard.frontier shard.value is.links within kind (frontier_of shard) is.way
+        known_typed wide longest digest (tree_of shard) key lead _ (absent_typed, tt) shard.frontier shard.value is.links within kind (frontier_of shard) is.way
       where
-        absent_typed : IsPathTypedIn false longest (Absent key (end_path shard.frontier (links_known shard is.links request)))
-        absent_typed = ((refl, known_in false longest digest (tree_of shard) key lead shard.frontier shard.value is.links within kind (frontier_of shard) is.way), tt)
+        absent_typed : IsPathTypedIn wide longest (Absent key (end_path shard.frontier (links_known shard is.links request)))
+        absent_typed = ((refl, known_in wide longest digest (tree_of shard) key lead shard.frontier shard.value is.links within kind (frontier_of shard) is.way), tt)
     gone_typed false =
-        visit_typed false longest digest (tree_of shard) key lead _ (command_typed longest request _ fits_blob, tt) shard.frontier shard.value is.links within kind (frontier_of shard) is.way
+        visit_typed wide longest digest (tree_of shard) key lead _ (command_typed wide longest request _ fits_blob, tt) shard.frontier shard.value is.links within kind (frontier_of shard) is.way
 plan_typed absent longest digest worker hot_keys (hot found) after request clock later plan fits_blob mirrored owns not_hot is =
-    subst (AllByRecursion (IsPathTypedIn false longest)) (sym is.commands)
-    ((refl, (key_path-data false found.key, mirrored)), (command_typed longest request _ fits_blob, ((refl, tt), tt)))
+    subst (AllByRecursion (IsPathTypedIn found.wide longest)) (sym is.commands)
+    ((refl, (key_path-data found.wide found.key, mirrored)), (command_typed found.wide longest request _ fits_blob, ((refl, tt), tt)))
 plan_typed absent longest digest worker hot_keys vacant after request clock later plan fits_blob mirrored owns not_hot is = absurd owns

@@ -24,8 +24,8 @@ use Rattle.soundness.specs.Certified.{evicted_by}
 use Rattle.host_shard.specs.declared.link.Link.{Link}
 use Rattle.host_shard.specs.declared.content.HotRecord.{HotRecord}
 use Rattle.host_shard.specs.Chain.{IsChain, last_value, end_path, ends_new}
-use Rattle.host_shard.specs.Shard.{Shard, tree_of, pending_shard, rehashed, touched}
-use Rattle.host_shard.specs.Content.{Content, cold, hot, vacant, pending, pending_hot}
+use Rattle.host_shard.specs.Shard.{key_path_in, wide_in, Shard, tree_of, pending_shard, rehashed, touched}
+use Rattle.host_shard.specs.Content.{hot_path, Content, cold, hot, vacant, pending, pending_hot}
 use Rattle.host_plan.specs.Moments.{taking, renewing}
 use Rattle.host_plan.specs.Request.{command_of, value_after, is_missed, links_known, links_gone, value_before, end_command, gone_along, served, served_hot}
 use Rattle.host_plan.specs.Visit.{visit}
@@ -34,7 +34,7 @@ use Rattle.host_plan.specs.declared.plans.Plan.{Plan}
 use Rattle.host_laws.specs.Running.{Told, Access, run, added_told, evicted_told, accesses_told}
 use Rattle.host_laws.specs.Carried.{IsCarried, carried}
 use Rattle.host_laws.specs.Served.{IsResting, CanTake, IsWithin, waiting, kept_in, PlanRuns}
-use Rattle.host_laws.proofs.DepthLaws.{not_root, some_path, depth_in, key_deep}
+use Rattle.host_laws.proofs.DepthLaws.{not_root, some_path, depth_in, some_bits, key_deep}
 use Rattle.host_laws.proofs.ToldLaws.{added_told-append, evicted_told-append, accesses_told-append, carried-append, all-append}
 use Rattle.host_laws.proofs.EndLemmas.{IsEnd, access_by, change_by, told_request, works_request}
 use Rattle.host_laws.proofs.WorksLaws.{Works}
@@ -82,9 +82,9 @@ within_between rules element left new clock told is_taken within is_left at_cloc
     inside [] all = tt
     inside (one ∷ more) all = (subst (IsWithin (Some element) (Some left)) (sym all.0) here, inside more all.1)
 
--- the access of a request with this answer
-abbrev answered : Request → Value → List Access
-answered request value = record { put = request.put; path = key_path false request.key; value = value } ∷ []
+-- the access of a request for a key of a tree with this answer
+abbrev answered : Bool → Request → Value → List Access
+answered wide request value = record { put = request.put; path = key_path wide request.key; value = value } ∷ []
 
 -- an element alone
 abbrev handed_out : List Bool → Stamp → ℕ → Value → List Element
@@ -100,16 +100,16 @@ record Way (rules : Rules) (shard : Shard) (links : List Link) (request : Reques
       (gone_along rules.scheme.digest shard links request missed).value clock
   pub added : added_told told ≡ []
   pub evicted : evicted_told told ≡ []
-  pub accesses : accesses_told told ≡ answered request (value_after request (value_before shard links missed))
+  pub accesses : accesses_told told ≡ answered (wide_in shard) request (value_after request (value_before shard links missed))
   pub at_clock : AllByRecursion (λ (one : Stamp × Change). one.0 ≡ clock.at) told
   pub outside : (path : List Bool) → side shard.frontier path ≡ None → carried path told ≡ []
   pub once : (path : List Bool) → IsCarried path (shard.records path) ((gone_along rules.scheme.digest shard links request missed).records path) (carried path told)
 
 module _ (rules : Rules) (clock : Reading) (shard : Shard) (request : Request) (links : List Link)
-    (servable : IsServable rules.scheme.format.longest rules.scheme.digest shard (key_path false request.key))
-    (chain : IsChain (tree_of shard) (key_path false request.key) shard.frontier shard.value links) where
+    (servable : IsServable rules.scheme.format.longest rules.scheme.digest shard (key_path_in shard request.key))
+    (chain : IsChain (tree_of shard) (key_path_in shard request.key) shard.frontier shard.value links) where
   abbrev asked : List Bool
-  asked = key_path false request.key
+  asked = key_path_in shard request.key
 
   lead : LeadTo rules.scheme.format.longest rules.scheme.digest (tree_of shard) asked
   lead = leads rules.scheme.format.longest rules.scheme.digest shard asked servable
@@ -124,13 +124,13 @@ module _ (rules : Rules) (clock : Reading) (shard : Shard) (request : Request) (
   found_way : Way rules shard links request clock false
   found_way =
       let found = last_value shard.value links in
-      let did : Visited rules shard.records shard.frontier B shard.value links clock (command_of request found) (access_by request found) (value_after request found) =
-      visited rules (tree_of shard) shard.records clock request lead shard.frontier B shard.value links some kind (frontier_of shard) (frontier_based shard) chain in
+      let did : Visited rules shard.records shard.frontier B shard.value links clock (command_of (wide_in shard) request found) (access_by (wide_in shard) request found) (value_after request found) =
+      visited rules (wide_in shard) (tree_of shard) shard.records clock request lead shard.frontier B shard.value links some kind (frontier_of shard) (frontier_based shard) chain in
       let left : Shard = record (rehashed rules.scheme.digest shard links (value_after request found)) { touches = touched shard.touches asked } in
       let is : gone_along rules.scheme.digest shard links request false ≡ left = found_gone rules.scheme.format.longest rules.scheme.digest shard links request servable chain in
       record {
         told = did.told;
-        works = subst (λ (s : Shard). Works rules (length links) shard.frontier B shard.value clock (visit shard.frontier links (command_of request found ∷ [])) did.told s.value clock)
+        works = subst (λ (s : Shard). Works rules (length links) shard.frontier B shard.value clock (visit shard.frontier links (command_of (wide_in shard) request found ∷ [])) did.told s.value clock)
             (sym is) did.works;
         added = did.added;
         evicted = did.evicted;
@@ -141,7 +141,7 @@ module _ (rules : Rules) (clock : Reading) (shard : Shard) (request : Request) (
       }
 
   -- a get's answer, where its key was missed
-  get_misses : request.put ≡ false → answered request (value_after request (values.Blob None)) ≡ missed_access asked ∷ []
+  get_misses : request.put ≡ false → answered (wide_in shard) request (value_after request (values.Blob None)) ≡ missed_access asked ∷ []
   get_misses get = ap answering get
     where
       answering : Bool → List Access
@@ -177,23 +177,23 @@ module _ (rules : Rules) (clock : Reading) (shard : Shard) (request : Request) (
 
 -- the links that a request goes along are no more than the chain's
 gone_few : (shard : Shard) (links : List Link) (request : Request) (missed : Bool) → length (links_gone shard links request missed) ≤ length links
-gone_few shard links request true = known_few (key_path false request.key) shard.frontier shard.value links
+gone_few shard links request true = known_few (key_path_in shard request.key) shard.frontier shard.value links
 gone_few shard links request false = omega arith
 
 -- there is room for them
 cold_roomy : (rules : Rules) (state : State) (shard : Shard) (request : Request) (links : List Link) (missed : Bool) → IsResting rules state (cold shard)
-    → IsServable rules.scheme.format.longest rules.scheme.digest shard (key_path false request.key)
-    → IsChain (tree_of shard) (key_path false request.key) shard.frontier shard.value links
+    → IsServable rules.scheme.format.longest rules.scheme.digest shard (key_path_in shard request.key)
+    → IsChain (tree_of shard) (key_path_in shard request.key) shard.frontier shard.value links
     → suc (length state.cache.entries + length (links_gone shard links request missed)) ≤ state.cache.room
 cold_roomy rules state shard request links missed rest servable chain =
     let few = length-bare state.cache.entries rest.bare in
-    let short = chain_length rules.scheme.format.longest rules.scheme.digest (tree_of shard) (key_path false request.key)
-    (leads rules.scheme.format.longest rules.scheme.digest shard (key_path false request.key) servable) shard.frontier shard.value links
+    let short = chain_length rules.scheme.format.longest rules.scheme.digest (tree_of shard) (key_path_in shard request.key)
+    (leads rules.scheme.format.longest rules.scheme.digest shard (key_path_in shard request.key) servable) shard.frontier shard.value links
     (servable.fits.kinds shard.frontier shard.value (frontier_there shard)) (frontier_of shard) chain in
-    omega (arith, gone_few shard links request missed, depth_in shard.frontier servable.fits.below_root, servable.fits.below_root, key_path-data false request.key, rest.room)
+    omega (arith, gone_few shard links request missed, depth_in shard.frontier servable.fits.below_root, servable.fits.below_root, key_path-data (wide_in shard) request.key, rest.room)
 
 cold_runs : (absent : Bool) (rules : Rules) (state : State) (shard : Shard) (after : Content) (request : Request) (plan : Plan) (later : Reading)
-    → CanTake rules state (cold shard) → IsServable rules.scheme.format.longest rules.scheme.digest shard (key_path false request.key)
+    → CanTake rules state (cold shard) → IsServable rules.scheme.format.longest rules.scheme.digest shard (key_path_in shard request.key)
     → IsPlan absent rules.scheme.digest rules.number (cold shard) request state.clock plan after later
     → PlanRuns rules state (cold shard) after request plan later
 cold_runs absent rules state shard after request plan later can servable is = record {
@@ -208,7 +208,7 @@ cold_runs absent rules state shard after request plan later can servable is = re
       ∙ ap (λ (c : Content). waiting (pending c)) (sym is.content));
   access = accesses_told-append way.told _
       ∙ (ap (λ (xs : List Access). xs ++ []) way.accesses
-      ∙ ap (answered request) (sym is.answer));
+      ∙ ap (answered (wide_in shard) request) (sym is.answer));
   once = λ path. subst (λ (c : Content). IsCarried path (shard.records path) (kept_in c path) (carried path told)) (sym is.content)
       (subst (IsCarried path (shard.records path) (left.records path)) (sym (carried_way path)) (way.once path));
   own = λ path not_below. carried_way path ∙ way.outside path (not_there path not_below);
@@ -258,18 +258,18 @@ put_or_stay false new old = refl
 
 -- at the hot key itself
 hot_end : (rules : Rules) (clock : Reading) (found : HotRecord) (request : Request) → found.key ≡ request.key
-    → IsEnd rules (key_path false found.key) (values.Blob found.value) clock request B
+    → IsEnd rules found.wide (hot_path found) (values.Blob found.value) clock request B
 hot_end rules clock found request same =
-    subst (λ (key : ℕ). IsEnd rules (key_path false key) (values.Blob found.value) clock request B) (sym same)
-    (works_request rules (values.Blob found.value) clock request B (key_path-data false request.key))
+    subst (λ (key : ℕ). IsEnd rules found.wide (key_path found.wide key) (values.Blob found.value) clock request B) (sym same)
+    (works_request rules found.wide (values.Blob found.value) clock request B (key_path-data found.wide request.key))
 
-hot_apart : (key : ℕ) → is_root (key_path false key) ≡ false
-hot_apart key = not_root (key_path false key) (key_deep false key)
+hot_apart : (found : HotRecord) → is_root (hot_path found) ≡ false
+hot_apart found = not_root (hot_path found) (key_deep found.wide found.key)
 
 hot_roomy : (rules : Rules) (state : State) (found : HotRecord) → IsResting rules state (hot found) → suc (length state.cache.entries + 0) ≤ state.cache.room
 hot_roomy rules state found rest =
     let few = length-bare state.cache.entries rest.bare in
-    omega (arith, rest.room)
+    omega (arith, rest.room, some_bits found.wide)
 
 hot_runs : (absent : Bool) (rules : Rules) (state : State) (found : HotRecord) (after : Content) (request : Request) (plan : Plan) (later : Reading)
     → CanTake rules state (hot found) → found.key ≡ request.key
@@ -278,14 +278,14 @@ hot_runs : (absent : Bool) (rules : Rules) (state : State) (found : HotRecord) (
 hot_runs absent rules state found after request plan later can same is = record {
   told = told;
   runs = ap (λ (c : List Command). run rules state c) is.commands
-      ∙ (between_runs rules state element 0 _ inner new apart (clear-bare state.cache.entries path can.rest.bare (key_deep false found.key)) roomy
+      ∙ (between_runs rules state element 0 _ inner new apart (clear-bare state.cache.entries path can.rest.bare (key_deep found.wide found.key)) roomy
       (can.rest.known element refl) can.rest.open_epoch can.counters at_end.works
       ∙ ap (λ (r : Reading). Ok (told, record state { clock = r })) (sym is.clock));
   added = ap (λ (xs : List Element). element ∷ xs) at_end.added;
   evicted = ap (λ (xs : List Element). xs ++ handed_out path (renewing state.clock found.stamp).at rules.number new) (sym (append-nil (evicted_by (change_by request path B (values.Blob found.value)))) ∙ at_end.evicted)
       ∙ (ap (handed_out path (renewing state.clock found.stamp).at rules.number) (put_or_stay request.put request.value found.value)
       ∙ ap (λ (c : Content). waiting (pending c)) (sym is.content));
-  access = at_end.accesses ∙ ap (answered request) (sym is.answer);
+  access = at_end.accesses ∙ ap (answered found.wide request) (sym is.answer);
   once = λ k. subst (λ (c : Content). IsCarried k None (kept_in c k) (carried k told)) (sym is.content) (inl (carried_none k, refl));
   own = λ k not_below. carried_none k;
   within = subst (λ (c : Content). AllByRecursion (λ (one : Stamp × Change). IsWithin (Some element) (pending c) one.0) told) (sym is.content)
@@ -299,12 +299,12 @@ hot_runs absent rules state found after request plan later can same is = record 
     element = pending_hot found
 
     path : List Bool
-    path = key_path false found.key
+    path = hot_path found
 
     apart : is_root path ≡ false
-    apart = hot_apart found.key
+    apart = hot_apart found
 
-    at_end : IsEnd rules path (values.Blob found.value) (taking state.clock found.stamp) request B
+    at_end : IsEnd rules found.wide path (values.Blob found.value) (taking state.clock found.stamp) request B
     at_end = hot_end rules (taking state.clock found.stamp) found request same
 
     inner : Told
@@ -345,8 +345,8 @@ request_ends absent rules state (cold shard) request links rest servable way pas
     between_ends rules state (pending_shard shard) (length (links_gone shard links request missed)) _ did.told _ apart (clear-bare state.cache.entries shard.frontier rest.bare servable.fits.below_root)
     (cold_roomy rules state shard request links missed rest servable way) (rest.known (pending_shard shard) refl) rest.open_epoch past did.works
 request_ends absent rules state (hot found) request links rest same way past =
-    let apart = hot_apart found.key in
+    let apart = hot_apart found in
     let did = hot_end rules (taking state.clock found.stamp) found request same in
-    between_ends rules state (pending_hot found) 0 _ _ _ apart (clear-bare state.cache.entries (key_path false found.key) rest.bare (key_deep false found.key))
+    between_ends rules state (pending_hot found) 0 _ _ _ apart (clear-bare state.cache.entries (hot_path found) rest.bare (key_deep found.wide found.key))
     (hot_roomy rules state found rest) (rest.known (pending_hot found) refl) rest.open_epoch past did.works
 request_ends absent rules state vacant request links rest serves way past = absurd serves

@@ -14,6 +14,7 @@ use Rattle.record_text.specs.declared.value.Node.{Node}
 use Rattle.record_text.specs.declared.value.Value.{Value}
 use Rattle.record_text.specs.declared.value.Value.TheVariants as values
 use Rattle.record_text.specs.Value.{node_side, with_side, empty_node, initial_value}
+use Rattle.record_text.specs.Tree.{wide_of}
 use Rattle.log_codec.specs.declared.command.Command.{Command}
 use Rattle.log_codec.specs.declared.command.Command.TheVariants.{AddM, EvictM}
 use Rattle.merkle_records.specs.Merkle.{pointing, pointer_to, deferred_pointer}
@@ -251,19 +252,22 @@ setup_runs scheme header (suc levels) can = record {
   added = added_told-append near.told far.told ∙ (ap (λ (xs : List Element). xs ++ added_told far.told) near.added ∙ far.added);
   evicted = evicted_told-append near.told far.told
       ∙ (ap (λ (xs : List Element). xs ++ evicted_told far.told) near.evicted
-      ∙ (ap (λ (xs : List Element). waiting_all (first_contents first (paths_below levels (child (root_of false) false))) ++ xs) far.evicted
-      ∙ (sym (flat_map-append (λ (content : Content). waiting (pending content)) (first_contents first (paths_below levels (child (root_of false) false))) (first_contents first (paths_below levels (child (root_of false) true))))
-      ∙ ap (λ (contents : List Content). waiting_all contents) (sym (first_contents-append first (paths_below levels (child (root_of false) false)) (paths_below levels (child (root_of false) true)))))));
+      ∙ (ap (λ (xs : List Element). waiting_all (first_contents first (paths_below levels (child (root_of wide) false))) ++ xs) far.evicted
+      ∙ (sym (flat_map-append (λ (content : Content). waiting (pending content)) (first_contents first (paths_below levels (child (root_of wide) false))) (first_contents first (paths_below levels (child (root_of wide) true))))
+      ∙ ap (λ (contents : List Content). waiting_all contents) (sym (first_contents-append first (paths_below levels (child (root_of wide) false)) (paths_below levels (child (root_of wide) true)))))));
   accesses = accesses_told-append near.told far.told ∙ (ap (λ (xs : List _). xs ++ accesses_told far.told) near.accesses ∙ far.accesses);
   new = all-append (λ (one : Stamp × Change). IsNew one.1) near.told far.told near.new far.new;
   apart = λ k longer. carried-append k near.told far.told
       ∙ (ap (λ (changes : List Change). changes ++ carried k far.told) (near.apart k (omega (arith, longer)))
       ∙ far.apart k (omega (arith, longer)));
-  typed = all-append (IsPathTypedIn false longest) (set_up first levels (child (root_of false) false) (root_of false)) _
-      (set_up_typed false longest first levels (child (root_of false) false) (root_of false) refl refl (omega (arith, can.short)))
-      (set_up_typed false longest first levels (child (root_of false) true) (root_of false) refl refl (omega (arith, can.short)));
+  typed = all-append (IsPathTypedIn wide longest) (set_up first levels (child (root_of wide) false) (root_of wide)) _
+      (set_up_typed wide longest first levels (child (root_of wide) false) (root_of wide) refl refl (omega (arith, can.short)))
+      (set_up_typed wide longest first levels (child (root_of wide) true) (root_of wide) refl refl (omega (arith, can.short)));
 }
   where
+    wide : Bool
+    wide = wide_of header
+
     longest : ℕ
     longest = scheme.format.longest
 
@@ -273,28 +277,28 @@ setup_runs scheme header (suc levels) can = record {
     rules : Rules
     rules = rules_under scheme header 0
 
-    one : key_of (child (root_of false) false) ≡ 0
+    one : key_of (child (root_of wide) false) ≡ 0
     one = number_of-child [] false ∙ omega (arith, number_of-none)
 
-    two : key_of (child (root_of false) true) ≡ 1
+    two : key_of (child (root_of wide) true) ≡ 1
     two = number_of-child [] true ∙ omega (arith, number_of-none)
 
-    near : IsSetUp false scheme header.verifiers first header.end levels (root_of false) false empty_node Root
-    near = is_set_up false scheme header.verifiers first header.end levels (root_of false) false empty_node Root refl refl (omega (arith, can.short))
+    near : IsSetUp wide scheme header.verifiers first header.end levels (root_of wide) false empty_node Root
+    near = is_set_up wide scheme header.verifiers first header.end levels (root_of wide) false empty_node Root refl refl (omega (arith, can.short))
         (subst (λ (n : ℕ). (n + 1) * 2 ^ levels ≤ header.end) (sym one) (omega (arith, can.counters)))
 
-    far : IsSetUp false scheme header.verifiers first header.end levels (root_of false) true (with_side empty_node false (Some (set_up_pointer scheme.digest levels (child (root_of false) false)))) Root
-    far = is_set_up false scheme header.verifiers first header.end levels (root_of false) true (with_side empty_node false (Some (set_up_pointer scheme.digest levels (child (root_of false) false)))) Root refl refl (omega (arith, can.short))
+    far : IsSetUp wide scheme header.verifiers first header.end levels (root_of wide) true (with_side empty_node false (Some (set_up_pointer scheme.digest levels (child (root_of wide) false)))) Root
+    far = is_set_up wide scheme header.verifiers first header.end levels (root_of wide) true (with_side empty_node false (Some (set_up_pointer scheme.digest levels (child (root_of wide) false)))) Root refl refl (omega (arith, can.short))
         (subst (λ (n : ℕ). (n + 1) * 2 ^ levels ≤ header.end) (sym two) (omega (arith, can.counters)))
 
     told : Told
     told = near.told ++ far.told
 
-    works : Works rules (suc levels) (root_of false) Root (values.Node empty_node) (first_clock first header.end 0) (setup_commands first (suc levels)) told
-        (values.Node (set_up_root scheme.digest (suc levels))) (first_clock first header.end (2 ^ suc levels))
+    works : Works rules (suc levels) (root_of wide) Root (values.Node empty_node) (first_clock first header.end 0) (setup_commands wide first (suc levels)) told
+        (values.Node (set_up_root scheme.digest wide (suc levels))) (first_clock first header.end (2 ^ suc levels))
     works =
-        works-append rules (suc levels) (root_of false) Root (values.Node empty_node) _ (values.Node (set_up_root scheme.digest (suc levels))) _ (first_clock first header.end (1 * 2 ^ levels)) _ _ _ near.told far.told
-        (works_at rules (suc levels) (root_of false) Root (values.Node empty_node) _ first header.end _ _ 0 (1 * 2 ^ levels) _ near.told
+        works-append rules (suc levels) (root_of wide) Root (values.Node empty_node) _ (values.Node (set_up_root scheme.digest wide (suc levels))) _ (first_clock first header.end (1 * 2 ^ levels)) _ _ _ near.told far.told
+        (works_at rules (suc levels) (root_of wide) Root (values.Node empty_node) _ first header.end _ _ 0 (1 * 2 ^ levels) _ near.told
         (ap (λ (n : ℕ). n * 2 ^ levels) one ∙ omega arith) (ap (λ (n : ℕ). (n + 1) * 2 ^ levels) one) near.works)
-        (works_at rules (suc levels) (root_of false) Root _ (values.Node (set_up_root scheme.digest (suc levels))) first header.end _ _ (1 * 2 ^ levels) (2 ^ suc levels) _ far.told
+        (works_at rules (suc levels) (root_of wide) Root _ (values.Node (set_up_root scheme.digest wide (suc levels))) first header.end _ _ (1 * 2 ^ levels) (2 ^ suc levels) _ far.told
         (ap (λ (n : ℕ). n * 2 ^ levels) two) (ap (λ (n : ℕ). (n + 1) * 2 ^ levels) two ∙ omega arith) far.works)

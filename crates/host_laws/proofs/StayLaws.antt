@@ -4,7 +4,7 @@ use Rattle.std.specs.Prelude.{◌&&◌}
 use Rattle.std.proofs.Math.Path.{fun_ext}
 use Rattle.std.proofs.lemmas.Bool.{false≢true}
 use Rattle.std.proofs.lemmas.Option.{same_Some}
-use Rattle.tree_keys.specs.Path.{side, same_path, key_path}
+use Rattle.tree_keys.specs.Path.{side, same_path}
 use Rattle.tree_keys.proofs.PathLaws.{same_path-true}
 use Rattle.tree_keys.proofs.SideLaws.{side-trans}
 use Rattle.record_text.specs.declared.request.Request.{Request}
@@ -18,7 +18,7 @@ use Rattle.merkle_records.specs.Merkle.{Digest, leads_over, pointer_to}
 use Rattle.host_shard.specs.declared.link.Link.{Link}
 use Rattle.host_shard.specs.Tree.{Tree, pointer_of}
 use Rattle.host_shard.specs.Chain.{IsChain, pointer_toward, last_value, known_links, aimed, aimed_on, closed_value, closed_records}
-use Rattle.host_shard.specs.Shard.{Shard, tree_of, rehashed, touched}
+use Rattle.host_shard.specs.Shard.{key_path_in, Shard, tree_of, rehashed, touched}
 use Rattle.host_shard.specs.Mirrors.{IsKept}
 use Rattle.host_plan.specs.Request.{value_after, is_read, gone_along}
 use Rattle.host_plan.specs.Plan.{IsServable}
@@ -137,10 +137,10 @@ read_get true there is = absurd (false≢true is)
 read_get false there is = (refl, is)
 
 module _ (longest : ℕ) (digest : Digest) (shard : Shard) (links : List Link) (request : Request)
-    (can : IsServable longest digest shard (key_path false request.key))
-    (chain : IsChain (tree_of shard) (key_path false request.key) shard.frontier shard.value links) where
+    (can : IsServable longest digest shard (key_path_in shard request.key))
+    (chain : IsChain (tree_of shard) (key_path_in shard request.key) shard.frontier shard.value links) where
   abbrev key : List Bool
-  key = key_path false request.key
+  key = key_path_in shard request.key
 
   abbrev last : Value
   last = value_after request (last_value shard.value links)

@@ -181,16 +181,16 @@ module _ (rules : Rules) (tree base : Tree) (clock : Reading) (key : List Bool) 
     λ k on below. based k next.on (side-trans at link.path k next.on on next.fits.below below),
   )
 
-module _ (rules : Rules) (tree base : Tree) (clock : Reading) (request : Request)
-    (lead : LeadTo rules.scheme.format.longest rules.scheme.digest tree (key_path false request.key)) where
+module _ (rules : Rules) (wide : Bool) (tree base : Tree) (clock : Reading) (request : Request)
+    (lead : LeadTo rules.scheme.format.longest rules.scheme.digest tree (key_path wide request.key)) where
   -- the path of the key
   abbrev asked : List Bool
-  asked = key_path false request.key
+  asked = key_path wide request.key
 
   visited_end : (hold : Hold) (value : Value)
-      → Visited rules base asked hold value [] clock (command_of request value) (access_by request value) (value_after request value)
+      → Visited rules base asked hold value [] clock (command_of wide request value) (access_by wide request value) (value_after request value)
   visited_end hold value =
-      let at_end = works_request rules value clock request hold lead.whole in
+      let at_end = works_request rules wide value clock request hold lead.whole in
       record {
         told = told_request request asked hold value clock;
         works = at_end.works;
@@ -206,14 +206,14 @@ module _ (rules : Rules) (tree base : Tree) (clock : Reading) (request : Request
   pub visited : (at : List Bool) (hold : Hold) (value : Value) (links : List Link) → 0 < length at → IsOf rules.scheme.format.longest at value → AreOf tree value
       → IsBased rules tree base clock asked lead at → IsChain tree asked at value links
       → let found = last_value value links in
-      Visited rules base at hold value links clock (command_of request found) (access_by request found) (value_after request found)
+      Visited rules base at hold value links clock (command_of wide request found) (access_by wide request found) (value_after request found)
   visited at hold value [] some kind known based chain =
-      subst (λ (k : List Bool). Visited rules base k hold value [] clock (command_of request value) (access_by request value) (value_after request value)) (sym chain)
+      subst (λ (k : List Bool). Visited rules base k hold value [] clock (command_of wide request value) (access_by wide request value) (value_after request value)) (sym chain)
       (visited_end hold value)
   visited at hold value (link ∷ links) some kind known based chain =
       let found = last_value link.taken links in
       let next = next_fits rules.scheme.format.longest rules.scheme.digest tree asked lead at value link kind known chain.0 in
       let below = at_next rules tree base clock asked lead at value link next some based in
       let rest = visited link.path M link.taken links below.0 next.kind next.known below.1 chain.1 in
-      subst (λ (v : Value). Visited rules base at hold v (link ∷ links) clock (command_of request found) (access_by request found) (value_after request found)) (sym next.is_node)
-      (visited_link rules tree base clock asked lead at hold link links (command_of request found) (access_by request found) value (value_after request found) some based next rest)
+      subst (λ (v : Value). Visited rules base at hold v (link ∷ links) clock (command_of wide request found) (access_by wide request found) (value_after request found)) (sym next.is_node)
+      (visited_link rules tree base clock asked lead at hold link links (command_of wide request found) (access_by wide request found) value (value_after request found) some based next rest)

@@ -1,10 +1,9 @@
 -- A content that mirrors what the verifiers hold of it, where some keys are hot.
-use Rattle.std.specs.Prelude.{ℕ, Bool, false, List}
+use Rattle.std.specs.Prelude.{ℕ, Bool, List}
 use Rattle.std.specs.List.{IsAmong}
-use Rattle.tree_keys.specs.Path.{key_path}
 use Rattle.record_text.specs.Value.{IsBlob}
 use Rattle.merkle_records.specs.Merkle.{Digest}
-use Rattle.host_shard.specs.Shard.{Shard}
+use Rattle.host_shard.specs.Shard.{key_path_in, Shard}
 use Rattle.host_shard.specs.Content.{Content, cold, hot, vacant}
 use Rattle.host_shard.specs.Mirrors.{IsShard, Mirrors}
 
@@ -21,6 +20,6 @@ ContentMirrors longest digest hot_keys vacant = Unit {0}
 
 -- the key is none of the hot keys of the content, where that is a shard
 abbrev pub IsCold : List (List Bool) → Content → ℕ → Type 0
-IsCold hot_keys (cold shard) key = IsAmong hot_keys (key_path false key) → ⊥
+IsCold hot_keys (cold shard) key = IsAmong hot_keys (key_path_in shard key) → ⊥
 IsCold hot_keys (hot record') key = Unit {0}
 IsCold hot_keys vacant key = Unit {0}

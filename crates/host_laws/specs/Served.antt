@@ -1,5 +1,5 @@
 -- What a request's commands do to the verifier of its worker.
-use Rattle.std.specs.Prelude.{◌≡◌, ◌⊎◌, ℕ, ◌<◌, ◌≤◌, Bool, false, List, [], ◌∷◌, Option, Some, None, IsTrue, Ok}
+use Rattle.std.specs.Prelude.{◌≡◌, ◌⊎◌, ℕ, ◌<◌, ◌≤◌, Bool, List, [], ◌∷◌, Option, Some, None, IsTrue, Ok}
 use Rattle.std.specs.List.{AllByRecursion}
 use Rattle.tree_keys.specs.Path.{IsBelow, key_bits, key_path}
 use Rattle.lamport_clocks.specs.declared.stamp.Stamp.{Stamp}
@@ -12,7 +12,7 @@ use Rattle.record_text.specs.declared.value.Value.TheVariants as values
 use Rattle.verifier_cache.specs.declared.entry.Entry.{Entry}
 use Rattle.verifier_commands.specs.declared.state.State.{State}
 use Rattle.verifier_commands.specs.Transition.{Rules, is_root}
-use Rattle.host_shard.specs.Content.{Content, cold, hot, vacant, pending}
+use Rattle.host_shard.specs.Content.{wide_at, Content, cold, hot, vacant, pending}
 use Rattle.host_plan.specs.Plan.{IsOpenAt, clock_after}
 use Rattle.host_plan.specs.declared.plans.Plan.{Plan}
 use Rattle.host_laws.specs.Running.{Told, Access, run, added_told, evicted_told, accesses_told}
@@ -26,7 +26,7 @@ IsBare entries = (entries ≡ []) ⊎ ((root : Entry) × IsTrue (is_root root.pa
 -- one of the verifiers and of an open epoch.
 pub record IsResting (rules : Rules) (state : State) (content : Content) : Type 0 where
   pub bare : IsBare state.cache.entries
-  pub room : key_bits false < state.cache.room
+  pub room : key_bits (wide_at content) < state.cache.room
   pub known : (element : Element) → pending content ≡ Some element → element.verifier < rules.verifiers
   pub open_epoch : IsOpenAt state.clock content
 
@@ -62,9 +62,9 @@ IsWithin None after at = ⊥
 IsWithin (Some before) None at = ⊥
 IsWithin (Some before) (Some after) at = IsLater at before.stamp × IsFrom after.stamp at
 
--- the get or put of a request that was answered so
-abbrev pub access_for : Request → Option (List ℕ) → Access
-access_for request answer = record { put = request.put; path = key_path false request.key; value = values.Blob answer }
+-- the get or put of a request for a key of a tree that was answered so
+abbrev pub access_for : Bool → Request → Option (List ℕ) → Access
+access_for wide request answer = record { put = request.put; path = key_path wide request.key; value = values.Blob answer }
 
 -- The plan of a request runs: the verifier accepts its commands, the same entries are cached afterwards, and the clock is
 -- the plan's. They add the element with which the content waited and no other, and evict that with which the content
@@ -75,7 +75,7 @@ pub record PlanRuns (rules : Rules) (state : State) (content after : Content) (r
   pub runs : run rules state plan.commands ≡ Ok (told, record state { clock = later })
   pub added : added_told told ≡ waiting (pending content)
   pub evicted : evicted_told told ≡ waiting (pending after)
-  pub access : accesses_told told ≡ access_for request plan.answer ∷ []
+  pub access : accesses_told told ≡ access_for (wide_at content) request plan.answer ∷ []
   pub once : (path : List Bool) → IsCarried path (kept_in content path) (kept_in after path) (carried path told)
   pub own : (path : List Bool) → (IsOwned content path → ⊥) → carried path told ≡ []
   pub within : AllByRecursion (λ one. IsWithin (pending content) (pending after) one.0) told

@@ -8,6 +8,7 @@ use Rattle.record_text.specs.declared.value.Pointer.{Pointer}
 use Rattle.record_text.specs.declared.value.Node.{Node}
 use Rattle.record_text.specs.declared.value.Value.TheVariants as values
 use Rattle.record_text.specs.Value.{empty_node, initial_value}
+use Rattle.record_text.specs.Tree.{wide_of}
 use Rattle.merkle_records.specs.Merkle.{Digest, pointer_to, deferred_pointer}
 use Rattle.merkle_records.specs.Scheme.{Scheme}
 use Rattle.verifier_cache.specs.declared.entry.Hold.TheVariants.{Root}
@@ -35,12 +36,12 @@ set_up_pointer digest (suc levels) path =
       side1 = Some (set_up_pointer digest levels (child path true));
     }))
 
--- The root once 2^bits shards are set up: that of the tree whose keys have 64 bits.
-abbrev pub set_up_root : Digest → ℕ → Node
-set_up_root digest zero = empty_node
-set_up_root digest (suc levels) = record {
-  side0 = Some (set_up_pointer digest levels (child (root_of false) false));
-  side1 = Some (set_up_pointer digest levels (child (root_of false) true));
+-- The root of a tree once 2^bits shards are set up.
+abbrev pub set_up_root : Digest → Bool → ℕ → Node
+set_up_root digest wide zero = empty_node
+set_up_root digest wide (suc levels) = record {
+  side0 = Some (set_up_pointer digest levels (child (root_of wide) false));
+  side1 = Some (set_up_pointer digest levels (child (root_of wide) true));
 }
 
 -- the clock of the first epoch at this counter
@@ -50,7 +51,7 @@ first_clock first end counter = record { first = first; end = end; at = record {
 -- the state of verifier 0 once 2^bits shards are set up
 abbrev pub set_up_state : Scheme → Header → ℕ → State
 set_up_state scheme header bits = record {
-  cache = record { entries = new_entry (root_of false) (values.Node (set_up_root scheme.digest bits)) Root ∷ []; room = header.cache };
+  cache = record { entries = new_entry (root_of (wide_of header)) (values.Node (set_up_root scheme.digest (wide_of header) bits)) Root ∷ []; room = header.cache };
   clock = first_clock header.first header.end (2 ^ bits);
 }
 
@@ -69,7 +70,7 @@ IsNew (did_next_epoch sealed) = Unit {0}
 -- a counter for each.
 pub record CanSetUp (header : Header) (bits : ℕ) : Type 0 where
   pub some : 0 < bits
-  pub short : bits < key_bits false
+  pub short : bits < key_bits (wide_of header)
   pub room : bits < header.cache
   pub counters : 2 ^ bits ≤ header.end
 
@@ -77,10 +78,10 @@ pub record CanSetUp (header : Header) (bits : ℕ) : Type 0 where
 -- the shards then wait, in their order. Each path comes in as a new one, and none of them lies below a frontier.
 pub record SetupRuns (scheme : Scheme) (header : Header) (bits : ℕ) : Type 0 where
   pub told : Told
-  pub runs : run (rules_under scheme header 0) (opening 0 header) (setup_commands header.first bits) ≡ Ok (told, set_up_state scheme header bits)
+  pub runs : run (rules_under scheme header 0) (opening 0 header) (setup_commands (wide_of header) header.first bits) ≡ Ok (told, set_up_state scheme header bits)
   pub added : added_told told ≡ []
-  pub evicted : evicted_told told ≡ flat_map (λ content. waiting (pending content)) (setup_contents header.first bits)
+  pub evicted : evicted_told told ≡ flat_map (λ content. waiting (pending content)) (setup_contents (wide_of header) header.first bits)
   pub accesses : accesses_told told ≡ []
   pub new : AllByRecursion (λ one. IsNew one.1) told
   pub apart : (path : List Bool) → bits < depth path → carried path told ≡ []
-  pub typed : AllByRecursion (IsPathTypedIn false scheme.format.longest) (setup_commands header.first bits)
+  pub typed : AllByRecursion (IsPathTypedIn (wide_of header) scheme.format.longest) (setup_commands (wide_of header) header.first bits)

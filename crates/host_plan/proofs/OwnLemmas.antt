@@ -3,8 +3,7 @@ use Rattle.std.proofs.Common.{◌≡◌, ℕ, Bool, true, false, not, List, is_s
 use Rattle.std.specs.Prelude.{◌&&◌}
 use Rattle.std.proofs.lemmas.Bool.{false≢true}
 use Rattle.record_text.specs.declared.request.Request.{Request}
-use Rattle.tree_keys.specs.Path.{key_path}
-use Rattle.host_shard.specs.Shard.{Shard}
+use Rattle.host_shard.specs.Shard.{key_path_in, Shard}
 use Rattle.host_shard.specs.Mirrors.{IsShard}
 use Rattle.host_plan.specs.Request.{is_read}
 
@@ -13,8 +12,8 @@ pub other_touches : (longest : ℕ) (shard : Shard) (touches : List Bool → ℕ
 other_touches longest shard touches fits = record { below_root = fits.below_root; no_data = fits.no_data; kinds = fits.kinds }
 
 -- a key that is read has a record
-pub read_there : (shard : Shard) (request : Request) → is_read shard request ≡ true → IsSome (shard.records (key_path false request.key))
-read_there shard request is = go request.put (is_some (shard.records (key_path false request.key))) is
+pub read_there : (shard : Shard) (request : Request) → is_read shard request ≡ true → IsSome (shard.records (key_path_in shard request.key))
+read_there shard request is = go request.put (is_some (shard.records (key_path_in shard request.key))) is
   where
     go : (put there : Bool) → (not put && there) ≡ true → there ≡ true
     go true there both = absurd (false≢true both)

@@ -160,9 +160,9 @@ set_up_typed first (suc levels) path parent small some few above =
           ((own, over), tt)),
     )
 
-pub setup_typed : (first bits : ℕ) → first < 2 ^ 32 → bits ≤ 10 → AllByRecursion (IsPathCommand longest_blob) (setup_commands first bits)
-setup_typed first zero small few = tt
-setup_typed first (suc levels) small few =
-    AllByRecursion-append (IsPathCommand longest_blob) (set_up first levels (child (root_of false) false) (root_of false)) _
-    (set_up_typed first levels (child (root_of false) false) (root_of false) small (omega arith) (omega arith) (omega arith))
-    (set_up_typed first levels (child (root_of false) true) (root_of false) small (omega arith) (omega arith) (omega arith))
+pub setup_typed : (wide : Bool) (first bits : ℕ) → first < 2 ^ 32 → bits ≤ 10 → AllByRecursion (IsPathCommand longest_blob) (setup_commands wide first bits)
+setup_typed wide first zero small few = tt
+setup_typed wide first (suc levels) small few =
+    AllByRecursion-append (IsPathCommand longest_blob) (set_up first levels (child (root_of wide) false) (root_of wide)) _
+    (set_up_typed first levels (child (root_of wide) false) (root_of wide) small (omega arith) (omega arith) (omega arith))
+    (set_up_typed first levels (child (root_of wide) true) (root_of wide) small (omega arith) (omega arith) (omega arith))

@@ -17,7 +17,7 @@ use Rattle.tree_keys.proofs.TreeLaws.{data-path, node-path}
 use Rattle.host_shard.specs.declared.link.Link.{Link}
 use Rattle.host_shard.specs.Tree.{Tree}
 use Rattle.host_shard.specs.Chain.{IsChain, pointer_toward, known_links, end_path}
-use Rattle.host_shard.specs.Shard.{Shard, tree_of, rehashed}
+use Rattle.host_shard.specs.Shard.{key_path_in, Shard, tree_of, rehashed}
 use Rattle.merkle_records.specs.Merkle.{Digest, leads_over}
 use Rattle.host_shard.proofs.ChainLaws.{AreOf, IsLinkOf, next_of, closed_end}
 use Rattle.host_plan.specs.Visit.{visit, between}
@@ -127,9 +127,11 @@ absent_typed longest tree key element links stamp whole kinds kind chain added v
     (one_typed longest (Absent key (end_path element.path known)) (data-path key whole, known_end longest tree key element.path element.value links whole kinds kind chain)))
 
 -- a key of a shard has a record behind the chain to it
-pub rehashed_there : (digest : Digest) (shard now : Shard) (key : List Bool) (links : List Link) (last : Value)
-    → IsBelow shard.frontier key → IsChain (tree_of shard) key shard.frontier shard.value links → now ≡ rehashed digest shard links last
-    → IsSome (now.records key)
+pub rehashed_there : (digest : Digest) (shard now : Shard) (key : ℕ) (links : List Link) (last : Value)
+    → IsBelow shard.frontier (key_path_in shard key) → IsChain (tree_of shard) (key_path_in shard key) shard.frontier shard.value links
+    → now ≡ rehashed digest shard links last
+    → IsSome (now.records (key_path_in now key))
 rehashed_there digest shard now key links last below chain is =
-    subst (λ (s : Shard). IsSome (s.records key)) (sym is)
-    (closed_end digest false (tree_of shard) shard.records key shard.frontier shard.value links last (frontier_apart shard.frontier key below) chain)
+    let path = key_path_in shard key in
+    subst (λ (s : Shard). IsSome (s.records (key_path_in s key))) (sym is)
+    (closed_end digest false (tree_of shard) shard.records path shard.frontier shard.value links last (frontier_apart shard.frontier path below) chain)

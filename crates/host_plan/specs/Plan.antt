@@ -1,7 +1,6 @@
 -- What a plan is, and of which contents there is one.
-use Rattle.std.specs.Prelude.{◌≡◌, ℕ, ◌<◌, Bool, false, List, [], None, IsTrue}
+use Rattle.std.specs.Prelude.{◌≡◌, ℕ, ◌<◌, Bool, List, [], None, IsTrue}
 use Rattle.std.specs.List.{IsAmong}
-use Rattle.tree_keys.specs.Path.{key_path}
 use Rattle.lamport_clocks.specs.Clock.{is_open}
 use Rattle.lamport_clocks.specs.Reading.{Reading}
 use Rattle.record_text.specs.declared.request.Request.{Request}
@@ -11,7 +10,7 @@ use Rattle.log_codec.specs.declared.command.Command.{Command}
 use Rattle.merkle_records.specs.Merkle.{Digest}
 use Rattle.host_shard.specs.declared.link.Link.{Link}
 use Rattle.host_shard.specs.Chain.{IsChain}
-use Rattle.host_shard.specs.Shard.{Shard, tree_of}
+use Rattle.host_shard.specs.Shard.{Shard, key_path_in, tree_of}
 use Rattle.host_shard.specs.Content.{Content, cold, hot, vacant}
 use Rattle.host_shard.specs.Mirrors.{IsShard, IsKeyOf, Mirrors}
 use Rattle.host_plan.specs.declared.plans.Plan.{Plan}
@@ -20,7 +19,7 @@ use Rattle.host_plan.specs.Request.{is_missed, value_before, cold_commands, hot_
 
 -- The content owns the key: it is a shard below whose frontier the key lies, or the key's hot record.
 abbrev pub Owns : ℕ → Content → ℕ → Type 0
-Owns longest (cold shard) key = IsShard longest shard × IsKeyOf shard (key_path false key)
+Owns longest (cold shard) key = IsShard longest shard × IsKeyOf shard (key_path_in shard key)
 Owns longest (hot record') key = record'.key ≡ key
 Owns longest vacant key = ⊥
 
@@ -34,7 +33,7 @@ pub record IsServable (longest : ℕ) (digest : Digest) (shard : Shard) (key : L
 
 -- The content owns the key and mirrors.
 abbrev pub CanServe : ℕ → Digest → Content → ℕ → Type 0
-CanServe longest digest (cold shard) key = IsServable longest digest shard (key_path false key)
+CanServe longest digest (cold shard) key = IsServable longest digest shard (key_path_in shard key)
 CanServe longest digest (hot record') key = record'.key ≡ key
 CanServe longest digest vacant key = ⊥
 
@@ -56,7 +55,7 @@ IsPastEnd content clock = clock.end < (clock_after content clock).at.counter
 
 -- the links from what is taken in to the key: the chain in a shard, and none at a hot record
 abbrev pub AreLinks : Content → ℕ → List Link → Type 0
-AreLinks (cold shard) key links = IsChain (tree_of shard) (key_path false key) shard.frontier shard.value links
+AreLinks (cold shard) key links = IsChain (tree_of shard) (key_path_in shard key) shard.frontier shard.value links
 AreLinks (hot record') key links = links ≡ []
 AreLinks vacant key links = ⊥
 

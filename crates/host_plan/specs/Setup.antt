@@ -32,13 +32,12 @@ set_up first (suc levels) path parent =
     AddM path (initial_value path) parent
     ∷ (set_up first levels (child path false) path ++ (set_up first levels (child path true) path ++ EvictM path parent ∷ []))
 
--- The commands of the setup of 2^bits shards of the tree whose keys have 64 bits: each path to which 1 to so many bits lead
--- from the root is visited.
-abbrev pub setup_commands : ℕ → ℕ → List Command
-setup_commands first zero = []
-setup_commands first (suc levels) =
-    set_up first levels (child (root_of false) false) (root_of false)
-    ++ set_up first levels (child (root_of false) true) (root_of false)
+-- The commands of the setup of 2^bits shards of a tree: each path to which 1 to so many bits lead from its root is visited.
+abbrev pub setup_commands : Bool → ℕ → ℕ → List Command
+setup_commands wide first zero = []
+setup_commands wide first (suc levels) =
+    set_up first levels (child (root_of wide) false) (root_of wide)
+    ++ set_up first levels (child (root_of wide) true) (root_of wide)
 
 -- the paths so many levels below a path, in their order
 abbrev pub paths_below : ℕ → List Bool → List (List Bool)
@@ -53,6 +52,6 @@ first_content first frontier = cold (new_shard frontier (first_stamp first front
 abbrev pub first_contents : ℕ → List (List Bool) → List Content
 first_contents first frontiers = map (first_content first) frontiers
 
--- The contents of the 2^bits shards behind the setup, in the order of the shards.
-abbrev pub setup_contents : ℕ → ℕ → List Content
-setup_contents first bits = first_contents first (paths_below bits (root_of false))
+-- The contents of the 2^bits shards of a tree behind the setup, in the order of the shards.
+abbrev pub setup_contents : Bool → ℕ → ℕ → List Content
+setup_contents wide first bits = first_contents first (paths_below bits (root_of wide))

@@ -51,7 +51,7 @@ impl Commands {
         command: Command,
         stamp: Stamp,
     ) -> Result<Self, Memory>
-        requires few { length links.now ≤ 64 }
+        requires few { length links.now ≤ 128 }
         ensures commands { IfOk result (λ commands. commands
             ≡ between element stamp (visit element.path links.now (command ∷ []))) }
         ensures stamp { IsStamp stamp }

@@ -1,5 +1,5 @@
 //! How one request is served: `plan`.
-ghost use Rattle.std.specs.Prelude.{◌≡◌, ◌↔◌, ℕ, ◌<◌, ◌≤◌, Bool, false, List, [], ◌∷◌, length, None, IfOk, OnOk, OnErr, IsTrue, Err};
+ghost use Rattle.std.specs.Prelude.{◌≡◌, ◌↔◌, ℕ, ◌≤◌, Bool, false, List, [], ◌∷◌, length, None, IfOk, OnOk, OnErr, IsTrue, Err};
 ghost use Rattle.std.specs.List.{AllByRecursion};
 ghost use Rattle.tree_keys.specs.Path.{key_path};
 ghost use Rattle.lamport_clocks.specs.Clock.{is_open};
@@ -14,7 +14,7 @@ ghost use Rattle.merkle_records.specs.Merkle.{Digest};
 ghost use Rattle.host_shard.specs.Chain.{IsChain, last_value, end_path, known_links};
 ghost use Rattle.host_shard.specs.Content.{cold, hot};
 ghost use Rattle.host_shard.specs.Mirrors.{IsShard};
-ghost use Rattle.host_shard.specs.Shard.{tree_of, pending_shard};
+ghost use Rattle.host_shard.specs.Shard.{wide_in, key_path_in, tree_of, pending_shard};
 ghost use Rattle.host_shard.specs.Shown.{shown, shown_content};
 ghost use Rattle.host_plan.specs.declared.fault.PlanFault.TheVariants.{ClockEnd};
 ghost use Rattle.host_plan.specs.Plan.{Owns, IsOpenAt, IsPastEnd, IsPlan};
@@ -120,9 +120,9 @@ fn go_along<D: Digests>(
     absent: bool,
 ) -> Result<Plan, Memory>
     requires own { Owns longest_blob (cold (shown shard.old)) request.now.key }
-    requires chain { IsChain (tree_of (shown shard.old)) (key_path false request.now.key)
+    requires chain { IsChain (tree_of (shown shard.old)) (key_path_in (shown shard.old) request.now.key)
         shard.old.frontier shard.old.value links.now }
-    requires few { length links.now ≤ 64 }
+    requires few { length links.now ≤ 128 }
     ensures commands { let missed = is_missed absent (shown shard.old) links.now request.now in
         IfOk result (λ plan. plan.commands ≡ between (pending_shard (shown shard.old)) stamp
         (visit shard.old.frontier (links_gone (shown shard.old) links.now request.now missed)
@@ -152,23 +152,23 @@ fn misses(shard: &Shard, request: &Request, links: &[Link], absent: bool) -> boo
 fn miss(
     alloc: Global,
     shard: &Shard,
-    key: u64,
+    key: u128,
     links: &[Link],
     stamp: Stamp,
 ) -> Result<Plan, Memory>
     requires own { Owns longest_blob (cold (shown shard.now)) key }
-    requires chain { IsChain (tree_of (shown shard.now)) (key_path false key)
+    requires chain { IsChain (tree_of (shown shard.now)) (key_path_in (shown shard.now) key)
         shard.now.frontier shard.now.value links.now }
-    requires few { length links.now ≤ 64 }
-    ensures commands { let known = known_links (key_path false key) shard.now.frontier shard.now.value links.now in
+    requires few { length links.now ≤ 128 }
+    ensures commands { let known = known_links (key_path_in (shown shard.now) key) shard.now.frontier shard.now.value links.now in
         IfOk result (λ plan. plan.commands ≡ between (pending_shard (shown shard.now)) stamp
-        (visit shard.now.frontier known (Absent (key_path false key) (end_path shard.now.frontier known) ∷ []))) }
+        (visit shard.now.frontier known (Absent (key_path_in (shown shard.now) key) (end_path shard.now.frontier known) ∷ []))) }
     ensures answer { IfOk result (λ plan. plan.answer ≡ None) }
     ensures typed { IfOk result (λ plan. AllByRecursion (IsPathCommand longest_blob) plan.commands) }
 {
     let known = known_links(shard, key, links);
     let command = Command::Absent {
-        path: Path::of_key(key),
+        path: shard.path_of(key),
         parent: *end_path(&shard.frontier, known),
     };
     let commands = Commands::between(alloc, shard.pending(), known, command, stamp)?;
@@ -188,11 +188,11 @@ fn find<D: Digests>(
     stamp: Stamp,
 ) -> Result<Plan, Memory>
     requires own { Owns longest_blob (cold (shown shard.old)) request.now.key }
-    requires chain { IsChain (tree_of (shown shard.old)) (key_path false request.now.key)
+    requires chain { IsChain (tree_of (shown shard.old)) (key_path_in (shown shard.old) request.now.key)
         shard.old.frontier shard.old.value links.now }
-    requires few { length links.now ≤ 64 }
+    requires few { length links.now ≤ 128 }
     ensures commands { IfOk result (λ plan. plan.commands ≡ between (pending_shard (shown shard.old)) stamp
-        (visit shard.old.frontier links.now (command_of request.now (last_value shard.old.value links.now) ∷ []))) }
+        (visit shard.old.frontier links.now (command_of (wide_in (shown shard.old)) request.now (last_value shard.old.value links.now) ∷ []))) }
     ensures answer { IfOk result (λ plan. values.Blob plan.answer ≡ value_after request.now
         (last_value shard.old.value links.now)) }
     ensures gone { OnOk result (shown shard.new ≡ gone_along (D.functions d.now).digest
@@ -201,8 +201,9 @@ fn find<D: Digests>(
     ensures fits { OnOk result (IsShard longest_blob (shown shard.new)) }
     ensures as_before { OnErr result (shown shard.new ≡ shown shard.old) }
 {
-    let answer = answer_of(request, last_value(&shard.value, links));
-    let command = command_of(request, &answer);
+    let wide = shard.frontier.is_wide();
+    let answer = answer_of(wide, request, last_value(&shard.value, links));
+    let command = command_of(wide, request, &answer);
     let commands = Commands::between(alloc, shard.pending(), links, command, stamp)?;
     leave(d, shard, request, links, &answer)?;
     Ok(Plan { commands, answer })
@@ -218,10 +219,10 @@ fn leave<D: Digests>(
     answer: &Blob,
 ) -> Result<(), Memory>
     requires own { Owns longest_blob (cold (shown shard.old)) request.now.key }
-    requires chain { IsChain (tree_of (shown shard.old)) (key_path false request.now.key)
+    requires chain { IsChain (tree_of (shown shard.old)) (key_path_in (shown shard.old) request.now.key)
         shard.old.frontier shard.old.value links.now }
     requires answer { values.Blob answer.now ≡ value_after request.now (last_value shard.old.value links.now) }
-    requires kind { IsOf longest_blob (key_path false request.now.key) (values.Blob answer.now) }
+    requires kind { IsOf longest_blob (key_path_in (shown shard.old) request.now.key) (values.Blob answer.now) }
     ensures gone { OnOk result (shown shard.new ≡ gone_along (D.functions d.now).digest
         (shown shard.old) links.now request.now false) }
     ensures fits { OnOk result (IsShard longest_blob (shown shard.new)) }
@@ -238,7 +239,7 @@ fn leave<D: Digests>(
 fn reads(shard: &Shard, request: &Request) -> bool
     ensures read { result ≡ is_read (shown shard.now) request.now }
 {
-    !request.put && shard.records.get(&Path::of_key(request.key)).is_some()
+    !request.put && shard.records.get(&shard.path_of(request.key)).is_some()
 }
 
 // Serves a request for a hot key.
@@ -269,7 +270,7 @@ fn serve_hot(
     } else {
         kept.value.copy()
     };
-    let command = command_of(request, &answer);
+    let command = command_of(kept.wide, request, &answer);
     let commands = Commands::between(alloc, kept.pending(), &[], command, later.at())?;
     kept.value = answer.copy();
     kept.stamp = later.at();
@@ -279,9 +280,9 @@ fn serve_hot(
     Ok(Plan { commands, answer })
 }
 
-// What a request answers where the key has this value.
-fn answer_of(request: &Request, found: &Value) -> Blob
-    requires kind { IsOf longest_blob (key_path false request.now.key) found.now }
+// What a request answers where the key, which is of this tree, has this value.
+fn answer_of(wide: bool, request: &Request, found: &Value) -> Blob
+    requires kind { IsOf longest_blob (key_path wide request.now.key) found.now }
     ensures value { values.Blob result ≡ value_after request.now found.now }
 {
     if request.put {
@@ -293,14 +294,14 @@ fn answer_of(request: &Request, found: &Value) -> Blob
     }
 }
 
-// The command of a request that answers this.
-fn command_of(request: &Request, answer: &Blob) -> Command
+// The command of a request for a key of this tree that answers this.
+fn command_of(wide: bool, request: &Request, answer: &Blob) -> Command
     ensures command { (found : Value) → values.Blob answer.now ≡ value_after request.now found
-        → result ≡ command_of request.now found }
-    ensures kind { IsOf longest_blob (key_path false request.now.key) (values.Blob answer.now) }
+        → result ≡ command_of wide request.now found }
+    ensures kind { IsOf longest_blob (key_path wide request.now.key) (values.Blob answer.now) }
     ensures typed { IsPathCommand longest_blob result }
 {
-    let path = Path::of_key(request.key);
+    let path = Path::of_number(wide, request.key);
     let value = Value::Blob(answer.copy());
     if request.put {
         Command::Put { path, value }

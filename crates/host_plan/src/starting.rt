@@ -3,6 +3,7 @@ ghost use Rattle.std.specs.Prelude.{◌≡◌, ◌↔◌, ◌<◌, ◌≤◌, �
 ghost use Rattle.std.specs.List.{AllByRecursion};
 ghost use Rattle.tree_keys.specs.Path.{depth};
 ghost use Rattle.lamport_clocks.specs.Header.{IsHeader};
+ghost use Rattle.record_text.specs.Tree.{wide_of};
 ghost use Rattle.record_text.specs.Longest.{longest_blob};
 ghost use Rattle.log_codec.specs.Command.{IsPathCommand};
 ghost use Rattle.host_shard.specs.Shown.{shown_content};
@@ -15,7 +16,7 @@ use base_words::Memory;
 use host_shard::{Content, Shard};
 use lamport_clocks::{Header, Stamp};
 use log_codec::Command;
-use record_text::initial;
+use record_text::{initial, wide_of};
 use std::alloc::Global;
 use tree_keys::{Path, key_bits};
 
@@ -27,9 +28,9 @@ pub fn setup(
 ) -> Result<(Commands, Vec<Content>), SetupFault>
     requires shards { IsShardCount shards }
     ensures commands { (bits : ℕ) → shards ≡ 2 ^ bits → IfOk result (λ done.
-        done.0 ≡ setup_commands header.now.first bits) }
+        done.0 ≡ setup_commands (wide_of header.now) header.now.first bits) }
     ensures contents { (bits : ℕ) → shards ≡ 2 ^ bits → IfOk result (λ done.
-        map shown_content done.1.items ≡ setup_contents header.now.first bits) }
+        map shown_content done.1.items ≡ setup_contents (wide_of header.now) header.now.first bits) }
     ensures typed { IfOk result (λ done. AllByRecursion (IsPathCommand longest_blob) done.0) }
     ensures clock_end { (result ≡ Err ClockEnd) ↔ (header.now.end < shards) }
 {
@@ -37,19 +38,24 @@ pub fn setup(
         return Err(SetupFault::ClockEnd);
     }
     let bits = shards.ilog2() as u8;
-    Ok(all_set_up(alloc, header.first, bits)?)
+    Ok(all_set_up(alloc, wide_of(header), header.first, bits)?)
 }
 
-// The setup of the shards whose frontiers have so many bits.
-fn all_set_up(alloc: Global, first: u32, bits: u8) -> Result<(Commands, Vec<Content>), Memory>
+// The setup of the shards of a tree whose frontiers have so many bits.
+fn all_set_up(
+    alloc: Global,
+    wide: bool,
+    first: u32,
+    bits: u8,
+) -> Result<(Commands, Vec<Content>), Memory>
     requires some { 0 < bits }
     requires few { bits ≤ 10 }
-    ensures commands { IfOk result (λ done. done.0 ≡ setup_commands first bits) }
+    ensures commands { IfOk result (λ done. done.0 ≡ setup_commands wide first bits) }
     ensures contents { IfOk result (λ done. map shown_content done.1.items
-        ≡ setup_contents first bits) }
+        ≡ setup_contents wide first bits) }
     ensures typed { IfOk result (λ done. AllByRecursion (IsPathCommand longest_blob) done.0) }
 {
-    let root = Path::root();
+    let root = Path::root_of(wide);
     let mut commands = Vec::new(alloc);
     let mut contents = Vec::with_capacity(alloc, 1 << bits)?;
     set_up(

@@ -2,7 +2,7 @@
 use Rattle.std.proofs.Common.{◌≡◌, ◌≢◌, ◌⊎◌, ℕ, suc, ◌+◌, ◌-◌, ◌<◌, ◌≤◌, Bool, true, false, List, [], ◌∷◌, ◌++◌, length, Option, Some, None, IsSome, refl, sym, ◌∙◌, ap, subst, inl, inr, append_assoc, append-nil, length-append, arith}
 use Rattle.std.proofs.lemmas.Bool.{false≢true}
 use Rattle.tree_keys.specs.BitsLaws.{length-bits_of}
-use Rattle.tree_keys.specs.Path.{depth, tree_of, key_path, side, is_prefix, IsBelow, IsData}
+use Rattle.tree_keys.specs.Path.{key_bits, depth, tree_of, key_path, side, is_prefix, IsBelow, IsData}
 use Rattle.record_text.specs.declared.value.Pointer.{Pointer}
 use Rattle.record_text.specs.declared.value.Value.{Value}
 use Rattle.record_text.specs.Value.{IsSide, IsOf}
@@ -16,9 +16,9 @@ use Rattle.tree_keys.proofs.TreeLaws.{tree-in, in-prefix}
 use Rattle.merkle_records.proofs.KindLaws.{is_prefix-side, length-side}
 use Rattle.host_shard.proofs.ChainLaws.{AreOf, IsLinkOf, next_link_of, pointer_of-kind}
 
--- the path of a key of 64 bits
-pub length_of_key : (path : List Bool) (key : ℕ) → path ≡ key_path false key → length path ≡ 65
-length_of_key path key is = ap length is ∙ ap (λ (n : ℕ). suc n) (length-bits_of 64 key)
+-- the path of a key of a tree
+pub length_of_key : (wide : Bool) (path : List Bool) (key : ℕ) → path ≡ key_path wide key → length path ≡ suc (key_bits wide)
+length_of_key wide path key is = ap length is ∙ ap (λ (n : ℕ). suc n) (length-bits_of (key_bits wide) key)
 
 -- two paths that begin with a path and a bit more are of one tree
 one_tree : (at p k : List Bool) (on : Bool) → is_prefix (at ++ on ∷ []) p ≡ true → is_prefix (at ++ on ∷ []) k ≡ true → tree_of p ≡ tree_of k
@@ -117,11 +117,11 @@ pub begun_end : (tree : Tree) (key start : List Bool) (value : Value) (links : L
 begun_end tree key start value links at ahead so same =
     subst (IsChain tree key start value) (append-nil links) (so.goes_on [] same)
 
--- the chain from a path below the root to a key of 64 bits has no more than 64 links
-pub begun_few : (tree : Tree) (key start : List Bool) (value : Value) (links : List Link) (at : List Bool) (ahead : Option Pointer) (number : ℕ)
-    → IsBegun tree key start value links at ahead → at ≡ key → key ≡ key_path false number → 0 < depth start → length links ≤ 64
-begun_few tree key start value links at ahead number so ends is deep =
-    omega (arith, so.few, subst (λ (p : List Bool). length p ≡ 65) (sym ends) (length_of_key key number is), some start deep)
+-- the chain from a path below the root to a key has no more links than the key has bits
+pub begun_few : (tree : Tree) (key start : List Bool) (value : Value) (links : List Link) (at : List Bool) (ahead : Option Pointer) (wide : Bool) (number : ℕ)
+    → IsBegun tree key start value links at ahead → at ≡ key → key ≡ key_path wide number → 0 < depth start → length links ≤ key_bits wide
+begun_few tree key start value links at ahead wide number so ends is deep =
+    omega (arith, so.few, subst (λ (p : List Bool). length p ≡ suc (key_bits wide)) (sym ends) (length_of_key wide key number is), some start deep)
   where
     some : (path : List Bool) → 0 < depth path → 0 < length path
     some [] below = absurd (omega arith)

@@ -1,14 +1,15 @@
 -- When a shard mirrors what the verifiers hold of it.
-use Rattle.std.specs.Prelude.{ℕ, ◌≡◌, ◌≢◌, ◌<◌, Bool, true, false, List, Some, IsSome, AllPairs}
+use Rattle.std.specs.Prelude.{ℕ, ◌≡◌, ◌≢◌, ◌<◌, ◌^◌, Bool, true, false, List, Some, IsSome, AllPairs}
 use Rattle.std.specs.List.{IsAmong}
-use Rattle.tree_keys.specs.Path.{depth, is_prefix, IsBelow, IsData, IsNodePath}
+use Rattle.tree_keys.specs.Path.{key_bits, depth, is_prefix, IsBelow, IsData, IsNodePath}
 use Rattle.record_text.specs.declared.value.Pointer.{Pointer}
 use Rattle.record_text.specs.declared.value.Value.{Value}
 use Rattle.record_text.specs.Value.{IsOf}
 use Rattle.record_text.specs.Texts.{value_text}
 use Rattle.merkle_records.specs.Merkle.{Digest}
 use Rattle.host_shard.specs.Tree.{Tree, IsPointerIn, IsReached}
-use Rattle.host_shard.specs.Shard.{Shard, tree_of}
+use Rattle.host_shard.specs.declared.content.HotRecord.{HotRecord}
+use Rattle.host_shard.specs.Shard.{Shard, wide_in, tree_of}
 
 -- What every shard is: its frontier is neither the root nor a data path, and each value is of its path's kind.
 pub record IsShard (longest : ℕ) (shard : Shard) : Type 0 where
@@ -20,6 +21,11 @@ pub record IsShard (longest : ℕ) (shard : Shard) : Type 0 where
 pub record IsKeyOf (shard : Shard) (key : List Bool) : Type 0 where
   pub whole : IsData key
   pub below : IsBelow shard.frontier key
+
+-- the key of a hot record is one of the shard's tree
+pub record HasKeyOf (shard : Shard) (record' : HotRecord) : Type 0 where
+  pub tree : record'.wide ≡ wide_in shard
+  pub range : record'.key < 2 ^ key_bits record'.wide
 
 -- each pointer to a node leads to a record
 abbrev pub HasNodes : Tree → Type 0

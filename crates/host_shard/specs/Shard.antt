@@ -1,5 +1,6 @@
 -- A shard as data: the records below one path, with which a verifier takes them back.
 use Rattle.std.specs.Prelude.{ℕ, Bool, false, List, None, ◌+◌, ◌-◌, ◌^◌, min, if◌then◌else◌}
+use Rattle.tree_keys.specs.Path as paths
 use Rattle.tree_keys.specs.Path.{same_path}
 use Rattle.lamport_clocks.specs.declared.stamp.Stamp.{Stamp}
 use Rattle.record_text.specs.declared.value.Value.{Value}
@@ -19,6 +20,14 @@ pub record Shard : Type 0 where
   pub stamp : Stamp
   pub evictor : ℕ
   pub touches : List Bool → ℕ
+
+-- of which tree the shard is: that of its frontier
+abbrev pub wide_in : Shard → Bool
+wide_in shard = paths.tree_of shard.frontier
+
+-- the path of a key in the shard's tree
+abbrev pub key_path_in : Shard → ℕ → List Bool
+key_path_in shard key = paths.key_path (wide_in shard) key
 
 -- all records of the shard, the frontier's among them
 abbrev pub tree_of : Shard → Tree

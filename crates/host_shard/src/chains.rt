@@ -1,10 +1,10 @@
 //! The chain from a shard's frontier to a key.
-ghost use Rattle.std.specs.Prelude.{◌≡◌, ◌↔◌, ◌≤◌, ◌<◌, true, false, length, take, vec_len, IfOk};
-ghost use Rattle.tree_keys.specs.Path.{key_path, side};
+ghost use Rattle.std.specs.Prelude.{◌≡◌, ◌↔◌, ◌≤◌, ◌<◌, true, length, take, vec_len, IfOk};
+ghost use Rattle.tree_keys.specs.Path.{key_bits, side};
 ghost use Rattle.record_text.specs.Longest.{longest_blob};
 ghost use Rattle.host_shard.specs.Chain.{next_link, pointer_toward, StaysInTree, last_value, end_path, known_links, ends_new, IsChain};
 ghost use Rattle.host_shard.specs.Mirrors.{IsShard, IsKeyOf};
-ghost use Rattle.host_shard.specs.Shard.{tree_of};
+ghost use Rattle.host_shard.specs.Shard.{wide_in, key_path_in, tree_of};
 ghost use Rattle.host_shard.specs.Shown.{shown};
 
 use crate::link::Link;
@@ -19,14 +19,14 @@ use tree_keys::Path;
 const ROOM: usize = 24;
 
 /// The chain from the shard's frontier to a key below it.
-pub fn chain(alloc: Global, shard: &Shard, key: u64) -> Result<Vec<Link>, Memory>
+pub fn chain(alloc: Global, shard: &Shard, key: u128) -> Result<Vec<Link>, Memory>
     requires fits { IsShard longest_blob (shown shard.now) }
-    requires own { IsKeyOf (shown shard.now) (key_path false key) }
+    requires own { IsKeyOf (shown shard.now) (key_path_in (shown shard.now) key) }
     ensures chain { IfOk result (λ links. IsChain (tree_of (shown shard.now))
-        (key_path false key) shard.now.frontier shard.now.value links.items) }
-    ensures few { IfOk result (λ links. vec_len links ≤ 64) }
+        (key_path_in (shown shard.now) key) shard.now.frontier shard.now.value links.items) }
+    ensures few { IfOk result (λ links. vec_len links ≤ key_bits (wide_in (shown shard.now))) }
 {
-    let end = Path::of_key(key);
+    let end = shard.path_of(key);
     let mut links = Vec::with_capacity(alloc, ROOM)?;
     let mut at = shard.frontier;
     let mut ahead = toward(&shard.value, &at, &end);
@@ -88,19 +88,19 @@ pub fn end_path<'a>(at: &'a Path, links: &'a [Link]) -> &'a Path
 }
 
 /// Whether a shard's chain to a key ends in a new record.
-pub fn ends_new(shard: &Shard, key: u64, links: &[Link]) -> bool
-    ensures new { result ≡ ends_new (key_path false key) shard.now.frontier shard.now.value links.now }
+pub fn ends_new(shard: &Shard, key: u128, links: &[Link]) -> bool
+    ensures new { result ≡ ends_new (key_path_in (shown shard.now) key) shard.now.frontier shard.now.value links.now }
 {
-    count_known(&Path::of_key(key), &shard.frontier, &shard.value, links) < links.len()
+    count_known(&shard.path_of(key), &shard.frontier, &shard.value, links) < links.len()
 }
 
 /// The links of a shard's chain to a key that have records.
-pub fn known_links<'a>(shard: &Shard, key: u64, links: &'a [Link]) -> &'a [Link]
-    ensures known { result.now ≡ known_links (key_path false key)
+pub fn known_links<'a>(shard: &Shard, key: u128, links: &'a [Link]) -> &'a [Link]
+    ensures known { result.now ≡ known_links (key_path_in (shown shard.now) key)
         shard.now.frontier shard.now.value links.now }
     ensures within { length result.now ≤ length links.now }
 {
-    &links[..count_known(&Path::of_key(key), &shard.frontier, &shard.value, links)]
+    &links[..count_known(&shard.path_of(key), &shard.frontier, &shard.value, links)]
 }
 
 // How many of the links behind a path with its value have records. They are all of them, but where a chain ends in a new one.

@@ -1,9 +1,10 @@
 //! What a place of the host's table holds.
 ghost use Rattle.std.specs.Prelude.{◌≡◌, ◌<◌, ◌^◌};
+ghost use Rattle.tree_keys.specs.Path.{IsData};
 ghost use Rattle.record_text.specs.Element.{IsStamp};
 ghost use Rattle.record_text.specs.Value.{IsOf};
 ghost use Rattle.record_text.specs.Longest.{longest_blob};
-ghost use Rattle.host_shard.specs.Content.{pending, pending_hot};
+ghost use Rattle.host_shard.specs.Content.{hot_path, pending, pending_hot};
 ghost use Rattle.host_shard.specs.Shown.{shown_content};
 
 use crate::shard::Shard;
@@ -15,7 +16,9 @@ use tree_keys::Path;
 /// The record of a key that waits by itself, apart from its shard.
 #[derive(Debug, Drop)]
 pub struct HotRecord {
-    pub key: u64,
+    /// Whether the key is one of 128 bits, and not of 64.
+    pub wide: bool,
+    pub key: u128,
     pub value: Blob,
     /// The stamp with which it was evicted last.
     pub stamp: Stamp,
@@ -37,6 +40,7 @@ pub enum Content {
 impl Default for HotRecord {
     fn default() -> Self {
         HotRecord {
+            wide: false,
             key: 0,
             value: Blob::none(),
             stamp: Stamp {
@@ -55,12 +59,21 @@ impl HotRecord {
         ensures value { result ≡ self.now }
     {
         HotRecord {
+            wide: self.wide,
             key: self.key,
             value: self.value.copy(),
             stamp: self.stamp,
             evictor: self.evictor,
             touches: self.touches,
         }
+    }
+
+    /// The path of its key.
+    pub fn path(&self) -> Path
+        ensures path { result ≡ hot_path self.now }
+        ensures whole { IsData result }
+    {
+        Path::of_number(self.wide, self.key)
     }
 
     /// The element with which the record waits, until a verifier takes it in.
@@ -71,7 +84,7 @@ impl HotRecord {
         ensures verifier { result.verifier < 2 ^ 16 }
     {
         let value = Value::Blob(self.value.copy());
-        waiting(Path::of_key(self.key), value, self.stamp, self.evictor)
+        waiting(self.path(), value, self.stamp, self.evictor)
     }
 }
 

@@ -1,10 +1,10 @@
 //! Shards.
-ghost use Rattle.std.specs.Prelude.{◌≡◌, ◌<◌, ◌^◌, false, IsSome};
+ghost use Rattle.std.specs.Prelude.{◌≡◌, ◌<◌, ◌^◌, IsSome};
 ghost use Rattle.std.specs.Option.{option_copied};
-ghost use Rattle.tree_keys.specs.Path.{depth, IsNodePath, key_path};
+ghost use Rattle.tree_keys.specs.Path.{depth, IsNodePath, IsData};
 ghost use Rattle.record_text.specs.Element.{IsStamp};
 ghost use Rattle.record_text.specs.Longest.{longest_blob};
-ghost use Rattle.host_shard.specs.Shard.{tree_of, new_shard, pending_shard, touched};
+ghost use Rattle.host_shard.specs.Shard.{key_path_in, tree_of, new_shard, pending_shard, touched};
 ghost use Rattle.host_shard.specs.Mirrors.{IsShard};
 ghost use Rattle.host_shard.specs.Shown.{shown};
 
@@ -45,6 +45,14 @@ impl Shard {
         }
     }
 
+    /// The path of a key in the tree of its frontier.
+    pub fn path_of(&self, key: u128) -> Path
+        ensures path { result ≡ key_path_in (shown self.now) key }
+        ensures whole { IsData result }
+    {
+        Path::of_number(self.frontier.is_wide(), key)
+    }
+
     /// The value of a path, the frontier's too, if it has a record.
     pub fn value_of(&self, path: &Path) -> Option<&Value>
         ensures value { option_copied result ≡ tree_of (shown self.now) path.now }
@@ -68,13 +76,14 @@ impl Shard {
     }
 
     /// Counts one touch more of a key that has a record.
-    pub fn touch(&mut self, key: u64)
-        requires there { IsSome ((shown self.old).records (key_path false key)) }
+    pub fn touch(&mut self, key: u128)
+        requires there { IsSome ((shown self.old).records (key_path_in (shown self.old) key)) }
         ensures touched { shown self.new ≡ record (shown self.old) {
-          touches = touched (shown self.old).touches (key_path false key);
+          touches = touched (shown self.old).touches (key_path_in (shown self.old) key);
         } }
     {
-        self.records.touch(&Path::of_key(key));
+        let path = self.path_of(key);
+        self.records.touch(&path);
     }
 
     /// Forgets how often the keys were touched.

@@ -18,7 +18,7 @@ use Rattle.host_shard.specs.declared.content.Content as code
 use Rattle.host_shard.specs.declared.link.Link.{Link}
 use Rattle.host_shard.specs.Tree.{Tree, pointer_of}
 use Rattle.host_shard.specs.Chain.{IsChain, IsNextLink, next_link, last_value, closed_value, closed_records}
-use Rattle.host_shard.specs.Shard.{Shard, tree_of}
+use Rattle.host_shard.specs.Shard.{key_path_in, wide_in, Shard, tree_of}
 use Rattle.host_shard.specs.Content.{Content, cold, hot, vacant}
 use Rattle.host_shard.specs.Mirrors.{IsShard, IsKeyOf}
 use Rattle.host_shard.specs.Shown.{shown_content}
@@ -34,17 +34,17 @@ use Rattle.host_table.specs.Told.{Leads}
 -- ---- the owners
 
 -- a request leaves its key a value of its kind
-after_kind : (longest : ℕ) (request : Request) (found : Value) → IsBlob longest request.value → IsData (key_path false request.key)
-    → IsOf longest (key_path false request.key) found → IsOf longest (key_path false request.key) (value_after request found)
-after_kind longest request found fits whole kind = go request.put
+after_kind : (wide : Bool) (longest : ℕ) (request : Request) (found : Value) → IsBlob longest request.value → IsData (key_path wide request.key)
+    → IsOf longest (key_path wide request.key) found → IsOf longest (key_path wide request.key) (value_after request found)
+after_kind wide longest request found fits whole kind = go request.put
   where
-    go : (b : Bool) → IsOf longest (key_path false request.key) (if b then values.Blob request.value else found)
+    go : (b : Bool) → IsOf longest (key_path wide request.key) (if b then values.Blob request.value else found)
     go true = (whole, fits)
     go false = kind
 
 shard_owns : (longest : ℕ) (digest : Digest) (worker : ℕ) (shard : Shard) (request : Request) (clock : Reading) (links : List Link) (missed : Bool)
-    → GivesDigests digest → IsBlob longest request.value → IsShard longest shard → IsKeyOf shard (key_path false request.key)
-    → IsChain (tree_of shard) (key_path false request.key) shard.frontier shard.value links → IsShard longest (served digest worker shard links request clock missed)
+    → GivesDigests digest → IsBlob longest request.value → IsShard longest shard → IsKeyOf shard (key_path_in shard request.key)
+    → IsChain (tree_of shard) (key_path_in shard request.key) shard.frontier shard.value links → IsShard longest (served digest worker shard links request clock missed)
 shard_owns longest digest worker shard request clock links missed digests fits is own chain = go (stays shard request missed)
   where
     last : Value
@@ -59,9 +59,9 @@ shard_owns longest digest worker shard request clock links missed digests fits i
     go : (b : Bool) → IsShard longest (left b)
     go true = record { below_root = is.below_root; no_data = is.no_data; kinds = is.kinds }
     go false =
-        let rehashed = rehashed_is longest digest shard (key_path false request.key) links last digests is own
-        (after_kind longest request (last_value shard.value links) fits own.whole
-        (last_kind longest (tree_of shard) (key_path false request.key) shard.frontier shard.value links own.whole is.kinds (frontier_kind longest shard is.kinds) chain)) chain in
+        let rehashed = rehashed_is longest digest shard (key_path_in shard request.key) links last digests is own
+        (after_kind (wide_in shard) longest request (last_value shard.value links) fits own.whole
+        (last_kind longest (tree_of shard) (key_path_in shard request.key) shard.frontier shard.value links own.whole is.kinds (frontier_kind longest shard is.kinds) chain)) chain in
         record { below_root = rehashed.below_root; no_data = rehashed.no_data; kinds = rehashed.kinds }
 
 -- what a content owned before a request it owns after it
@@ -162,7 +162,7 @@ chain_one tree key at value (link ∷ links) (other ∷ others) one two =
     λ i. same i ∷ more i
 
 links_one : (content : Content) (key : ℕ) (links others : List Link) → AreLinks content key links → AreLinks content key others → links ≡ others
-links_one (cold shard) key links others one two = chain_one (tree_of shard) (key_path false key) shard.frontier shard.value links others one two
+links_one (cold shard) key links others one two = chain_one (tree_of shard) (key_path_in shard key) shard.frontier shard.value links others one two
 links_one (hot kept) key links others one two = one ∙ sym two
 links_one vacant key links others one two = absurd one
 

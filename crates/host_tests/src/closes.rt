@@ -1,17 +1,17 @@
 //! Closes with hot records, beside the rows of `close_rows`.
-ghost use Rattle.std.specs.Prelude.{◌≤◌, IsTrue, length, false, map};
+ghost use Rattle.std.specs.Prelude.{◌≤◌, IsTrue, length, map};
 ghost use Rattle.std.specs.List.{AllByRecursion};
-ghost use Rattle.tree_keys.specs.Path.{key_path};
 ghost use Rattle.lamport_clocks.specs.Clock.{is_open};
 ghost use Rattle.record_text.specs.Longest.{longest_blob};
 ghost use Rattle.host_shard.specs.Mirrors.{IsShard, IsKeyOf};
 ghost use Rattle.host_shard.specs.Shown.{shown, shown_content};
+ghost use Rattle.host_shard.specs.Content.{hot_path};
 ghost use Rattle.host_plan.specs.Plan.{Owns};
 ghost use Rattle.protection_moves.specs.Stage.{hot_records};
 ghost use Rattle.host_tests.specs.Owned.{IsFit};
 
-use crate::close_rows::CASES;
-use crate::plans::{assert_accepted, log_setup};
+use crate::close_rows::{CASES, WIDE};
+use crate::plans::{assert_accepted, assert_wide_rows, header, log_setup};
 use crate::rows::{same, same_at, same_bytes};
 use crate::shards::{bytes_of_rows, clock_at, push_all, request_of, serve};
 use host_shard::{Content, Shard};
@@ -31,11 +31,11 @@ struct Seats {
     hot: [Content; 4],
 }
 
-// A shard as a setup leaves it, evicted last with this counter of epoch 0, and vacant places.
-fn fresh(alloc: Global, side: bool, counter: u32) -> Seats
+// A shard of a tree as a setup leaves it, evicted last with this counter of epoch 0, and vacant places.
+fn fresh(alloc: Global, wide: bool, side: bool, counter: u32) -> Seats
     ensures fit { IsFit (shown_content result.cold) }
 {
-    let frontier = Path::root().child(side);
+    let frontier = Path::root_of(wide).child(side);
     let stamp = Stamp { epoch: 0, counter };
     Seats {
         cold: Content::Cold(Shard::new(alloc, frontier, stamp, 0)),
@@ -49,19 +49,19 @@ fn fresh(alloc: Global, side: bool, counter: u32) -> Seats
 }
 
 // Whether a content is the one in which a request for a key is served.
-fn owns(content: &Content, key: u64) -> bool
+fn owns(content: &Content, key: u128) -> bool
     ensures own { IsTrue result → IsFit (shown_content content.now)
         → Owns longest_blob (shown_content content.now) key }
 {
     match content {
-        Content::Cold(shard) => Path::of_key(key).is_below(&shard.frontier),
+        Content::Cold(shard) => shard.path_of(key).is_below(&shard.frontier),
         Content::Hot(found) => found.key == key,
         Content::Vacant => false,
     }
 }
 
 // Whether a content is the record of this hot key.
-fn is_hot_at(content: &Content, key: u64) -> bool
+fn is_hot_at(content: &Content, key: u128) -> bool
     ensures own { IsTrue result → Owns longest_blob (shown_content content.now) key }
 {
     match content {
@@ -96,7 +96,7 @@ fn takes_all(clock: &Clock, places: &[Content]) -> bool
 
 // Whether each record in these places is of a key of the shard.
 pub(crate) fn owns_all(shard: &Shard, places: &[Content]) -> bool
-    ensures own { IsTrue result → AllByRecursion (λ found. IsKeyOf (shown shard.now) (key_path false found.key))
+    ensures own { IsTrue result → AllByRecursion (λ found. IsKeyOf (shown shard.now) (hot_path found))
         (hot_records (map shown_content places.now)) }
 {
     let (first, rest) = match places.split_first() {
@@ -104,9 +104,7 @@ pub(crate) fn owns_all(shard: &Shard, places: &[Content]) -> bool
         None => return true,
     };
     match first {
-        Content::Hot(found) => {
-            Path::of_key(found.key).is_below(&shard.frontier) && owns_all(shard, rest)
-        }
+        Content::Hot(found) => { found.path().is_below(&shard.frontier) && owns_all(shard, rest) }
         Content::Cold(_) => owns_all(shard, rest),
         Content::Vacant => owns_all(shard, rest),
     }
@@ -232,17 +230,18 @@ impl Seats {
     }
 }
 
-// Serves the requests of these rows on two new shards and closes at each `epoch`, behind what is logged already.
+// Serves the requests of these rows on two new shards of a tree and closes at each `epoch`, behind what is logged already.
 fn play<D: Digests>(
     rt: &impl Abort,
     alloc: Global,
     d: &D,
+    wide: bool,
     threshold: u32,
     script: &str,
     log: &mut Vec<u8>,
 ) {
-    let mut low = fresh(alloc, false, 1);
-    let mut high = fresh(alloc, true, 2);
+    let mut low = fresh(alloc, wide, false, 1);
+    let mut high = fresh(alloc, wide, true, 2);
     let mut clock = clock_at(2);
     for row in script.trim().lines() {
         if row == "epoch" {
@@ -252,7 +251,7 @@ fn play<D: Digests>(
             high.close(rt, alloc, d, threshold, &mut clock, log);
         } else {
             let request = request_of(rt, alloc, row);
-            if request.key >> 63 == 0 {
+            if owns(&low.cold, request.key) {
                 low.serve(rt, alloc, d, &request, &mut clock, log);
             } else {
                 high.serve(rt, alloc, d, &request, &mut clock, log);
@@ -265,10 +264,36 @@ fn play<D: Digests>(
 fn closes_are_those_of_the_slow_program(rt: HostRuntime) {
     for (label, threshold, script, rows) in CASES {
         let mut log = Vec::new(rt.alloc());
-        play(&rt, rt.alloc(), &ToyDigests, threshold, script, &mut log);
+        play(
+            &rt,
+            rt.alloc(),
+            &ToyDigests,
+            false,
+            threshold,
+            script,
+            &mut log,
+        );
         let wanted = bytes_of_rows(&rt, rt.alloc(), rows);
         same_bytes(&rt, label, &log, &wanted);
     }
+}
+
+#[test]
+fn a_key_of_128_bits_becomes_hot_and_comes_back(rt: HostRuntime) {
+    let (label, threshold, script, rows) = WIDE;
+    let mut log = Vec::new(rt.alloc());
+    play(
+        &rt,
+        rt.alloc(),
+        &ToyDigests,
+        true,
+        threshold,
+        script,
+        &mut log,
+    );
+    let wanted = bytes_of_rows(&rt, rt.alloc(), rows);
+    same_bytes(&rt, label, &log, &wanted);
+    assert_wide_rows(&rt, rt.alloc(), label, rows, 4);
 }
 
 #[test]
@@ -277,18 +302,18 @@ fn a_verifier_accepts_closes_with_hot_records(rt: HostRuntime) {
     for (label, threshold, script, _) in CASES {
         let mut log = Vec::new(rt.alloc());
         log_setup(&rt, rt.alloc(), &mut log);
-        play(&rt, rt.alloc(), &d, threshold, script, &mut log);
+        play(&rt, rt.alloc(), &d, false, threshold, script, &mut log);
         let asked = script.trim().lines().filter(|row| *row != "epoch").count();
-        assert_accepted(&rt, rt.alloc(), label, &d, &log, asked);
+        assert_accepted(&rt, rt.alloc(), label, &d, &header(), &log, asked);
     }
 }
 
 // Counts so many touches more of a key that has a record.
-fn touch(rt: &impl Abort, shard: &mut Shard, key: u64, touches: u32)
+fn touch(rt: &impl Abort, shard: &mut Shard, key: u128, touches: u32)
     requires fits { IsShard longest_blob (shown shard.old) }
     ensures fits { IsShard longest_blob (shown shard.new) }
 {
-    if shard.records.get(&Path::of_key(key)).is_none() {
+    if shard.records.get(&shard.path_of(key)).is_none() {
         panic!(rt; "no record");
     }
     for _ in 0..touches {
@@ -332,7 +357,7 @@ fn becomes_hot(
 
 #[test]
 fn a_million_touches_make_a_key_hot(rt: HostRuntime) {
-    let mut low = fresh(rt.alloc(), false, 1);
+    let mut low = fresh(rt.alloc(), false, false, 1);
     let mut clock = clock_at(2);
     let mut log = Vec::new(rt.alloc());
     low.ask(&rt, rt.alloc(), "get 5", &mut clock, &mut log);
@@ -351,7 +376,7 @@ fn assert_moved_by(
     counter: u32,
     stamp: Stamp,
 ) {
-    let mut low = fresh(alloc, false, 1);
+    let mut low = fresh(alloc, false, false, 1);
     let mut clock = clock_at(2);
     let mut log = Vec::new(alloc);
     low.ask(rt, alloc, "get 1", &mut clock, &mut log);

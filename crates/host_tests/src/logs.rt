@@ -65,7 +65,12 @@ next
 ";
 
 // Adds the commands of rows, as this writer writes them.
-fn write_rows(rt: &impl Abort, writer: &mut CommandWriter, log: &mut LogBuffer, rows: &str) {
+pub(crate) fn write_rows(
+    rt: &impl Abort,
+    writer: &mut CommandWriter,
+    log: &mut LogBuffer,
+    rows: &str,
+) {
     for row in rows.trim().lines() {
         let command = command_of(row).expect(rt, "a row of no command");
         log.push(writer, &command).expect(rt, "memory");
@@ -143,6 +148,7 @@ fn header_by_slots() -> Header
         cache: 128,
         first: 0,
         end: 16_777_215,
+        bits: 64,
     }
 }
 

@@ -1,5 +1,5 @@
 //! The close of a host of two shards: what it logs, and where the counters end in it.
-ghost use Rattle.std.specs.Prelude.{◌≡◌, ◌<◌, ◌∷◌, [], ℕ, true, false, IsTrue, length};
+ghost use Rattle.std.specs.Prelude.{◌≡◌, ◌∷◌, [], ℕ, true, false, IsTrue, length};
 ghost use Rattle.lamport_clocks.specs.Clock.{is_open};
 ghost use Rattle.record_text.specs.Longest.{longest_blob};
 ghost use Rattle.host_shard.specs.declared.content.Content.TheVariants.{Hot};
@@ -131,8 +131,9 @@ fn the_clock_ends_at_the_second_shard(rt: HostRuntime) {
 }
 
 // A hot record that was touched once, evicted last by this verifier with this counter of epoch 0.
-fn touched(key: u64, value: Blob, counter: u32, evictor: u16) -> Content
+fn touched(key: u128, value: Blob, counter: u32, evictor: u16) -> Content
     ensures record { result ≡ Hot (record {
+      wide = false;
       key = key;
       value = value;
       stamp = record { epoch = 0; counter = counter };
@@ -141,6 +142,7 @@ fn touched(key: u64, value: Blob, counter: u32, evictor: u16) -> Content
     }) }
 {
     Content::Hot(HotRecord {
+        wide: false,
         key,
         value,
         stamp: Stamp { epoch: 0, counter },
@@ -150,7 +152,7 @@ fn touched(key: u64, value: Blob, counter: u32, evictor: u16) -> Content
 }
 
 // The record in a place is of this key, untouched, and was evicted by verifier 2 with this stamp.
-fn assert_moved(rt: &impl Abort, hot: &[Content], place: usize, key: u64, stamp: Stamp) {
+fn assert_moved(rt: &impl Abort, hot: &[Content], place: usize, key: u128, stamp: Stamp) {
     match hot.get(place) {
         Some(Content::Hot(found)) => {
             let numbers = (found.key, found.evictor, found.touches);

@@ -7,13 +7,16 @@ ghost use Rattle.host_shard.specs.Shown.{shown_content};
 ghost use Rattle.host_plan.specs.Plan.{Owns};
 ghost use Rattle.host_tests.specs.Owned.{OwnsBelow};
 
+use crate::logs::write_rows;
 use crate::rows::{same, same_bytes};
 use crate::shards::{Host, bytes_of_rows, clock_at, push_all, request_of, serve};
+use host_log::LogBuffer;
 use host_plan::setup;
 use host_shard::{Content, HotRecord};
 use lamport_clocks::{Header, Stamp};
 use record_hash::{Digests, ShaDigests, ToyDigests};
 use record_text::{Blob, Request};
+use slot_rewriting::CommandWriter;
 use stamp_order::PlainMap;
 use std::alloc::Global;
 use std::process::Abort;
@@ -207,6 +210,48 @@ evictB /1 0.21
     ),
 ];
 
+// The same of keys of 128 bits, by hand: of worker 0 and counter 2. The digest of a value is the sum of its text's bytes.
+const WIDE: (&str, &str) = (
+    "
+put 0 61
+put 1 62
+put 340282366920938463463374607431768211455 63
+get 340282366920938463463374607431768211455
+get 0
+",
+    "
+addB w/0 -,- 0.1 v0
+addM w0 none w/0
+put w0 61
+evictM w0 w/0
+evictB w/0 0.4
+addB w/0 w0:63,- 0.4 v0
+addM w0/127 -,- w/0
+addM w1 none w0/127
+put w1 62
+evictM w1 w0/127
+evictM w0/127 w/0
+evictB w/0 0.6
+addB w/1 -,- 0.2 v0
+addM w340282366920938463463374607431768211455 none w/1
+put w340282366920938463463374607431768211455 63
+evictM w340282366920938463463374607431768211455 w/1
+evictB w/1 0.8
+addB w/1 -,w340282366920938463463374607431768211455:65 0.8 v0
+addM w340282366920938463463374607431768211455 63 w/1
+get w340282366920938463463374607431768211455 63
+evictM w340282366920938463463374607431768211455 w/1
+evictB w/1 0.10
+addB w/0 w0/127:01ca,- 0.6 v0
+addM w0/127 w0:63,w1:64 w/0
+addM w0 61 w0/127
+get w0 61
+evictM w0 w0/127
+evictM w0/127 w/0
+evictB w/0 0.12
+",
+);
+
 // The same where a get of a key that has no record makes none: of worker 0 and counter 2.
 const ABSENT: [(&str, &str, &str); 2] = [
     (
@@ -291,16 +336,17 @@ evictB /1 0.14
     ),
 ];
 
-// The bytes that a worker logs for these requests on two new shards.
+// The bytes that a worker logs for these requests on two new shards of a tree.
 fn logged(
     rt: &impl Abort,
     alloc: Global,
+    wide: bool,
     worker: u16,
     counter: u32,
     absent: bool,
     requests: &str,
 ) -> Vec<u8> {
-    let mut host = Host::new(alloc, worker, counter);
+    let mut host = Host::new(alloc, wide, worker, counter);
     host.absent = absent;
     for row in requests.trim().lines() {
         let request = request_of(rt, alloc, row);
@@ -312,7 +358,7 @@ fn logged(
 #[test]
 fn plans_are_those_of_the_slow_program(rt: HostRuntime) {
     for (label, worker, counter, requests, rows) in CASES {
-        let log = logged(&rt, rt.alloc(), worker, counter, false, requests);
+        let log = logged(&rt, rt.alloc(), false, worker, counter, false, requests);
         let wanted = bytes_of_rows(&rt, rt.alloc(), rows);
         same_bytes(&rt, label, &log, &wanted);
     }
@@ -321,10 +367,18 @@ fn plans_are_those_of_the_slow_program(rt: HostRuntime) {
 #[test]
 fn plans_without_new_records_are_those_of_the_slow_program(rt: HostRuntime) {
     for (label, requests, rows) in ABSENT {
-        let log = logged(&rt, rt.alloc(), 0, 2, true, requests);
+        let log = logged(&rt, rt.alloc(), false, 0, 2, true, requests);
         let wanted = bytes_of_rows(&rt, rt.alloc(), rows);
         same_bytes(&rt, label, &log, &wanted);
     }
+}
+
+#[test]
+fn plans_of_keys_of_128_bits_are_in_their_tree(rt: HostRuntime) {
+    let (requests, rows) = WIDE;
+    let log = logged(&rt, rt.alloc(), true, 0, 2, false, requests);
+    let wanted = bytes_of_rows(&rt, rt.alloc(), rows);
+    same_bytes(&rt, "keys of 128 bits", &log, &wanted);
 }
 
 // The next number of a linear congruential generator.
@@ -345,13 +399,13 @@ fn request_by(number: u64) -> Option<Request> {
         Some(bytes) => Blob::of_bytes(bytes)?,
         None => Blob::none(),
     };
-    Some(Request::new((number >> 59) % 2 == 1, key, value))
+    Some(Request::new((number >> 59) % 2 == 1, u128::from(key), value))
 }
 
 // Serves so many requests, and compares each answer with what a plain map has at the key.
 fn serve_many<D: Digests>(rt: &impl Abort, alloc: Global, d: &D, host: &mut Host, count: u32)
-    requires low { OwnsBelow (root_of false ++ false ∷ []) (shown_content host.old.low) }
-    requires high { OwnsBelow (root_of false ++ true ∷ []) (shown_content host.old.high) }
+    requires low { OwnsBelow (root_of host.old.wide ++ false ∷ []) (shown_content host.old.low) }
+    requires high { OwnsBelow (root_of host.old.wide ++ true ∷ []) (shown_content host.old.high) }
 {
     let mut map = PlainMap::new(alloc);
     let mut x = 5;
@@ -365,23 +419,27 @@ fn serve_many<D: Digests>(rt: &impl Abort, alloc: Global, d: &D, host: &mut Host
 
 // A plain map has this answer, once the request was made there too.
 fn assert_answer(rt: &impl Abort, map: &mut PlainMap, request: &Request, answer: &Blob) {
-    let key = u128::from(request.key);
     if request.put {
-        map.put(key, request.value.copy()).expect(rt, "memory");
+        map.put(request.key, request.value.copy())
+            .expect(rt, "memory");
     }
-    same(rt, "answer", &map.get(key), answer);
+    same(rt, "answer", &map.get(request.key), answer);
 }
 
-// A verifier accepts a log under these digests, and so many gets and puts are in it.
+// A verifier of a bundle with this header accepts a log under these digests, and so many gets and puts are in it.
 pub(crate) fn assert_accepted<D: Digests>(
     rt: &impl Abort,
     alloc: Global,
     label: &str,
     d: &D,
+    header: &Header,
     log: &[u8],
     count: usize,
-) {
-    let run = run_log(alloc, d, 0, &header(), log).expect(rt, "memory");
+)
+    requires header { IsHeader header.now }
+    requires one { header.now.verifiers ≡ 1 }
+{
+    let run = run_log(alloc, d, 0, header, log).expect(rt, "memory");
     same(rt, label, &run.refused(), &None);
     same(rt, label, &run.ops().len(), &count);
 }
@@ -389,10 +447,18 @@ pub(crate) fn assert_accepted<D: Digests>(
 #[test]
 fn a_verifier_accepts_what_the_host_logs(rt: HostRuntime) {
     let d = ShaDigests::new(&[7; 32]);
-    let mut host = Host::new(rt.alloc(), 0, 2);
+    let mut host = Host::new(rt.alloc(), false, 0, 2);
     log_setup(&rt, rt.alloc(), &mut host.log);
     serve_many(&rt, rt.alloc(), &d, &mut host, 200);
-    assert_accepted(&rt, rt.alloc(), "200 requests", &d, &host.log, 200);
+    assert_accepted(
+        &rt,
+        rt.alloc(),
+        "200 requests",
+        &d,
+        &header(),
+        &host.log,
+        200,
+    );
 }
 
 // Logs the setup of two shards.
@@ -411,11 +477,56 @@ pub(crate) fn header() -> Header
     Header::by_path(1, 128, 0, 16_777_215)
 }
 
-// A hot record of key 5.
-fn hot_at_5(rt: &impl Abort) -> Content
+// The same in version 3, with keys of 128 bits.
+fn wide_header() -> Header
+    ensures header { IsHeader result }
+    ensures one { result.verifiers ≡ 1 }
+{
+    Header {
+        version: 3,
+        verifiers: 1,
+        cache: 256,
+        first: 0,
+        end: 16_777_215,
+        bits: 128,
+    }
+}
+
+// What is logged first of two shards of such keys.
+const WIDE_SETUP: &str = "
+addM w/0 initial wroot
+evictBM w/0 wroot 0.1
+addM w/1 initial wroot
+evictBM w/1 wroot 0.2
+";
+
+// A verifier accepts these rows by slots behind the setup of two shards, and so many gets and puts are in them.
+pub(crate) fn assert_wide_rows(
+    rt: &impl Abort,
+    alloc: Global,
+    label: &str,
+    rows: &str,
+    count: usize,
+) {
+    let header = wide_header();
+    let mut writer = CommandWriter::new(alloc, 0, &header).expect(rt, "memory");
+    let mut log = LogBuffer::new(alloc);
+    write_rows(rt, &mut writer, &mut log, WIDE_SETUP);
+    write_rows(rt, &mut writer, &mut log, rows);
+    assert_accepted(rt, alloc, label, &ToyDigests, &header, log.bytes(), count);
+}
+
+#[test]
+fn a_verifier_accepts_plans_of_keys_of_128_bits(rt: HostRuntime) {
+    assert_wide_rows(&rt, rt.alloc(), "keys of 128 bits", WIDE.1, 5);
+}
+
+// A hot record of key 5 of a tree.
+fn hot_at_5(rt: &impl Abort, wide: bool) -> Content
     ensures own { Owns longest_blob (shown_content result) 5 }
 {
     Content::Hot(HotRecord {
+        wide,
         key: 5,
         value: Blob::of_bytes(b"ab").expect(rt, "no value"),
         stamp: Stamp {
@@ -447,14 +558,14 @@ fn assert_kept(rt: &impl Abort, content: &Content, kept: (u32, u16, u64)) {
     }
 }
 
-#[test]
-fn a_hot_key_is_taken_alone(rt: HostRuntime) {
-    let mut content = hot_at_5(&rt);
+// A get of a hot record of a tree is served with these rows.
+fn assert_taken_alone(rt: &impl Abort, alloc: Global, wide: bool, rows: &str) {
+    let mut content = hot_at_5(rt, wide);
     let mut clock = clock_at(2);
-    let mut log = Vec::new(rt.alloc());
+    let mut log = Vec::new(alloc);
     let answer = serve(
-        &rt,
-        rt.alloc(),
+        rt,
+        alloc,
         &ToyDigests,
         &mut content,
         &get_at_5(),
@@ -463,8 +574,15 @@ fn a_hot_key_is_taken_alone(rt: HostRuntime) {
         &mut clock,
         &mut log,
     );
-    same(&rt, "answer", &answer.bytes(), &Some(b"ab".as_slice()));
+    same(rt, "answer", &answer.bytes(), &Some(b"ab".as_slice()));
+    same_bytes(rt, rows, &log, &bytes_of_rows(rt, alloc, rows));
+    assert_kept(rt, &content, (9, 1, 2));
+}
+
+#[test]
+fn a_hot_key_is_taken_alone(rt: HostRuntime) {
     let rows = "addB 5 6162 0.7 v3\nget 5 6162\nevictB 5 0.9";
-    same_bytes(&rt, rows, &log, &bytes_of_rows(&rt, rt.alloc(), rows));
-    assert_kept(&rt, &content, (9, 1, 2));
+    assert_taken_alone(&rt, rt.alloc(), false, rows);
+    let rows = "addB w5 6162 0.7 v3\nget w5 6162\nevictB w5 0.9";
+    assert_taken_alone(&rt, rt.alloc(), true, rows);
 }

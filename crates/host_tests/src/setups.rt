@@ -20,6 +20,14 @@ const TWO_SHARDS: &str = "
 05 018000000000000000 000000000000000000 0000000000000002
 ";
 
+// The same of two shards of the tree whose keys have 128 bits.
+const TWO_WIDE_SHARDS: &str = "
+01 0100000000000000000000000000000000 0000 0000000000000000000000000000000000
+05 0100000000000000000000000000000000 0000000000000000000000000000000000 0000000000000001
+01 0180000000000000000000000000000000 0000 0000000000000000000000000000000000
+05 0180000000000000000000000000000000 0000000000000000000000000000000000 0000000000000002
+";
+
 // The rows of a host of four shards.
 const FOUR_SHARDS: &str = "
 addM /0 initial root
@@ -60,6 +68,28 @@ fn two_shards_are_set_up(rt: HostRuntime) {
     same(&rt, "shards", &contents.len(), &2);
     assert_fresh(&rt, &contents, 0, &Path::root().child(false));
     assert_fresh(&rt, &contents, 1, &Path::root().child(true));
+}
+
+// The header of version 3 with keys of 128 bits.
+const fn wide_header() -> Header {
+    Header {
+        version: 3,
+        bits: 128,
+        ..header(2)
+    }
+}
+
+#[test]
+fn two_shards_of_keys_of_128_bits_are_set_up(rt: HostRuntime) {
+    let Ok((commands, contents)) = setup(rt.alloc(), 2, &wide_header()) else {
+        panic!(rt; "no setup");
+    };
+    let log = bytes_logged(&rt, rt.alloc(), commands.as_slice());
+    let wanted = bytes_of(&rt, rt.alloc(), TWO_WIDE_SHARDS);
+    same_bytes(&rt, "log", &log, &wanted);
+    same(&rt, "shards", &contents.len(), &2);
+    assert_fresh(&rt, &contents, 0, &Path::root_of(true).child(false));
+    assert_fresh(&rt, &contents, 1, &Path::root_of(true).child(true));
 }
 
 #[test]

@@ -20,6 +20,8 @@ use tree_keys::Path;
 /// Two shards, a worker's clock, and what it logged.
 #[derive(Drop)]
 pub struct Host {
+    /// Whether the shards are of the tree whose keys have 128 bits.
+    pub wide: bool,
     pub low: Content,
     pub high: Content,
     pub worker: u16,
@@ -30,13 +32,14 @@ pub struct Host {
 }
 
 impl Host {
-    /// Two shards without records, as a setup leaves them, and a worker whose clock is at this counter.
-    pub fn new(alloc: Global, worker: u16, counter: u32) -> Self
-        ensures low { OwnsBelow (root_of false ++ false ∷ []) (shown_content result.low) }
-        ensures high { OwnsBelow (root_of false ++ true ∷ []) (shown_content result.high) }
+    /// Two shards of a tree without records, as a setup leaves them, and a worker whose clock is at this counter.
+    pub fn new(alloc: Global, wide: bool, worker: u16, counter: u32) -> Self
+        ensures low { OwnsBelow (root_of result.wide ++ false ∷ []) (shown_content result.low) }
+        ensures high { OwnsBelow (root_of result.wide ++ true ∷ []) (shown_content result.high) }
     {
-        let root = Path::root();
+        let root = Path::root_of(wide);
         Host {
+            wide,
             low: fresh(alloc, &root.child(false), 1),
             high: fresh(alloc, &root.child(true), 2),
             worker,
@@ -54,15 +57,16 @@ impl Host {
         d: &D,
         request: &Request,
     ) -> Blob
-        requires low { OwnsBelow (root_of false ++ false ∷ []) (shown_content self.old.low) }
-        requires high { OwnsBelow (root_of false ++ true ∷ []) (shown_content self.old.high) }
-        ensures low { OwnsBelow (root_of false ++ false ∷ []) (shown_content self.new.low) }
-        ensures high { OwnsBelow (root_of false ++ true ∷ []) (shown_content self.new.high) }
+        requires low { OwnsBelow (root_of self.old.wide ++ false ∷ []) (shown_content self.old.low) }
+        requires high { OwnsBelow (root_of self.old.wide ++ true ∷ []) (shown_content self.old.high) }
+        ensures low { OwnsBelow (root_of self.new.wide ++ false ∷ []) (shown_content self.new.low) }
+        ensures high { OwnsBelow (root_of self.new.wide ++ true ∷ []) (shown_content self.new.high) }
     {
-        let path = Path::of_key(request.key);
+        let root = Path::root_of(self.wide);
+        let path = Path::of_number(self.wide, request.key);
         let worker = self.worker;
         let absent = self.absent;
-        if path.is_below(&Path::root().child(false)) {
+        if path.is_below(&root.child(false)) {
             return serve(
                 rt,
                 alloc,
@@ -75,7 +79,7 @@ impl Host {
                 &mut self.log,
             );
         }
-        if path.is_below(&Path::root().child(true)) {
+        if path.is_below(&root.child(true)) {
             return serve(
                 rt,
                 alloc,
@@ -92,10 +96,11 @@ impl Host {
     }
 
     /// The links to a key of the lower shard.
-    pub fn links_to(&self, rt: &impl Abort, alloc: Global, key: u64) -> Vec<Link>
-        requires low { OwnsBelow (root_of false ++ false ∷ []) (shown_content self.now.low) }
+    pub fn links_to(&self, rt: &impl Abort, alloc: Global, key: u128) -> Vec<Link>
+        requires low { OwnsBelow (root_of self.now.wide ++ false ∷ []) (shown_content self.now.low) }
     {
-        if !Path::of_key(key).is_below(&Path::root().child(false)) {
+        let low = Path::root_of(self.wide).child(false);
+        if !Path::of_number(self.wide, key).is_below(&low) {
             panic!(rt; "a key of the other shard");
         }
         match &self.low {

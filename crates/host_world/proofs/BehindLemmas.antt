@@ -3,12 +3,14 @@ use Rattle.std.proofs.Common.{◌≡◌, ℕ, zero, suc, ◌+◌, ◌^◌, ◌<�
 use Rattle.std.proofs.lemmas.Bool.{cases_eq, le-leb, leb-true, eq-eqb, lt-ltb, or_right, and_from}
 use Rattle.std.proofs.lemmas.Nat.{pow_below}
 use Rattle.std.specs.List.{AllByRecursion}
+use Rattle.tree_keys.specs.Path.{key_bits}
 use Rattle.lamport_clocks.specs.Clock.{is_open}
 use Rattle.lamport_clocks.specs.Reading.{Reading}
 use Rattle.record_hash.specs.Functions.{DigestFunctions}
 use Rattle.record_text.specs.declared.element.Element.{Element}
 use Rattle.record_text.specs.declared.request.Request.{Request}
 use Rattle.record_text.specs.Longest.{longest_blob, longest_of}
+use Rattle.record_text.specs.Tree.{wide_of}
 use Rattle.merkle_records.specs.Merkle.{GivesDigests}
 use Rattle.host_core.specs.World.{Place, World, worker_at, shard_at}
 use Rattle.log_codec.specs.declared.command.Command.{Command}
@@ -25,7 +27,7 @@ use Rattle.host_world.specs.Behind.{IsBehindSetup, with_logs, CanTakeSeats}
 use Rattle.host_world.proofs.FrontLaws.{clock_with, enabled_with}
 use Rattle.host_world.proofs.LongerLaws.{longest_fits, owns_longer, seats_longer}
 use Rattle.host_world.proofs.PlaceLaws.{waits_there}
-use Rattle.host_world.proofs.RangeLaws.{next_in_range}
+use Rattle.host_world.proofs.RangeLaws.{next_in_range, bits_within_key}
 use Rattle.host_world.proofs.SeatLaws.{seat_serves}
 use Rattle.host_world.proofs.OrderlyLemmas.{host, set_up_orderly, run_orderly}
 
@@ -64,7 +66,7 @@ module _ (functions : DigestFunctions) (settings : Settings) (script : List (Lis
       let bits = frontier_bits_are settings.shards count in
       subst (IsOrderly functions settings script) (sym behind.is)
       (run_orderly functions settings script digests behind.settings_fit.hot behind.keys _ behind.events
-      (set_up_orderly functions settings script (omega (arith, bits, count.some)) (omega (arith, bits, count.most)) digests) behind.enabled)
+      (set_up_orderly functions settings script (omega (arith, bits, count.some)) (omega (arith, bits, count.most, bits_within_key (wide_of settings.header))) digests) behind.enabled)
 
   -- The content of a request's place owns its key, and the worker's clock takes its stamp.
   pub serves_there : (i : ℕ) (place : Place) (request : Request) → MayServe (host functions settings script) world i place request
@@ -77,7 +79,7 @@ module _ (functions : DigestFunctions) (settings : Settings) (script : List (Lis
       let seats = (shard_at world place.shard).contents in
       let clock = (worker_at (host functions settings script) world i).clock in (
         owns_longer (longest_of settings.header) longest_blob (longest_fits settings.header) (get_or seats place.seat vacant) request.key
-            (seat_serves (longest_of settings.header) functions.digest seats whole.mirrors place.seat request (next_in_range functions settings script behind.keys world i request may.next) may.owns).own,
+            (seat_serves (longest_of settings.header) functions.digest seats whole.mirrors place.seat request (subst (λ (wide : Bool). request.key < 2 ^ key_bits wide) (sym whole.tree) (next_in_range functions settings script behind.keys world i request may.next)) may.owns).own,
         open_at clock _ (get_or seats place.seat vacant) (omega (arith, epoch, ap moved_by still))
             (waits_there (λ element. element.stamp.epoch ≡ _) seats place.seat whole.stamped),
       )

@@ -7,6 +7,7 @@ use Rattle.lamport_clocks.specs.Reading.{Reading}
 use Rattle.lamport_clocks.specs.Clock.{last_epoch}
 use Rattle.record_hash.specs.Functions.{DigestFunctions}
 use Rattle.record_text.specs.declared.request.Request.{Request}
+use Rattle.record_text.specs.Tree.{wide_of}
 use Rattle.record_text.specs.Longest.{longest_of}
 use Rattle.merkle_records.specs.Merkle.{Digest, GivesDigests}
 use Rattle.log_codec.specs.declared.command.Command.TheVariants.{NextEpoch}
@@ -31,6 +32,7 @@ use Rattle.host_world.proofs.SeatLaws.{IsSame, content-same, seats_moved, stage_
 use Rattle.host_world.proofs.ServeLemmas.{done_is}
 use Rattle.host_world.proofs.OrderlyLemmas.{host, set_up_orderly, step_orderly}
 use Rattle.host_world.proofs.BehindLemmas.{frontier_bits_are}
+use Rattle.host_world.proofs.RangeLaws.{bits_within_key}
 
 -- the frontier of the shard among these seats
 abbrev pub frontier_in : List Content → List Bool
@@ -61,21 +63,21 @@ frontier-set longest digest seats mirrors seat new same =
     go (suc k) content is = refl
 
 -- a request leaves it
-serve_frontier : (absent : Bool) (longest : ℕ) (digest : Digest) (i epoch : ℕ) (clock : Reading) (seats : List Content) (seat : ℕ) (request : Request) (done : Done Content)
-    → IsOrderlyShard longest digest epoch seats → serve_at absent digest i clock (get_or seats seat vacant) request ≡ Some done
+serve_frontier : (absent : Bool) (longest : ℕ) (wide : Bool) (digest : Digest) (i epoch : ℕ) (clock : Reading) (seats : List Content) (seat : ℕ) (request : Request) (done : Done Content)
+    → IsOrderlyShard longest wide digest epoch seats → serve_at absent digest i clock (get_or seats seat vacant) request ≡ Some done
     → frontier_in (set seats seat done.after) ≡ frontier_in seats
-serve_frontier absent longest digest i epoch clock seats seat request done orderly served =
+serve_frontier absent longest wide digest i epoch clock seats seat request done orderly served =
     frontier-set longest digest seats orderly.mirrors seat done.after
     (subst (λ (d : Done Content). IsSame longest digest seats orderly.mirrors (get_or seats seat vacant) d.after)
     (sym (done_is absent digest i clock (get_or seats seat vacant) request done served))
     (content-same longest digest seats orderly.mirrors absent i (get_or seats seat vacant) _ request clock))
 
 -- a move leaves it
-move_frontier : (longest : ℕ) (digest : Digest) (i epoch : ℕ) (threshold : Option ℕ) (clock : Reading) (seats : List Content) (done : Done (List Content))
+move_frontier : (longest : ℕ) (wide : Bool) (digest : Digest) (i epoch : ℕ) (threshold : Option ℕ) (clock : Reading) (seats : List Content) (done : Done (List Content))
     → GivesDigests digest → IfSome threshold (λ least. 0 < least)
-    → IsOrderlyShard longest digest epoch seats → move_seats digest i threshold (stage_of clock seats) ≡ Some done
+    → IsOrderlyShard longest wide digest epoch seats → move_seats digest i threshold (stage_of clock seats) ≡ Some done
     → frontier_in done.after ≡ frontier_in seats
-move_frontier longest digest i epoch threshold clock seats done digests least orderly is =
+move_frontier longest wide digest i epoch threshold clock seats done digests least orderly is =
     moved_frontier (seats_moved longest digest i threshold clock seats done digests least orderly.mirrors is)
     ∙ ap (λ (xs : List Content). frontier_in xs) (sym orderly.mirrors.is)
   where
@@ -105,7 +107,7 @@ opened_frontiers [] = refl
 opened_frontiers (seats ∷ shards) = ap (λ (more : List (List Bool)). frontier_in seats.contents ∷ more) (opened_frontiers shards)
 
 module _ (functions : DigestFunctions) (settings : Settings) (script : List (List Task)) (digests : GivesDigests functions.digest)
-    (least : IfSome settings.hot (λ touches. 0 < touches)) (keys : AreInRange script) where
+    (least : IfSome settings.hot (λ touches. 0 < touches)) (keys : AreInRange settings.header script) where
   serve_step : (world : World Content) (i : ℕ) (place : Place) (request : Request) → IsOrderly functions settings script world
       → MayServe (host functions settings script) world i place request → (done : Option (Done Content))
       → serve_at settings.absent functions.digest i (worker_at (host functions settings script) world i).clock (get_or (shard_at world place.shard).contents place.seat vacant) request ≡ done
@@ -113,7 +115,7 @@ module _ (functions : DigestFunctions) (settings : Settings) (script : List (Lis
   serve_step world i place request orderly may None is = refl
   serve_step world i place request orderly may (Some done) is =
       shard_frontiers world place.shard (record (shard_at world place.shard) { contents = set (shard_at world place.shard).contents place.seat done.after })
-      (serve_frontier settings.absent (longest_of settings.header) functions.digest i _ (worker_at (host functions settings script) world i).clock (shard_at world place.shard).contents place.seat request done
+      (serve_frontier settings.absent (longest_of settings.header) (wide_of settings.header) functions.digest i _ (worker_at (host functions settings script) world i).clock (shard_at world place.shard).contents place.seat request done
       (orderly.shards place.shard may.there.0) is)
 
   move_step : (world : World Content) (i s : ℕ) → IsOrderly functions settings script world
@@ -123,7 +125,7 @@ module _ (functions : DigestFunctions) (settings : Settings) (script : List (Lis
   move_step world i s orderly may None is = refl
   move_step world i s orderly may (Some done) is =
       shard_frontiers world s (record { contents = done.after; moved = true })
-      (move_frontier (longest_of settings.header) functions.digest i _ settings.hot (worker_at (host functions settings script) world i).clock (shard_at world s).contents done digests least (orderly.shards s may.shard) is)
+      (move_frontier (longest_of settings.header) (wide_of settings.header) functions.digest i _ settings.hot (worker_at (host functions settings script) world i).clock (shard_at world s).contents done digests least (orderly.shards s may.shard) is)
 
   -- an event that is enabled
   step_frontiers : (world : World Content) (event : WorldEvent Request) → IsOrderly functions settings script world
@@ -158,11 +160,11 @@ module _ (functions : DigestFunctions) (settings : Settings) (script : List (Lis
 
 -- Behind the setup, whatever happened: the paths of the shards' numbers, in their order.
 pub frontiers_behind : (functions : DigestFunctions) (settings : Settings) (script : List (List Task)) (digests : GivesDigests functions.digest) (world : World Content)
-    → IsBehindSetup functions settings script world → frontiers world ≡ paths_below (frontier_bits settings.shards) (root_of false)
+    → IsBehindSetup functions settings script world → frontiers world ≡ paths_below (frontier_bits settings.shards) (root_of (wide_of settings.header))
 frontiers_behind functions settings script digests world behind =
     let count = behind.settings_fit.shards in
     let bits = frontier_bits_are settings.shards count in
     ap frontiers behind.is
     ∙ run_frontiers functions settings script digests behind.settings_fit.hot behind.keys (set_up (host functions settings script)) behind.events
-    (set_up_orderly functions settings script (omega (arith, bits, count.some)) (omega (arith, bits, count.most)) digests) behind.enabled
-    ∙ set_up_frontiers functions settings script digests behind.settings_fit.hot behind.keys (paths_below (frontier_bits settings.shards) (root_of false))
+    (set_up_orderly functions settings script (omega (arith, bits, count.some)) (omega (arith, bits, count.most, bits_within_key (wide_of settings.header))) digests) behind.enabled
+    ∙ set_up_frontiers functions settings script digests behind.settings_fit.hot behind.keys (paths_below (frontier_bits settings.shards) (root_of (wide_of settings.header)))

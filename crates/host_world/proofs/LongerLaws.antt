@@ -1,5 +1,5 @@
 -- What holds where data values have so many bytes at most also holds where they may have more.
-use Rattle.std.proofs.Common.{◌≡◌, ℕ, ◌≤◌, ◌<◌, ◌^◌, Bool, List, [], ◌∷◌, length, Option, Some, None, arith}
+use Rattle.std.proofs.Common.{◌≡◌, ℕ, ◌≤◌, nat_lt, Bool, true, false, if◌then◌else◌, List, [], ◌∷◌, length, Option, Some, None, arith}
 use Rattle.std.specs.List.{AllByRecursion}
 use Rattle.lamport_clocks.specs.declared.header.Header.{Header}
 use Rattle.record_text.specs.declared.value.Value.{Value}
@@ -18,7 +18,11 @@ use Rattle.host_world.specs.Seated.{SeatsMirror}
 
 -- a bundle allows no more bytes than a data value of the code can have
 pub longest_fits : (header : Header) → longest_of header ≤ longest_blob
-longest_fits header = omega arith
+longest_fits header = go (nat_lt header.version 3)
+  where
+    go : (b : Bool) → (if b then 64 else longest_blob) ≤ longest_blob
+    go true = omega arith
+    go false = omega arith
 
 module _ (longest more : ℕ) (fits : longest ≤ more) where
   pub blob_longer : (blob : Option (List ℕ)) → IsBlob longest blob → IsBlob more blob

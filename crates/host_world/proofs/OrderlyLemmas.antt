@@ -1,14 +1,15 @@
 -- A world behind the setup: its clocks stand in the phase's epoch, and its shards are whole.
-use Rattle.std.proofs.Common.{◌≡◌, ℕ, zero, suc, ◌+◌, ◌-◌, ◌<◌, ◌≤◌, ◌==◌, Bool, true, false, List, [], ◌∷◌, length, get_or, set, map, replicate, Option, Some, None, inl, inr, ◌⊎◌, if◌then◌else◌, refl, sym, ◌∙◌, ap, subst, arith}
+use Rattle.std.proofs.Common.{◌≡◌, ℕ, zero, suc, ◌+◌, ◌-◌, ◌<◌, ◌≤◌, ◌==◌, Bool, true, false, List, [], ◌∷◌, ◌++◌, ◌^◌, length, get_or, set, map, replicate, Option, Some, None, inl, inr, ◌⊎◌, if◌then◌else◌, refl, sym, ◌∙◌, ap, subst, arith}
 use Rattle.std.proofs.lemmas.Bool.{false≢true, cases_eq, cases_lt}
 use Rattle.std.proofs.lemmas.List.{length-set, get_or-set_same, get_or-set_other, set_past, get_or-map, length-map}
 use Rattle.std.specs.Prelude.{IfSome}
 use Rattle.std.specs.List.{AllByRecursion}
-use Rattle.tree_keys.specs.Path.{key_bits, root_of}
+use Rattle.tree_keys.specs.Path.{key_bits, tree_of, root_of}
 use Rattle.lamport_clocks.specs.Clock.{last_epoch}
 use Rattle.record_hash.specs.Functions.{DigestFunctions}
 use Rattle.record_text.specs.declared.element.Element.{Element}
 use Rattle.record_text.specs.declared.request.Request.{Request}
+use Rattle.record_text.specs.Tree.{wide_of}
 use Rattle.record_text.specs.Longest.{longest_of}
 use Rattle.merkle_records.specs.Merkle.{GivesDigests}
 use Rattle.host_core.specs.Host.{Done, Host}
@@ -27,6 +28,8 @@ use Rattle.host_world.specs.Moving.{stage_of, move_seats}
 use Rattle.host_world.specs.ShippedHost.{shipped_host, new_seats, serve_at}
 use Rattle.host_world.specs.Orderly.{IsOrderlyShard, IsOrderly, moved_by}
 use Rattle.host_world.specs.Behind.{AreInRange}
+use Rattle.host_laws.proofs.ToldLaws.{all-append}
+use Rattle.host_world.specs.Seated.{wide_among}
 use Rattle.host_world.proofs.PlaceLaws.{waits-set}
 use Rattle.host_world.proofs.RangeLaws.{next_in_range}
 use Rattle.host_world.proofs.SeatLaws.{serve_keeps, move_keeps}
@@ -59,6 +62,13 @@ all-epochs : (worker epoch : ℕ) (elements : List Element) → AllByRecursion (
     → AllByRecursion (λ element. element.stamp.epoch ≡ epoch) elements
 all-epochs worker epoch [] all = tt
 all-epochs worker epoch (element ∷ elements) all = (all.0.1, all-epochs worker epoch elements all.1)
+
+-- the paths below one are of its tree
+below_in : (wide : Bool) (levels : ℕ) (bits : List Bool) → AllByRecursion (λ (path : List Bool). tree_of path ≡ wide) (paths_below levels (wide ∷ bits))
+below_in wide zero bits = (refl, tt)
+below_in wide (suc levels) bits =
+    all-append (λ (path : List Bool). tree_of path ≡ wide) (paths_below levels (wide ∷ (bits ++ false ∷ []))) (paths_below levels (wide ∷ (bits ++ true ∷ [])))
+    (below_in wide levels (bits ++ false ∷ [])) (below_in wide levels (bits ++ true ∷ []))
 
 module _ (functions : DigestFunctions) (settings : Settings) (script : List (List Task)) where
   abbrev pub host : Host Content Request
@@ -95,7 +105,7 @@ module _ (functions : DigestFunctions) (settings : Settings) (script : List (Lis
 
   -- other seats of a shard leave it so
   shard_keeps : (world : World Content) (s : ℕ) (new : Seats Content) → IsOrderly functions settings script world
-      → IsOrderlyShard (longest_of settings.header) functions.digest (epoch_of host world + moved_by new.moved) new.contents → (world.closing ≡ false → new.moved ≡ false)
+      → IsOrderlyShard (longest_of settings.header) (wide_of settings.header) functions.digest (epoch_of host world + moved_by new.moved) new.contents → (world.closing ≡ false → new.moved ≡ false)
       → IsOrderly functions settings script (with_shard world s new)
   shard_keeps world s new orderly whole still = record {
     bounded = orderly.bounded;
@@ -107,11 +117,11 @@ module _ (functions : DigestFunctions) (settings : Settings) (script : List (Lis
       shards : (t : ℕ) → t < length world.shards
           → ((t ≡ s) × ((s < length world.shards) × (get_or (set world.shards s new) t (unmoved []) ≡ new)))
           ⊎ (get_or (set world.shards s new) t (unmoved []) ≡ get_or world.shards t (unmoved []))
-          → IsOrderlyShard (longest_of settings.header) functions.digest (epoch_of host world + moved_by (get_or (set world.shards s new) t (unmoved [])).moved) (get_or (set world.shards s new) t (unmoved [])).contents
+          → IsOrderlyShard (longest_of settings.header) (wide_of settings.header) functions.digest (epoch_of host world + moved_by (get_or (set world.shards s new) t (unmoved [])).moved) (get_or (set world.shards s new) t (unmoved [])).contents
       shards t there (inl is) =
-          subst (λ (seats : Seats Content). IsOrderlyShard (longest_of settings.header) functions.digest (epoch_of host world + moved_by seats.moved) seats.contents) (sym is.1.1) whole
+          subst (λ (seats : Seats Content). IsOrderlyShard (longest_of settings.header) (wide_of settings.header) functions.digest (epoch_of host world + moved_by seats.moved) seats.contents) (sym is.1.1) whole
       shards t there (inr is) =
-          subst (λ (seats : Seats Content). IsOrderlyShard (longest_of settings.header) functions.digest (epoch_of host world + moved_by seats.moved) seats.contents) (sym is) (orderly.shards t there)
+          subst (λ (seats : Seats Content). IsOrderlyShard (longest_of settings.header) (wide_of settings.header) functions.digest (epoch_of host world + moved_by seats.moved) seats.contents) (sym is) (orderly.shards t there)
 
       still_there : world.closing ≡ false → (t : ℕ) → t < length world.shards
           → ((t ≡ s) × ((s < length world.shards) × (get_or (set world.shards s new) t (unmoved []) ≡ new)))
@@ -120,7 +130,7 @@ module _ (functions : DigestFunctions) (settings : Settings) (script : List (Lis
       still_there phase t there (inl is) = ap (λ (seats : Seats Content). seats.moved) is.1.1 ∙ still phase
       still_there phase t there (inr is) = ap (λ (seats : Seats Content). seats.moved) is ∙ orderly.unmoved phase t there
 
-  module _ (digests : GivesDigests functions.digest) (least : IfSome settings.hot (λ touches. 0 < touches)) (keys : AreInRange script) where
+  module _ (digests : GivesDigests functions.digest) (least : IfSome settings.hot (λ touches. 0 < touches)) (keys : AreInRange settings.header script) where
     -- a request
     serve_orderly : (world : World Content) (i : ℕ) (place : Place) (request : Request) → IsOrderly functions settings script world → MayServe host world i place request
         → (done : Option (Done Content))
@@ -133,18 +143,20 @@ module _ (functions : DigestFunctions) (settings : Settings) (script : List (Lis
         let seats = shard_at world place.shard in
         let still = orderly.unmoved may.serving.phase place.shard may.there.0 in
         let epoch : clock.at.epoch ≡ epoch_of host world = orderly.clocked may.serving.phase i may.serving.there in
-        let whole : IsOrderlyShard (longest_of settings.header) functions.digest clock.at.epoch seats.contents =
-        subst (λ (e : ℕ). IsOrderlyShard (longest_of settings.header) functions.digest e seats.contents) (omega (arith, epoch, ap moved_by still)) (orderly.shards place.shard may.there.0) in
-        let small = next_in_range functions settings script keys world i request may.next in
-        let kept = serve_keeps settings.absent (longest_of settings.header) functions.digest i clock seats.contents place.seat request done digests whole.mirrors small may.owns is in
-        let after : IsOrderlyShard (longest_of settings.header) functions.digest clock.at.epoch (set seats.contents place.seat done.after) = record {
+        let whole : IsOrderlyShard (longest_of settings.header) (wide_of settings.header) functions.digest clock.at.epoch seats.contents =
+        subst (λ (e : ℕ). IsOrderlyShard (longest_of settings.header) (wide_of settings.header) functions.digest e seats.contents) (omega (arith, epoch, ap moved_by still)) (orderly.shards place.shard may.there.0) in
+        let small : wide_among seats.contents ≡ wide_of settings.header → request.key < 2 ^ key_bits (wide_among seats.contents) =
+        λ tree. subst (λ (wide : Bool). request.key < 2 ^ key_bits wide) (sym tree) (next_in_range functions settings script keys world i request may.next) in
+        let kept = serve_keeps settings.absent (longest_of settings.header) functions.digest i clock seats.contents place.seat request done digests whole.mirrors (small whole.tree) may.owns is in
+        let after : IsOrderlyShard (longest_of settings.header) (wide_of settings.header) functions.digest clock.at.epoch (set seats.contents place.seat done.after) = record {
           mirrors = kept.mirrors;
+          tree = kept.tree ∙ whole.tree;
           stamped = waits-set (λ element. element.stamp.epoch ≡ clock.at.epoch) seats.contents place.seat done.after
               (all-epochs i clock.at.epoch _ kept.waits) whole.stamped;
         } in
         shard_keeps (with_worker world i _) place.shard _
         (worker_keeps world i _ orderly (kept.same_epoch.first ∙ orderly.bounded i) (λ there phase. kept.same_epoch.epoch ∙ epoch))
-        (subst (λ (e : ℕ). IsOrderlyShard (longest_of settings.header) functions.digest e (set seats.contents place.seat done.after)) (omega (arith, epoch, ap moved_by still)) after)
+        (subst (λ (e : ℕ). IsOrderlyShard (longest_of settings.header) (wide_of settings.header) functions.digest e (set seats.contents place.seat done.after)) (omega (arith, epoch, ap moved_by still)) after)
         (λ phase. still)
 
     -- a move
@@ -157,13 +169,14 @@ module _ (functions : DigestFunctions) (settings : Settings) (script : List (Lis
     move_orderly world i s orderly may (Some done) is =
         let clock = (worker_at host world i).clock in
         let kept = move_keeps (longest_of settings.header) functions.digest i settings.hot clock (shard_at world s).contents done digests least (orderly.shards s may.shard).mirrors is in
-        let after : IsOrderlyShard (longest_of settings.header) functions.digest clock.at.epoch done.after = record {
+        let after : IsOrderlyShard (longest_of settings.header) (wide_of settings.header) functions.digest clock.at.epoch done.after = record {
           mirrors = kept.mirrors;
+          tree = kept.tree ∙ (orderly.shards s may.shard).tree;
           stamped = all-epochs i clock.at.epoch _ kept.waits;
         } in
         shard_keeps (with_worker world i _) s _
         (worker_keeps world i _ orderly (kept.same_epoch.first ∙ orderly.bounded i) (λ there phase. absurd (false≢true (sym phase ∙ may.closing))))
-        (subst (λ (e : ℕ). IsOrderlyShard (longest_of settings.header) functions.digest e done.after) may.turned after)
+        (subst (λ (e : ℕ). IsOrderlyShard (longest_of settings.header) (wide_of settings.header) functions.digest e done.after) may.turned after)
         (λ phase. absurd (false≢true (sym phase ∙ may.closing)))
 
     -- the next epoch
@@ -199,12 +212,12 @@ module _ (functions : DigestFunctions) (settings : Settings) (script : List (Lis
     }
       where
         opened : (s : ℕ) → s < length world.shards
-            → IsOrderlyShard (longest_of settings.header) functions.digest (settings.header.first + suc world.phase + moved_by (get_or (map (λ (seats : Seats Content). unmoved seats.contents) world.shards) s (unmoved [])).moved)
+            → IsOrderlyShard (longest_of settings.header) (wide_of settings.header) functions.digest (settings.header.first + suc world.phase + moved_by (get_or (map (λ (seats : Seats Content). unmoved seats.contents) world.shards) s (unmoved [])).moved)
             (get_or (map (λ (seats : Seats Content). unmoved seats.contents) world.shards) s (unmoved [])).contents
         opened s there =
-            subst (λ (seats : Seats Content). IsOrderlyShard (longest_of settings.header) functions.digest (settings.header.first + suc world.phase + moved_by seats.moved) seats.contents)
+            subst (λ (seats : Seats Content). IsOrderlyShard (longest_of settings.header) (wide_of settings.header) functions.digest (settings.header.first + suc world.phase + moved_by seats.moved) seats.contents)
             (sym (get_or-map (λ (seats : Seats Content). unmoved seats.contents) world.shards s (unmoved []) (unmoved []) there))
-            (subst (λ (e : ℕ). IsOrderlyShard (longest_of settings.header) functions.digest e (shard_at world s).contents)
+            (subst (λ (e : ℕ). IsOrderlyShard (longest_of settings.header) (wide_of settings.header) functions.digest e (shard_at world s).contents)
             (omega (arith, ap moved_by (may.moved s there))) (orderly.shards s there))
 
     -- an event that is enabled
@@ -224,7 +237,7 @@ module _ (functions : DigestFunctions) (settings : Settings) (script : List (Lis
         run_orderly (step host world event) events (step_orderly world event orderly enabled.0) enabled.1
 
   -- the setup
-  pub set_up_orderly : 0 < frontier_bits settings.shards → frontier_bits settings.shards < key_bits false → GivesDigests functions.digest → IsOrderly functions settings script (set_up host)
+  pub set_up_orderly : 0 < frontier_bits settings.shards → frontier_bits settings.shards < key_bits (wide_of settings.header) → GivesDigests functions.digest → IsOrderly functions settings script (set_up host)
   set_up_orderly some short digests = record {
     bounded = first;
     clocked = λ phase i there. epoch i;
@@ -237,10 +250,10 @@ module _ (functions : DigestFunctions) (settings : Settings) (script : List (Lis
       bits = frontier_bits settings.shards
 
       contents : List Content
-      contents = setup_contents settings.header.first bits
+      contents = setup_contents (wide_of settings.header) settings.header.first bits
 
       paths : List (List Bool)
-      paths = paths_below bits (root_of false)
+      paths = paths_below bits (root_of (wide_of settings.header))
 
       first : (i : ℕ) → (worker_at host (set_up host) i).clock.first ≡ settings.header.first
       first zero = refl
@@ -251,13 +264,13 @@ module _ (functions : DigestFunctions) (settings : Settings) (script : List (Lis
       epoch (suc i) = ap (λ (w : Worker). w.clock.at.epoch) (get_or-same (settings.header.verifiers - 1) i (fresh settings.header)) ∙ omega arith
 
       seats : (s : ℕ) → s < length contents
-          → IsOrderlyShard (longest_of settings.header) functions.digest (settings.header.first + 0 + moved_by (shard_at (set_up host) s).moved) (shard_at (set_up host) s).contents
+          → IsOrderlyShard (longest_of settings.header) (wide_of settings.header) functions.digest (settings.header.first + 0 + moved_by (shard_at (set_up host) s).moved) (shard_at (set_up host) s).contents
       seats s there =
           let at_place = get_or-map unmoved (map new_seats contents) s [] (unmoved []) (omega (arith, there, length-map contents new_seats)) in
           let at_seats = get_or-map new_seats contents s vacant [] there in
           let frontier = get_or paths s [] in
           let at_content = get_or-map (first_content settings.header.first) paths s [] vacant (omega (arith, there, length-map paths (first_content settings.header.first))) in
-          subst (λ (found : Seats Content). IsOrderlyShard (longest_of settings.header) functions.digest (settings.header.first + 0 + moved_by found.moved) found.contents)
+          subst (λ (found : Seats Content). IsOrderlyShard (longest_of settings.header) (wide_of settings.header) functions.digest (settings.header.first + 0 + moved_by found.moved) found.contents)
           (sym (at_place ∙ ap unmoved (at_seats ∙ ap new_seats at_content)))
           (record {
             mirrors = record {
@@ -267,9 +280,11 @@ module _ (functions : DigestFunctions) (settings : Settings) (script : List (Lis
               four = refl;
               hot_alone = (tt, (tt, (tt, (tt, tt))));
               mirrored = subst (ContentMirrors (longest_of settings.header) functions.digest []) at_content
-                  (all-get (ContentMirrors (longest_of settings.header) functions.digest []) contents s vacant (contents_mirror (longest_of settings.header) functions.digest settings.header.first bits some short) there);
+                  (all-get (ContentMirrors (longest_of settings.header) functions.digest []) contents s vacant (contents_mirror (longest_of settings.header) functions.digest (wide_of settings.header) settings.header.first bits some short) there);
               blobs = tt;
               in_range = tt;
             };
+            tree = all-get (λ (path : List Bool). tree_of path ≡ wide_of settings.header) paths s [] (below_in (wide_of settings.header) bits [])
+                (omega (arith, there, length-map paths (first_content settings.header.first)));
             stamped = (omega arith, tt);
           })

@@ -42,8 +42,8 @@ hot_there (hot first ∷ places) zero found is = inl (sym (same is))
 hot_there (hot first ∷ places) (suc k) found is = inr (hot_there places k found is)
 
 -- a hot record of the same key in the place of another: what the keys say stays
-pub keys-set : {A : Type 0} (of : ℕ → A) (places : List Content) (k : ℕ) (found new : HotRecord) → get_or places k vacant ≡ hot found → new.key ≡ found.key
-    → map (λ (r : HotRecord). of r.key) (hot_records (set places k (hot new))) ≡ map (λ (r : HotRecord). of r.key) (hot_records places)
+pub keys-set : {A : Type 0} (of : HotRecord → A) (places : List Content) (k : ℕ) (found new : HotRecord) → get_or places k vacant ≡ hot found → of new ≡ of found
+    → map of (hot_records (set places k (hot new))) ≡ map of (hot_records places)
 keys-set of [] k found new is same = refl
 keys-set of (cold shard ∷ places) zero found new is same = absurd (no_hot is)
   where
@@ -56,11 +56,11 @@ keys-set of (vacant ∷ places) zero found new is same = absurd (no_hot is)
     no_hot is' = cc
 keys-set of (vacant ∷ places) (suc k) found new is same = keys-set of places k found new is same
 keys-set of (hot first ∷ places) zero found new is same =
-    ap (λ key. of key ∷ map (λ (r : HotRecord). of r.key) (hot_records places)) (same ∙ ap (λ (r : HotRecord). r.key) (sym (one is)))
+    ap (λ image. image ∷ map of (hot_records places)) (same ∙ ap of (sym (one is)))
   where
     one : hot first ≡ hot found → first ≡ found
     one is' = cc
-keys-set {A} of (hot first ∷ places) (suc k) found new is same = ap (λ (rest : List A). of first.key ∷ rest) (keys-set of places k found new is same)
+keys-set {A} of (hot first ∷ places) (suc k) found new is same = ap (λ (rest : List A). of first ∷ rest) (keys-set of places k found new is same)
 
 pub records-set : (P : HotRecord → Type 0) (places : List Content) (k : ℕ) (new : HotRecord) → P new → AllByRecursion P (hot_records places)
     → AllByRecursion P (hot_records (set places k (hot new)))

@@ -9,16 +9,18 @@ use Rattle.std.proofs.lemmas.List.Folds.{list_any_more}
 use Rattle.tree_keys.specs.Bits.{bits_of, number_of}
 use Rattle.tree_keys.specs.BitsLaws.{length-bits_of, number_back}
 use Rattle.tree_keys.specs.Path.{is_prefix, key_path, key_bits, root_of}
-use Rattle.tree_keys.proofs.BitsLaws.{bits_of-same, bits_of-number_of, take-bits_of, first_below}
+use Rattle.tree_keys.proofs.BitsLaws.{bits_of-same, bits_of-number_of, take-bits_of, first_below, low_bits}
 use Rattle.record_hash.specs.Functions.{DigestFunctions}
 use Rattle.record_text.specs.declared.request.Request.{Request}
 use Rattle.record_text.specs.Longest.{longest_of}
+use Rattle.record_text.specs.Tree.{wide_of}
 use Rattle.merkle_records.specs.Merkle.{Digest, GivesDigests}
 use Rattle.log_codec.specs.declared.command.Command.{Command}
 use Rattle.host_core.specs.World.{Place, Seats, World, unmoved, shard_at}
 use Rattle.host_core.specs.WorldEvent.{IsPlace}
-use Rattle.host_shard.specs.Content.{Content, cold, hot, vacant}
+use Rattle.host_shard.specs.Content.{wide_at, Content, cold, hot, vacant}
 use Rattle.host_shard.specs.Shown.{shown_content}
+use Rattle.host_shard.specs.Shard.{key_path_in}
 use Rattle.host_plan.specs.Setup.{IsShardCount, child, paths_below}
 use Rattle.script_text.specs.declared.task.Task.{Task}
 use Rattle.protection_moves.specs.Stage.{is_hot_at}
@@ -27,11 +29,13 @@ use Rattle.host_world.specs.declared.seats.Seats as code_seats
 use Rattle.host_world.specs.declared.world.World as code
 use Rattle.host_world.specs.Behind.{IsBehindSetup, StandsWith, with_logs}
 use Rattle.host_world.specs.Places.{place_of}
-use Rattle.host_world.specs.Seated.{SeatsMirror}
+use Rattle.host_world.specs.Seated.{SeatsMirror, wide_among}
+use Rattle.host_world.specs.Orderly.{IsOrderlyShard}
 use Rattle.host_world.specs.Settings.{frontier_bits}
 use Rattle.host_world.specs.ShippedHost.{serves_key, is_blob, is_place_of}
 use Rattle.host_world.specs.Shown.{contents_of, shown_seats, shown_world, requests_of}
 use Rattle.host_world.proofs.BehindLemmas.{behind_orderly, shards_are, frontier_bits_are}
+use Rattle.host_world.proofs.RangeLaws.{bits_within_key, key_bits-most}
 use Rattle.host_world.proofs.FrontierLaws.{frontier_in, frontiers_behind}
 use Rattle.host_world.proofs.WorldLemmas.{read_shown}
 
@@ -53,29 +57,35 @@ log_is : (shards r : ℕ) (count : IsShardCount shards) → 2 ^ r ≤ shards →
 log_is shards r count low high = exponent shards r count.bits count.power low high
 
 -- so many bits fewer than a key has are fewer
-pub shift_below : (shards r : ℕ) → IsShardCount shards → 2 ^ r ≤ shards → shards < 2 * 2 ^ r → 64 - r < 64
-shift_below shards r count low high = omega (arith, log_is shards r count low high, count.some)
+pub shift_below : (wide : Bool) (shards r : ℕ) → IsShardCount shards → 2 ^ r ≤ shards → shards < 2 * 2 ^ r → (r ≤ key_bits wide) × (key_bits wide - r < 128)
+shift_below wide shards r count low high =
+    let bits = log_is shards r count low high in
+    (omega (arith, bits, count.most, bits_within_key wide), omega (arith, bits, count.some, key_bits-most wide))
 
 -- so many first bits of a key spell what is left of it above the others
-number_of-first : (key bits : ℕ) → key < 2 ^ 64 → bits ≤ 64 → number_of (take bits (bits_of (key_bits false) key)) ≡ key / 2 ^ (64 - bits)
-number_of-first key bits small within =
-    ap number_of (take-bits_of 64 bits key within)
-    ∙ number_back bits (key / 2 ^ (64 - bits)) (first_below key 64 bits within small)
+number_of-first : (wide : Bool) (key bits : ℕ) → key < 2 ^ key_bits wide → bits ≤ key_bits wide → number_of (take bits (bits_of (key_bits wide) key)) ≡ key / 2 ^ (key_bits wide - bits)
+number_of-first wide key bits small within =
+    ap number_of (take-bits_of (key_bits wide) bits key within)
+    ∙ number_back bits (key / 2 ^ (key_bits wide - bits)) (first_below key (key_bits wide) bits within small)
 
 -- The shard of a key, from the logarithm of how many shards there are.
-pub shard_is : (key shards r : ℕ) → key < 2 ^ 64 → IsShardCount shards → 2 ^ r ≤ shards → shards < 2 * 2 ^ r
-    → key / 2 ^ (64 - r) ≡ number_of (take (frontier_bits shards) (bits_of (key_bits false) key))
-shard_is key shards r small count low high =
+pub shard_is : (wide : Bool) (key shards r : ℕ) → key < 2 ^ key_bits wide → IsShardCount shards → 2 ^ r ≤ shards → shards < 2 * 2 ^ r
+    → key / 2 ^ (key_bits wide - r) ≡ number_of (take (frontier_bits shards) (bits_of (key_bits wide) key))
+shard_is wide key shards r small count low high =
     let bits : r ≡ frontier_bits shards = log_is shards r count low high ∙ sym (frontier_bits_are shards count) in
-    ap (λ (n : ℕ). key / 2 ^ (64 - n)) bits
-    ∙ sym (number_of-first key (frontier_bits shards) small (omega (arith, frontier_bits_are shards count, count.most)))
+    ap (λ (n : ℕ). key / 2 ^ (key_bits wide - n)) bits
+    ∙ sym (number_of-first wide key (frontier_bits shards) small (omega (arith, frontier_bits_are shards count, count.most, bits_within_key wide)))
 
 -- It is one of them.
-pub shard_below : (key shards r : ℕ) → key < 2 ^ 64 → IsShardCount shards → 2 ^ r ≤ shards → shards < 2 * 2 ^ r → key / 2 ^ (64 - r) < shards
-shard_below key shards r small count low high =
+pub shard_below : (wide : Bool) (key shards r : ℕ) → key < 2 ^ key_bits wide → IsShardCount shards → 2 ^ r ≤ shards → shards < 2 * 2 ^ r → key / 2 ^ (key_bits wide - r) < shards
+shard_below wide key shards r small count low high =
     let bits = log_is shards r count low high in
-    subst (λ (n : ℕ). key / 2 ^ (64 - r) < n) (ap (λ (n : ℕ). 2 ^ n) bits ∙ sym count.power)
-    (first_below key 64 r (omega (arith, bits, count.most)) small)
+    subst (λ (n : ℕ). key / 2 ^ (key_bits wide - r) < n) (ap (λ (n : ℕ). 2 ^ n) bits ∙ sym count.power)
+    (first_below key (key_bits wide) r (omega (arith, bits, count.most, bits_within_key wide)) small)
+
+-- The first bits of a number that has a key's lowest bits are those of the key.
+pub low_key : (wide : Bool) (key low : ℕ) → low ≡ key % 2 ^ key_bits wide → bits_of (key_bits wide) low ≡ bits_of (key_bits wide) key
+low_key wide key low is = ap (bits_of (key_bits wide)) is ∙ low_bits (key_bits wide) key
 
 -- the first of the bits are a prefix of them
 prefix-take : (n : ℕ) (bits : List Bool) → is_prefix (take n bits) bits ≡ true
@@ -83,6 +93,11 @@ prefix-take zero bits = refl
 prefix-take (suc n) [] = refl
 prefix-take (suc n) (true ∷ bits) = prefix-take n bits
 prefix-take (suc n) (false ∷ bits) = prefix-take n bits
+
+-- and so behind a root
+prefix_root : (wide : Bool) (n : ℕ) (bits : List Bool) → is_prefix (wide ∷ take n bits) (wide ∷ bits) ≡ true
+prefix_root true n bits = prefix-take n bits
+prefix_root false n bits = prefix-take n bits
 
 -- and as many as they are
 length-first : (n : ℕ) (bits : List Bool) → n ≤ length bits → length (take n bits) ≡ n
@@ -99,15 +114,15 @@ count_below (suc levels) path =
     omega (arith, length-append (paths_below levels (child path false)) (paths_below levels (child path true)), count_below levels (child path false), count_below levels (child path true), pow-suc 2 levels)
 
 -- a number of one bit more, whose first bit is 0 or 1
-low_bits : (levels n : ℕ) → n < 2 ^ levels → bits_of (suc levels) n ≡ false ∷ bits_of levels n
+low_half : (levels n : ℕ) → n < 2 ^ levels → bits_of (suc levels) n ≡ false ∷ bits_of levels n
 unfolding bits_of
-low_bits levels n low =
+low_half levels n low =
     let top : n / 2 ^ levels ≡ 0 = ap (λ (m : ℕ). m / 2 ^ levels) (omega arith) ∙ shr_high 0 levels n low in
     ap (λ (m : ℕ). (m % 2 == 1) ∷ bits_of levels n) top
 
-high_bits : (levels m : ℕ) → m < 2 ^ levels → bits_of (suc levels) (1 * 2 ^ levels + m) ≡ true ∷ bits_of levels m
+high_half : (levels m : ℕ) → m < 2 ^ levels → bits_of (suc levels) (1 * 2 ^ levels + m) ≡ true ∷ bits_of levels m
 unfolding bits_of
-high_bits levels m low =
+high_half levels m low =
     ap (λ (k : ℕ). (k % 2 == 1) ∷ bits_of levels (1 * 2 ^ levels + m)) (shr_high 1 levels m low)
     ∙ ap (λ (bits : List Bool). true ∷ bits) (bits_of-same levels (1 * 2 ^ levels + m) m
     (mod_low 1 levels m low ∙ (sym (mod_low 0 levels m low) ∙ ap (λ (k : ℕ). k % 2 ^ levels) (omega arith))))
@@ -126,14 +141,14 @@ path_at (suc levels) path n small = go (cases_lt n (2 ^ levels)) (path_at levels
     go (inl low) first second =
         get_or_append_left (paths_below levels (child path false)) (paths_below levels (child path true)) [] n (omega (arith, low, count_below levels (child path false)))
         ∙ first n low ∙ append_assoc path (false ∷ []) (bits_of levels n)
-        ∙ ap (λ (bits : List Bool). path ++ bits) (sym (low_bits levels n low))
+        ∙ ap (λ (bits : List Bool). path ++ bits) (sym (low_half levels n low))
     go (inr high) first second =
         let m : ℕ = n - 2 ^ levels in
         let less : m < 2 ^ levels = omega (arith, small, high, pow-suc 2 levels) in
         let is : 1 * 2 ^ levels + m ≡ n = omega (arith, high) in
         get_or-append_right (paths_below levels (child path false)) (paths_below levels (child path true)) (2 ^ levels) n [] (count_below levels (child path false)) high
         ∙ second m less ∙ append_assoc path (true ∷ []) (bits_of levels m)
-        ∙ ap (λ (bits : List Bool). path ++ bits) (sym (high_bits levels m less))
+        ∙ ap (λ (bits : List Bool). path ++ bits) (sym (high_half levels m less))
         ∙ ap (λ (k : ℕ). path ++ bits_of (suc levels) k) is
 
 -- ---- a world behind the setup
@@ -145,27 +160,28 @@ module _ (functions : DigestFunctions) (settings : Settings) (script : List (Lis
   shards_there =
       sym (length-map world.shards (λ (seats : Seats Content). frontier_in seats.contents))
       ∙ ap (λ (paths : List (List Bool)). length paths) (frontiers_behind functions settings script digests world behind)
-      ∙ count_below (frontier_bits settings.shards) (root_of false)
+      ∙ count_below (frontier_bits settings.shards) (root_of (wide_of settings.header))
       ∙ sym (shards_are settings.shards behind.settings_fit.shards)
 
   -- each with its number's bits behind the root as its frontier
-  frontier_at : (s : ℕ) → s < settings.shards → frontier_in (shard_at world s).contents ≡ root_of false ++ bits_of (frontier_bits settings.shards) s
+  frontier_at : (s : ℕ) → s < settings.shards → frontier_in (shard_at world s).contents ≡ root_of (wide_of settings.header) ++ bits_of (frontier_bits settings.shards) s
   frontier_at s there =
       sym (get_or-map (λ (seats : Seats Content). frontier_in seats.contents) world.shards s (unmoved []) [] (omega (arith, there, shards_there)))
       ∙ ap (λ (paths : List (List Bool)). get_or paths s []) (frontiers_behind functions settings script digests world behind)
-      ∙ path_at (frontier_bits settings.shards) (root_of false) s (omega (arith, there, shards_are settings.shards behind.settings_fit.shards))
+      ∙ path_at (frontier_bits settings.shards) (root_of (wide_of settings.header)) s (omega (arith, there, shards_are settings.shards behind.settings_fit.shards))
 
   -- A key lies below the frontier of the shard whose number its first bits spell.
-  lies_below : (key s : ℕ) → s ≡ number_of (take (frontier_bits settings.shards) (bits_of (key_bits false) key)) → s < settings.shards
-      → is_prefix (frontier_in (shard_at world s).contents) (key_path false key) ≡ true
+  lies_below : (key s : ℕ) → s ≡ number_of (take (frontier_bits settings.shards) (bits_of (key_bits (wide_of settings.header)) key)) → s < settings.shards
+      → is_prefix (frontier_in (shard_at world s).contents) (key_path (wide_of settings.header) key) ≡ true
   lies_below key s is there =
       let bits : ℕ = frontier_bits settings.shards in
-      let first : List Bool = take bits (bits_of (key_bits false) key) in
+      let first : List Bool = take bits (bits_of (key_bits (wide_of settings.header)) key) in
       let count = behind.settings_fit.shards in
-      let long : length first ≡ bits = length-first bits (bits_of (key_bits false) key) (omega (arith, length-bits_of 64 key, frontier_bits_are settings.shards count, count.most)) in
+      let long : length first ≡ bits = length-first bits (bits_of (key_bits (wide_of settings.header)) key)
+      (omega (arith, length-bits_of (key_bits (wide_of settings.header)) key, frontier_bits_are settings.shards count, count.most, bits_within_key (wide_of settings.header))) in
       let spelled : bits_of bits s ≡ first = ap (bits_of bits) is ∙ ap (λ (n : ℕ). bits_of n (number_of first)) (sym long) ∙ bits_of-number_of first in
-      let frontier : frontier_in (shard_at world s).contents ≡ root_of false ++ first = frontier_at s there ∙ ap (λ (more : List Bool). root_of false ++ more) spelled in
-      ap (λ (path : List Bool). is_prefix path (key_path false key)) frontier ∙ prefix-take bits (bits_of (key_bits false) key)
+      let frontier : frontier_in (shard_at world s).contents ≡ root_of (wide_of settings.header) ++ first = frontier_at s there ∙ ap (λ (more : List Bool). root_of (wide_of settings.header) ++ more) spelled in
+      ap (λ (path : List Bool). is_prefix path (key_path (wide_of settings.header) key)) frontier ∙ prefix_root (wide_of settings.header) bits (bits_of (key_bits (wide_of settings.header)) key)
 
 -- ---- the seat of a key
 
@@ -185,13 +201,13 @@ hot_serves seats key vacant is = absurd (false≢true is)
 
 -- A hot place that has a request's key is its place; and where none has, the shard's own is, if the key lies below its frontier.
 seat_owns : (longest : ℕ) (digest : Digest) (first : Content) (places : List Content) → SeatsMirror longest digest (first ∷ places) → (seat : ℕ) (request : Request)
-    → is_prefix (frontier_in (first ∷ places)) (key_path false request.key) ≡ true → is_blob longest request.value ≡ true
+    → is_prefix (frontier_in (first ∷ places)) (key_path (wide_at first) request.key) ≡ true → is_blob longest request.value ≡ true
     → (seat ≢ 0 → is_hot_at request.key (get_or (first ∷ places) seat vacant) ≡ true)
     → (seat ≡ 0 → list_any (is_hot_at request.key) places ≡ false)
     → is_place_of longest (first ∷ places) seat request ≡ true
 seat_owns longest digest (cold shard) places mirrors zero request below blob hot_there none_there =
-    and_from (is_prefix shard.frontier (key_path false request.key) && not (list_any (is_hot_at request.key) places)) (is_blob longest request.value)
-    (and_from (is_prefix shard.frontier (key_path false request.key)) (not (list_any (is_hot_at request.key) places)) below (ap not (none_there refl))) blob
+    and_from (is_prefix shard.frontier (key_path_in shard request.key) && not (list_any (is_hot_at request.key) places)) (is_blob longest request.value)
+    (and_from (is_prefix shard.frontier (key_path_in shard request.key)) (not (list_any (is_hot_at request.key) places)) below (ap not (none_there refl))) blob
 seat_owns longest digest first places mirrors (suc k) request below blob hot_there none_there =
     and_from (serves_key (first ∷ places) request.key (get_or places k vacant)) (is_blob longest request.value)
     (hot_serves (first ∷ places) request.key (get_or places k vacant) (hot_there (omega arith))) blob
@@ -231,11 +247,17 @@ module _ {D : Type 0} (functions : DigestFunctions) (digests : GivesDigests func
     seats_read : shard_at (shown_world world) s ≡ shown_seats seats
     seats_read = read_shown shown_seats world.shards.items s seats (unmoved []) (omega (arith, there, shards_in)) read
 
+    orderly_there : (epoch : ℕ) × IsOrderlyShard (longest_of world.settings.header) (wide_of world.settings.header) functions.digest epoch (shard_at (shown_world world) s).contents
+    orderly_there =
+        let whole = behind_orderly functions world.settings (requests_of world) digests (with_logs logs (shown_world world)) stands.behind in
+        (_, whole.shards s (omega (arith, there, shards_in, length-map world.shards.items shown_seats)))
+
     seats_mirror : SeatsMirror (longest_of world.settings.header) functions.digest (contents_of seats)
     seats_mirror =
-        let whole = behind_orderly functions world.settings (requests_of world) digests (with_logs logs (shown_world world)) stands.behind in
-        subst (λ (found : Seats Content). SeatsMirror (longest_of world.settings.header) functions.digest found.contents) seats_read
-        (whole.shards s (omega (arith, there, shards_in, length-map world.shards.items shown_seats))).mirrors
+        subst (λ (found : Seats Content). SeatsMirror (longest_of world.settings.header) functions.digest found.contents) seats_read orderly_there.1.mirrors
+
+    tree_read : wide_among (contents_of seats) ≡ wide_of world.settings.header
+    tree_read = subst (λ (found : Seats Content). wide_among found.contents ≡ wide_of world.settings.header) seats_read orderly_there.1.tree
 
     pub five_seats : length (contents_of seats) ≡ 5
     five_seats = ap (λ (xs : List Content). length xs) seats_mirror.is ∙ ap (λ (n : ℕ). suc n) seats_mirror.four
@@ -253,7 +275,7 @@ module _ {D : Type 0} (functions : DigestFunctions) (digests : GivesDigests func
           )
 
       -- And it is the place of a request whose key's first bits spell the shard's number, if the seat is the key's.
-      pub place_owns : (request : Request) → s ≡ number_of (take (frontier_bits world.settings.shards) (bits_of (key_bits false) request.key)) → is_blob (longest_of world.settings.header) request.value ≡ true
+      pub place_owns : (request : Request) → s ≡ number_of (take (frontier_bits world.settings.shards) (bits_of (key_bits (wide_of world.settings.header)) request.key)) → is_blob (longest_of world.settings.header) request.value ≡ true
           → (seat ≢ 0 → is_hot_at request.key (get_or (contents_of seats) seat vacant) ≡ true)
           → (seat ≡ 0 → list_any (is_hot_at request.key) (map shown_content seats.hot.items) ≡ false)
           → is_place_of (longest_of world.settings.header) (shard_at (shown_world world) (place_of number).shard).contents (place_of number).seat request ≡ true
@@ -261,6 +283,7 @@ module _ {D : Type 0} (functions : DigestFunctions) (digests : GivesDigests func
           at_place (λ (place : Place). is_place_of (longest_of world.settings.header) (shard_at (shown_world world) place.shard).contents place.seat request ≡ true)
           (subst (λ (found : Seats Content). is_place_of (longest_of world.settings.header) found.contents seat request ≡ true) (sym seats_read)
           (seat_owns (longest_of world.settings.header) functions.digest (shown_content seats.first) (map shown_content seats.hot.items) seats_mirror seat request
-          (subst (λ (found : Seats Content). is_prefix (frontier_in found.contents) (key_path false request.key) ≡ true) seats_read
-          (lies_below functions world.settings (requests_of world) digests (with_logs logs (shown_world world)) stands.behind request.key s first there))
+          (subst (λ (wide : Bool). is_prefix (frontier_in (contents_of seats)) (key_path wide request.key) ≡ true) (sym tree_read)
+          (subst (λ (found : Seats Content). is_prefix (frontier_in found.contents) (key_path (wide_of world.settings.header) request.key) ≡ true) seats_read
+          (lies_below functions world.settings (requests_of world) digests (with_logs logs (shown_world world)) stands.behind request.key s first there)))
           blob hot_there none_there))

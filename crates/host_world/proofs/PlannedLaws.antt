@@ -2,7 +2,7 @@
 use Rattle.std.proofs.Common.{◌≡◌, ℕ, Bool, true, false, List, nat_lt, Option, Some, None, is_some, if◌then◌else◌, refl, sym, ◌∙◌, ap, subst}
 use Rattle.std.proofs.lemmas.Bool.{false≢true, lt-ltb}
 use Rattle.std.proofs.lemmas.Option.{same_Some}
-use Rattle.tree_keys.specs.Path.{IsData, key_path}
+use Rattle.tree_keys.specs.Path.{IsData}
 use Rattle.tree_keys.proofs.TreeLaws.{data-no_node}
 use Rattle.lamport_clocks.specs.Reading.{Reading}
 use Rattle.record_text.specs.declared.request.Request.{Request}
@@ -13,7 +13,7 @@ use Rattle.merkle_records.specs.Merkle.{Digest}
 use Rattle.host_core.specs.Host.{Done}
 use Rattle.host_shard.specs.Chain.{last_value}
 use Rattle.host_shard.specs.Content.{Content, cold, hot, vacant}
-use Rattle.host_shard.specs.Shard.{Shard, tree_of}
+use Rattle.host_shard.specs.Shard.{key_path_in, Shard, tree_of}
 use Rattle.host_shard.specs.declared.link.Link.{Link}
 use Rattle.host_shard.proofs.ChainLaws.{frontier_kind, last_kind}
 use Rattle.host_plan.specs.Plan.{Owns, AreLinks, clock_after, value_found}
@@ -45,7 +45,7 @@ links_lead : (absent : Bool) (longest : ℕ) (content : Content) (request : Requ
     → AreLinks content request.key (links_of content request.key)
     × ((answer : Option (List ℕ)) × (values.Blob answer ≡ value_after request (value_found absent content (links_of content request.key) request)))
 links_lead absent longest (cold shard) request own =
-    let key = key_path false request.key in
+    let key = key_path_in shard request.key in
     let chain = shard_links_are longest shard key own.0 own.1 in (
       chain,
       answer_of longest request (value_before shard (links_of (cold shard) request.key) (is_missed absent shard (links_of (cold shard) request.key) request)) key own.1.whole

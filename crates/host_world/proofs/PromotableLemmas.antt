@@ -4,9 +4,10 @@ use Rattle.std.specs.Prelude.{filter}
 use Rattle.std.specs.List.{list_any, AllByRecursion, All, AllPairs}
 use Rattle.std.proofs.lemmas.Bool.{false≢true, and_parts, and_from, leb-true, le-leb, cases_eq}
 use Rattle.std.proofs.lemmas.List.Elements.{All-head, All-tail}
-use Rattle.tree_keys.specs.Path.{side, same_path, key_bits, key_path}
+use Rattle.tree_keys.specs.Path.{side, same_path, key_bits}
 use Rattle.tree_keys.proofs.PathLaws.{same_path-self, same_path-true}
 use Rattle.tree_keys.proofs.TreeLaws.{key_path-data}
+use Rattle.host_shard.specs.Shard.{key_path_in, wide_in}
 use Rattle.protection_moves.specs.Stage.{Stage, hot_paths}
 use Rattle.protection_moves.specs.Transfer.{IsTouchedOften, ArePromotable}
 use Rattle.protection_moves.proofs.TransferLaws.{none_promotable}
@@ -160,27 +161,27 @@ not_true true is = absurd (false≢true is)
 not_true false is = refl
 
 module _ (stage : Stage) (least : ℕ) where
-  test_says : (key : ℕ) → key < 2 ^ key_bits false → is_promotable stage least key ≡ true → IsTouchedOften stage least key
+  test_says : (key : ℕ) → key < 2 ^ key_bits (wide_in stage.shard) → is_promotable stage least key ≡ true → IsTouchedOften stage least key
   test_says key small is =
-      let parts = and_parts (is_some (side stage.shard.frontier (key_path false key))) _ is in
-      let more = and_parts (not (list_any (λ path. same_path path (key_path false key)) (hot_paths stage.places))) _ parts.1 in
+      let parts = and_parts (is_some (side stage.shard.frontier (key_path_in stage.shard key))) _ is in
+      let more = and_parts (not (list_any (λ path. same_path path (key_path_in stage.shard key)) (hot_paths stage.places))) _ parts.1 in
       record {
         in_range = small;
-        own = record { whole = key_path-data false key; below = parts.0 };
-        cold = λ among. none_found (key_path false key) (hot_paths stage.places) (not_true _ more.0) (among-member _ (key_path false key) among);
-        often = leb-true least (stage.shard.touches (key_path false key)) more.1;
+        own = record { whole = key_path-data (wide_in stage.shard) key; below = parts.0 };
+        cold = λ among. none_found (key_path_in stage.shard key) (hot_paths stage.places) (not_true _ more.0) (among-member _ (key_path_in stage.shard key) among);
+        often = leb-true least (stage.shard.touches (key_path_in stage.shard key)) more.1;
       }
 
   says_test : (key : ℕ) → IsTouchedOften stage least key → is_promotable stage least key ≡ true
   says_test key is =
-      and_from (is_some (side stage.shard.frontier (key_path false key))) _ is.own.below
-      (and_from (not (list_any (λ path. same_path path (key_path false key)) (hot_paths stage.places))) _
-      (ap (λ (b : Bool). not b) (no_member (key_path false key) (hot_paths stage.places) (λ member. is.cold (member-among _ (key_path false key) member))))
-      (le-leb least (stage.shard.touches (key_path false key)) is.often))
+      and_from (is_some (side stage.shard.frontier (key_path_in stage.shard key))) _ is.own.below
+      (and_from (not (list_any (λ path. same_path path (key_path_in stage.shard key)) (hot_paths stage.places))) _
+      (ap (λ (b : Bool). not b) (no_member (key_path_in stage.shard key) (hot_paths stage.places) (λ member. is.cold (member-among _ (key_path_in stage.shard key) member))))
+      (le-leb least (stage.shard.touches (key_path_in stage.shard key)) is.often))
 
   -- Of so many numbers, those that pass are the keys that are promotable, where so many are the keys. The count is a variable,
   -- since a list of all keys can't be computed.
-  passing_are_promotable : (many : ℕ) → many ≡ 2 ^ key_bits false → ArePromotable stage (Some least) (filter (is_promotable stage least) (numbers_from 0 many))
+  passing_are_promotable : (many : ℕ) → many ≡ 2 ^ key_bits (wide_in stage.shard) → ArePromotable stage (Some least) (filter (is_promotable stage least) (numbers_from 0 many))
   passing_are_promotable many all = record {
     rising = pairs-rising _ (passing_rise (is_promotable stage least) (numbers_from 0 many) (numbers_rise 0 many));
     promotable = λ key. (
@@ -194,7 +195,7 @@ module _ (stage : Stage) (least : ℕ) where
   -- the keys that are promotable to become hot
   keys_are_promotable : ArePromotable stage (Some least) (promotable_keys stage least)
   unfolding promotable_keys
-  keys_are_promotable = passing_are_promotable (2 ^ key_bits false) refl
+  keys_are_promotable = passing_are_promotable (2 ^ key_bits (wide_in stage.shard)) refl
 
 -- The keys that are promotable, and no other, in their order.
 pub are_promotable : (stage : Stage) (threshold : Option ℕ) → ArePromotable stage threshold (promotable_in stage threshold)

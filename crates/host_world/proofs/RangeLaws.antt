@@ -1,13 +1,15 @@
--- No script asks for a key that is out of range, or for a value that is too long.
+-- How long keys are. No script asks for a key that is out of range, or for a value that is too long.
 use Rattle.std.proofs.Common.{◌≡◌, ℕ, zero, suc, ◌^◌, ◌<◌, ◌≤◌, Bool, true, false, List, [], ◌∷◌, length, map, filter, slice_get, Option, Some, None, if◌then◌else◌, refl, subst, arith}
 use Rattle.std.specs.Prelude.{◌==◌}
 use Rattle.std.specs.List.{AllByRecursion}
 use Rattle.std.specs.Option.{ForSome}
 use Rattle.std.proofs.lemmas.Option.{none-some, same_Some}
+use Rattle.tree_keys.specs.Path.{key_bits}
 use Rattle.lamport_clocks.specs.declared.header.Header.{Header}
 use Rattle.record_hash.specs.Functions.{DigestFunctions}
 use Rattle.record_text.specs.declared.request.Request.{Request}
 use Rattle.record_text.specs.Value.{IsBlob}
+use Rattle.record_text.specs.Tree.{wide_of}
 use Rattle.record_text.specs.Longest.{longest_of}
 use Rattle.script_text.specs.declared.task.Task.{Task}
 use Rattle.script_text.specs.Text.{IsTask, AreTasks}
@@ -20,32 +22,44 @@ use Rattle.host_world.specs.declared.settings.Settings.{Settings}
 use Rattle.host_world.specs.Behind.{AreInRange, HaveShortValues}
 use Rattle.host_world.specs.ShippedHost.{turn_of, shipped_host}
 
+-- ---- how long keys are
+
+-- how many bits a key has at least and at most
+pub bits_within_key : (wide : Bool) → 64 ≤ key_bits wide
+bits_within_key true = omega arith
+bits_within_key false = omega arith
+
+pub key_bits-most : (wide : Bool) → key_bits wide ≤ 128
+key_bits-most true = omega arith
+key_bits-most false = omega arith
+
 -- ---- what a script asks
 
 -- what a line can ask has a key in range
-task_keys : (verifiers : ℕ) (tasks : List Task) → AllByRecursion (IsTask verifiers) tasks → AllByRecursion (λ (task : Task). task.request.key < 2 ^ 64) tasks
-task_keys verifiers [] all = tt
-task_keys verifiers (task ∷ tasks) all = (all.0.key, task_keys verifiers tasks all.1)
+task_keys : (header : Header) (tasks : List Task) → AllByRecursion (IsTask header) tasks
+    → AllByRecursion (λ (task : Task). task.request.key < 2 ^ key_bits (wide_of header)) tasks
+task_keys header [] all = tt
+task_keys header (task ∷ tasks) all = (all.0.key, task_keys header tasks all.1)
 
-pub script_keys : (verifiers : ℕ) (script : List (List Task)) → AreTasks verifiers script → AreInRange script
-script_keys verifiers [] all = tt
-script_keys verifiers (tasks ∷ script) all = (task_keys verifiers tasks all.0, script_keys verifiers script all.1)
+pub script_keys : (header : Header) (script : List (List Task)) → AreTasks header script → AreInRange header script
+script_keys header [] all = tt
+script_keys header (tasks ∷ script) all = (task_keys header tasks all.0, script_keys header script all.1)
 
 -- and a short value
-script_value : (verifiers : ℕ) (header : Header) (task : Task) → IsTask verifiers task → IsBlob (longest_of header) task.request.value
-script_value verifiers header task is = go task.request.value is.size
+script_value : (header : Header) (task : Task) → IsTask header task → IsBlob (longest_of header) task.request.value
+script_value header task is = go task.request.value is.size
   where
-    go : (value : Option (List ℕ)) → ForSome value (λ bytes. length bytes ≤ 64) → IsBlob (longest_of header) value
+    go : (value : Option (List ℕ)) → ForSome value (λ bytes. length bytes ≤ longest_of header) → IsBlob (longest_of header) value
     go None size = tt
-    go (Some bytes) size = omega (arith, size bytes refl)
+    go (Some bytes) size = size bytes refl
 
-task_values : (verifiers : ℕ) (header : Header) (tasks : List Task) → AllByRecursion (IsTask verifiers) tasks → AllByRecursion (λ (task : Task). IsBlob (longest_of header) task.request.value) tasks
-task_values verifiers header [] all = tt
-task_values verifiers header (task ∷ tasks) all = (script_value verifiers header task all.0, task_values verifiers header tasks all.1)
+task_values : (header : Header) (tasks : List Task) → AllByRecursion (IsTask header) tasks → AllByRecursion (λ (task : Task). IsBlob (longest_of header) task.request.value) tasks
+task_values header [] all = tt
+task_values header (task ∷ tasks) all = (script_value header task all.0, task_values header tasks all.1)
 
-pub script_values : (verifiers : ℕ) (header : Header) (script : List (List Task)) → AreTasks verifiers script → HaveShortValues header script
-script_values verifiers header [] all = tt
-script_values verifiers header (tasks ∷ script) all = (task_values verifiers header tasks all.0, script_values verifiers header script all.1)
+pub script_values : (header : Header) (script : List (List Task)) → AreTasks header script → HaveShortValues header script
+script_values header [] all = tt
+script_values header (tasks ∷ script) all = (task_values header tasks all.0, script_values header script all.1)
 
 -- ---- what a worker is asked
 
@@ -70,17 +84,18 @@ module _ (P : Request → Type 0) where
       all-append (λ (ask : ℕ × Request). P ask.1) (asked_in i phase (map turn_of tasks)) (asked_from i (suc phase) (map (map turn_of) phases))
       (in_phase i phase tasks all.0) (in_phases i (suc phase) phases all.1)
 
--- the key has no more than 64 bits
-abbrev InRange : ℕ × Request → Type 0
-InRange ask = ask.1.key < 2 ^ 64
+-- the key is below a limit
+abbrev InRange : ℕ → ℕ × Request → Type 0
+InRange limit ask = ask.1.key < limit
 
-at_index : (asks : List (ℕ × Request)) (k : ℕ) (ask : ℕ × Request) → AllByRecursion InRange asks → slice_get asks k ≡ Some ask → InRange ask
-at_index [] k ask all is = absurd (none-some ask is)
-at_index (first ∷ asks) zero ask all is = subst InRange (same_Some first ask is) all.0
-at_index (first ∷ asks) (suc k) ask all is = at_index asks k ask all.1 is
+at_index : (limit : ℕ) (asks : List (ℕ × Request)) (k : ℕ) (ask : ℕ × Request) → AllByRecursion (InRange limit) asks → slice_get asks k ≡ Some ask → InRange limit ask
+at_index limit [] k ask all is = absurd (none-some ask is)
+at_index limit (first ∷ asks) zero ask all is = subst (InRange limit) (same_Some first ask is) all.0
+at_index limit (first ∷ asks) (suc k) ask all is = at_index limit asks k ask all.1 is
 
 -- A worker's next request asks for a key in range.
-pub next_in_range : (functions : DigestFunctions) (settings : Settings) (script : List (List Task)) → AreInRange script → (world : World Content) (i : ℕ) (request : Request)
-    → IsNext (shipped_host functions settings script) world i request → request.key < 2 ^ 64
+pub next_in_range : (functions : DigestFunctions) (settings : Settings) (script : List (List Task)) → AreInRange settings.header script → (world : World Content) (i : ℕ) (request : Request)
+    → IsNext (shipped_host functions settings script) world i request → request.key < 2 ^ key_bits (wide_of settings.header)
 next_in_range functions settings script keys world i request is =
-    at_index (asked_from i 0 (map (map turn_of) script)) _ (world.phase, request) (in_phases (λ request. request.key < 2 ^ 64) i 0 script keys) is
+    let limit = 2 ^ key_bits (wide_of settings.header) in
+    at_index limit (asked_from i 0 (map (map turn_of) script)) _ (world.phase, request) (in_phases (λ request. request.key < limit) i 0 script keys) is

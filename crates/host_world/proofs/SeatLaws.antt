@@ -4,7 +4,7 @@ use Rattle.std.specs.Prelude.{◌==◌, IfSome}
 use Rattle.std.proofs.lemmas.Bool.{false≢true, and_parts, leb-true, le-leb, eqb-true}
 use Rattle.std.proofs.lemmas.List.{length-set}
 use Rattle.std.specs.List.{AllByRecursion, list_any}
-use Rattle.tree_keys.specs.Path.{side, is_prefix, IsBelow, key_bits, IsData, key_path, IsNodePath}
+use Rattle.tree_keys.specs.Path.{tree_of, side, is_prefix, IsBelow, key_bits, IsData, key_path, IsNodePath}
 use Rattle.tree_keys.proofs.SideLaws.{prefix_cases}
 use Rattle.tree_keys.proofs.TreeLaws.{data-no_node, key_path-data, key_path-injective}
 use Rattle.lamport_clocks.specs.Reading.{Reading}
@@ -14,8 +14,9 @@ use Rattle.merkle_records.specs.Merkle.{Digest, GivesDigests}
 use Rattle.host_core.specs.Host.{Done}
 use Rattle.host_shard.specs.declared.link.Link.{Link}
 use Rattle.host_shard.specs.declared.content.HotRecord.{HotRecord}
-use Rattle.host_shard.specs.Shard.{Shard}
-use Rattle.host_shard.specs.Content.{Content, cold, hot, vacant, pending, pending_hot}
+use Rattle.host_shard.specs.Shard.{key_path_in, wide_in, Shard}
+use Rattle.host_shard.specs.Content.{wide_at, hot_path, Content, cold, hot, vacant, pending, pending_hot}
+use Rattle.host_shard.specs.Mirrors.{HasKeyOf}
 use Rattle.host_plan.specs.Moments.{renewing}
 use Rattle.host_plan.specs.Plan.{Owns, clock_after, content_after}
 use Rattle.host_laws.specs.Served.{waiting}
@@ -26,15 +27,15 @@ use Rattle.protection_moves.specs.Renewing.{renewing_each}
 use Rattle.protection_moves.specs.Move.{begun, moved}
 use Rattle.protection_moves.proofs.RenewingLaws.{renewing_each-epoch}
 use Rattle.move_laws.specs.Stages.{StageMirrors}
-use Rattle.move_laws.proofs.PlaceLaws.{one_of-all}
+use Rattle.move_laws.proofs.PlaceLaws.{one_of-all, all-map}
 use Rattle.move_laws.proofs.VacantLaws.{among-member, member-one, images-all}
 use Rattle.move_laws.proofs.FitLaws.{move_fresh}
 use Rattle.move_laws.proofs.MoveLaws.{move_mirrors}
 use Rattle.move_laws.proofs.RenewLaws.{IsFresh}
-use Rattle.move_laws.proofs.DescentLaws.{each-first, each-epoch}
+use Rattle.move_laws.proofs.DescentLaws.{each-first, each-epoch, each-frontier}
 use Rattle.host_world.specs.Moving.{stage_of, move_seats}
 use Rattle.host_world.specs.Planned.{IsPlanned, IsMoved}
-use Rattle.host_world.specs.Seated.{IsHotPlace, SeatsMirror, waiting_at}
+use Rattle.host_world.specs.Seated.{IsHotPlace, SeatsMirror, wide_among, waiting_at}
 use Rattle.host_world.specs.ShippedHost.{is_blob, serves_key, is_place_of, serve_at}
 use Rattle.host_world.proofs.PlaceLaws.{hot_there, keys-set, records-set, all-set, place_there, key_found, waits-hot, length-moved, hot-moved}
 use Rattle.host_world.proofs.PlannedLaws.{served_is_planned}
@@ -53,6 +54,21 @@ not_so : (b : Bool) → not b ≡ true → b ≡ true → ⊥
 not_so true is also = false≢true is
 not_so false is also = false≢true also
 
+-- the tree of seats that mirror is that of their shard
+pub tree_is : {longest : ℕ} {digest : Digest} (seats : List Content) (mirrors : SeatsMirror longest digest seats) → wide_among seats ≡ wide_in mirrors.shard
+tree_is seats mirrors = ap wide_among mirrors.is
+
+-- records of one key have one path
+same_path_of : (new old : HotRecord) → (new.wide ≡ old.wide) × (new.key ≡ old.key) → hot_path new ≡ hot_path old
+same_path_of new old same = ap (λ (wide : Bool). key_path wide new.key) same.0 ∙ ap (key_path old.wide) same.1
+
+-- and if one's is of a shard's tree, so is the other's
+same_has : (shard : Shard) (new old : HotRecord) → (new.wide ≡ old.wide) × (new.key ≡ old.key) → HasKeyOf shard old → HasKeyOf shard new
+same_has shard new old same has = record {
+  tree = same.0 ∙ has.tree;
+  range = subst (λ (wide : Bool). new.key < 2 ^ key_bits wide) (sym same.0) (subst (λ (key : ℕ). key < 2 ^ key_bits old.wide) (sym same.1) has.range);
+}
+
 -- ---- who serves a request
 
 -- What is at a seat can serve a request: it owns the key, which isn't hot elsewhere, and mirrors; and the value fits.
@@ -63,29 +79,32 @@ pub record SeatServes (longest : ℕ) (digest : Digest) (hot_keys : List (List B
   pub fits : IsBlob longest request.value
 
 module _ (longest : ℕ) (digest : Digest) (seats : List Content) (mirrors : SeatsMirror longest digest seats) where
-  -- one of the same paths is one of the same keys
-  same_key : (a b : ℕ) → a < 2 ^ key_bits false → b < 2 ^ key_bits false → key_path false a ≡ key_path false b → a ≡ b
-  same_key a b small also same = key_path-injective false a b small also same
+  -- a hot record at the path of a key of the shard's tree has that key
+  same_key : (key : ℕ) (found : HotRecord) → key < 2 ^ key_bits (wide_in mirrors.shard) → HasKeyOf mirrors.shard found
+      → key_path_in mirrors.shard key ≡ hot_path found → key ≡ found.key
+  same_key key found small has same =
+      key_path-injective (wide_in mirrors.shard) key found.key small (subst (λ (wide : Bool). found.key < 2 ^ key_bits wide) has.tree has.range)
+      (same ∙ ap (λ (wide : Bool). key_path wide found.key) has.tree)
 
   -- the shard
-  shard_serves : (request : Request) → request.key < 2 ^ key_bits false → is_place_of longest seats 0 request ≡ true
+  shard_serves : (request : Request) → request.key < 2 ^ key_bits (wide_in mirrors.shard) → is_place_of longest seats 0 request ≡ true
       → SeatServes longest digest (hot_paths mirrors.places) (cold mirrors.shard) request
   shard_serves request small owns = record {
     own = (mirrors.mirrored.fits, record { whole = whole; below = below (prefix_cases mirrors.shard.frontier key parts.0) });
     mirrors = mirrors.mirrored;
     cold_there = λ among.
-        let found = member-one (λ r. key_path false r.key) (hot_records mirrors.places) key (among-member _ key among) in
-        let same = same_key request.key found.0.key small (one_of-all (λ r. r.key < 2 ^ key_bits false) (hot_records mirrors.places) found.0 mirrors.in_range found.1) found.2 in
+        let found = member-one hot_path (hot_records mirrors.places) key (among-member _ key among) in
+        let same = same_key request.key found.0 small (one_of-all (HasKeyOf mirrors.shard) (hot_records mirrors.places) found.0 mirrors.in_range found.1) found.2 in
         not_so (list_any (is_hot_at request.key) (cold mirrors.shard ∷ mirrors.places)) parts.1
         (ap (λ (k : ℕ). list_any (is_hot_at k) mirrors.places) same ∙ key_found mirrors.places found.0 found.1);
     fits = blob_fits longest request.value place.1;
   }
     where
       key : List Bool
-      key = key_path false request.key
+      key = key_path_in mirrors.shard request.key
 
       whole : IsData key
-      whole = key_path-data false request.key
+      whole = key_path-data (wide_in mirrors.shard) request.key
 
       place : (serves_key (cold mirrors.shard ∷ mirrors.places) request.key (cold mirrors.shard) ≡ true) × (is_blob longest request.value ≡ true)
       place =
@@ -115,11 +134,11 @@ module _ (longest : ℕ) (digest : Digest) (seats : List Content) (mirrors : Sea
       }
 
   -- What a request's place has can serve it.
-  pub seat_serves : (seat : ℕ) (request : Request) → request.key < 2 ^ key_bits false → is_place_of longest seats seat request ≡ true
+  pub seat_serves : (seat : ℕ) (request : Request) → request.key < 2 ^ key_bits (wide_among seats) → is_place_of longest seats seat request ≡ true
       → SeatServes longest digest (hot_paths mirrors.places) (get_or seats seat vacant) request
   seat_serves zero request small owns =
       subst (λ (xs : List Content). SeatServes longest digest (hot_paths mirrors.places) (get_or xs 0 vacant) request) (sym mirrors.is)
-      (shard_serves request small owns)
+      (shard_serves request (subst (λ (wide : Bool). request.key < 2 ^ key_bits wide) (tree_is seats mirrors) small) owns)
   seat_serves (suc k) request small owns =
       subst (λ (xs : List Content). SeatServes longest digest (hot_paths mirrors.places) (get_or xs (suc k) vacant) request) (sym mirrors.is)
       (hot_serves k (get_or mirrors.places k vacant) request refl
@@ -133,7 +152,7 @@ module _ (longest : ℕ) (digest : Digest) (seats : List Content) (mirrors : Sea
   IsSame (cold old) (hot new) = ⊥
   IsSame (cold old) vacant = ⊥
   IsSame (hot old) (cold new) = ⊥
-  IsSame (hot old) (hot new) = new.key ≡ old.key
+  IsSame (hot old) (hot new) = (new.wide ≡ old.wide) × (new.key ≡ old.key)
   IsSame (hot old) vacant = ⊥
   IsSame vacant (cold new) = ⊥
   IsSame vacant (hot new) = ⊥
@@ -149,7 +168,8 @@ module _ (longest : ℕ) (digest : Digest) (seats : List Content) (mirrors : Sea
     hot_alone = mirrors.hot_alone;
     mirrored = mirrored;
     blobs = mirrors.blobs;
-    in_range = mirrors.in_range;
+    in_range = all-map (HasKeyOf mirrors.shard) (HasKeyOf new) (λ found has. record { tree = has.tree ∙ ap tree_of (sym same); range = has.range })
+        (hot_records mirrors.places) mirrors.in_range;
   }
   shard_after (hot new) same mirrored = absurd same
   shard_after vacant same mirrored = absurd same
@@ -175,11 +195,11 @@ module _ (longest : ℕ) (digest : Digest) (seats : List Content) (mirrors : Sea
     is = ap (λ (xs : List Content). set xs (suc k) (hot new)) mirrors.is;
     four = length-set mirrors.places k (hot new) ∙ mirrors.four;
     hot_alone = all-set IsHotPlace mirrors.places k (hot new) tt mirrors.hot_alone;
-    mirrored = subst (IsMirrored longest digest mirrors.shard) (sym (keys-set (key_path false) mirrors.places k old new is same)) mirrors.mirrored;
+    mirrored = subst (IsMirrored longest digest mirrors.shard) (sym (keys-set hot_path mirrors.places k old new is (same_path_of new old same))) mirrors.mirrored;
     blobs = records-set (λ r. IsBlob longest r.value) mirrors.places k new mirrored mirrors.blobs;
-    in_range = records-set (λ r. r.key < 2 ^ key_bits false) mirrors.places k new
-        (subst (λ (key : ℕ). key < 2 ^ key_bits false) (sym same)
-        (one_of-all (λ r. r.key < 2 ^ key_bits false) (hot_records mirrors.places) old mirrors.in_range (hot_there mirrors.places k old is))) mirrors.in_range;
+    in_range = records-set (HasKeyOf mirrors.shard) mirrors.places k new
+        (same_has mirrors.shard new old same (one_of-all (HasKeyOf mirrors.shard) (hot_records mirrors.places) old mirrors.in_range (hot_there mirrors.places k old is)))
+        mirrors.in_range;
   }
 
   -- The seats mirror with another content at a seat, which is the same shard or hot record and mirrors.
@@ -190,11 +210,27 @@ module _ (longest : ℕ) (digest : Digest) (seats : List Content) (mirrors : Sea
   seats_after (suc k) new same mirrored =
       hot_after k (get_or mirrors.places k vacant) new refl (subst (λ (xs : List Content). IsSame (get_or xs (suc k) vacant) new) mirrors.is same) mirrored
 
+  -- and their shard is of the same tree
+  pub tree_after : (seat : ℕ) (new : Content) → IsSame (get_or seats seat vacant) new → wide_among (set seats seat new) ≡ wide_among seats
+  tree_after seat new same =
+      ap (λ (xs : List Content). wide_among (set xs seat new)) mirrors.is
+      ∙ (go seat (subst (λ (xs : List Content). IsSame (get_or xs seat vacant) new) mirrors.is same) ∙ ap wide_among (sym mirrors.is))
+    where
+      shard : (content : Content) → IsSame (cold mirrors.shard) content → wide_at content ≡ wide_in mirrors.shard
+      shard (cold other) is = ap tree_of is
+      shard (hot found) is = absurd is
+      shard vacant is = absurd is
+
+      go : (k : ℕ) → IsSame (get_or (cold mirrors.shard ∷ mirrors.places) k vacant) new
+          → wide_among (set (cold mirrors.shard ∷ mirrors.places) k new) ≡ wide_in mirrors.shard
+      go zero is = shard new is
+      go (suc k) is = refl
+
   -- what a request makes of a content is the same shard or hot record
   pub content-same : (absent : Bool) (worker : ℕ) (content : Content) (links : List Link) (request : Request) (clock : Reading)
       → IsSame content (content_after absent digest worker content links request clock)
   content-same absent worker (cold shard) links request clock = refl
-  content-same absent worker (hot found) links request clock = refl
+  content-same absent worker (hot found) links request clock = (refl, refl)
   content-same absent worker vacant links request clock = tt
 
 -- and waits with the stamp of the clock behind it
@@ -218,11 +254,12 @@ clock-same vacant clock = record { first = refl; epoch = refl }
 -- What is served leaves the seats so, and waits in the clock's epoch.
 pub record ServeKeeps (longest : ℕ) (digest : Digest) (worker : ℕ) (clock : Reading) (seats : List Content) (seat : ℕ) (done : Done Content) : Type 0 where
   pub mirrors : SeatsMirror longest digest (set seats seat done.after)
+  pub tree : wide_among (set seats seat done.after) ≡ wide_among seats
   pub waits : AllByRecursion (λ element. (element.verifier ≡ worker) × (element.stamp.epoch ≡ clock.at.epoch)) (waiting (pending done.after))
   pub same_epoch : SameEpoch clock done.clock
 
 pub serve_keeps : (absent : Bool) (longest : ℕ) (digest : Digest) (worker : ℕ) (clock : Reading) (seats : List Content) (seat : ℕ) (request : Request) (done : Done Content)
-    → GivesDigests digest → SeatsMirror longest digest seats → request.key < 2 ^ key_bits false → is_place_of longest seats seat request ≡ true
+    → GivesDigests digest → SeatsMirror longest digest seats → request.key < 2 ^ key_bits (wide_among seats) → is_place_of longest seats seat request ≡ true
     → serve_at absent digest worker clock (get_or seats seat vacant) request ≡ Some done
     → ServeKeeps longest digest worker clock seats seat done
 serve_keeps absent longest digest worker clock seats seat request done digests mirrors small owns served =
@@ -231,13 +268,17 @@ serve_keeps absent longest digest worker clock seats seat request done digests m
     serves : SeatServes longest digest (hot_paths mirrors.places) (get_or seats seat vacant) request
     serves = seat_serves longest digest seats mirrors seat request small owns
 
+    same : IsPlanned absent digest worker clock (get_or seats seat vacant) request done → IsSame longest digest seats mirrors (get_or seats seat vacant) done.after
+    same planned =
+        subst (λ (c : Content). IsSame longest digest seats mirrors (get_or seats seat vacant) c) (sym planned.is.content)
+        (content-same longest digest seats mirrors absent worker (get_or seats seat vacant) planned.is.links request clock)
+
     go : IsPlanned absent digest worker clock (get_or seats seat vacant) request done → ServeKeeps longest digest worker clock seats seat done
     go planned = record {
-      mirrors = seats_after longest digest seats mirrors seat done.after
-          (subst (λ (c : Content). IsSame longest digest seats mirrors (get_or seats seat vacant) c) (sym planned.is.content)
-          (content-same longest digest seats mirrors absent worker (get_or seats seat vacant) planned.is.links request clock))
+      mirrors = seats_after longest digest seats mirrors seat done.after (same planned)
           (plan_mirrors absent longest digest worker (hot_paths mirrors.places) (get_or seats seat vacant) done.after request clock done.clock planned.plan
           digests serves.fits serves.mirrors serves.own serves.cold_there planned.is);
+      tree = tree_after longest digest seats mirrors seat done.after (same planned);
       waits = subst (λ (c : Content). AllByRecursion (λ element. (element.verifier ≡ worker) × (element.stamp.epoch ≡ clock.at.epoch)) (waiting (pending c))) (sym planned.is.content)
           (content-waits absent digest worker (get_or seats seat vacant) planned.is.links request clock);
       same_epoch = subst (SameEpoch clock) (sym planned.is.clock) (clock-same (get_or seats seat vacant) clock);
@@ -258,14 +299,15 @@ renewing_each-first clock [] = refl
 renewing_each-first clock (found ∷ more) = renewing_each-first (renewing clock found.stamp) more
 
 -- What is moved leaves the seats so, and waits in the clock's epoch.
-pub record MoveKeeps (longest : ℕ) (digest : Digest) (worker : ℕ) (clock : Reading) (done : Done (List Content)) : Type 0 where
+pub record MoveKeeps (longest : ℕ) (wide : Bool) (digest : Digest) (worker : ℕ) (clock : Reading) (done : Done (List Content)) : Type 0 where
   pub mirrors : SeatsMirror longest digest done.after
+  pub tree : wide_among done.after ≡ wide
   pub waits : AllByRecursion (λ element. (element.verifier ≡ worker) × (element.stamp.epoch ≡ clock.at.epoch)) (waiting_at done.after)
   pub same_epoch : SameEpoch clock done.clock
 
 moved_keeps : (longest : ℕ) (digest : Digest) (worker : ℕ) (threshold : Option ℕ) (stage : Stage) (done : Done (List Content))
     → GivesDigests digest → IfSome threshold (λ least. 0 < least) → StageMirrors longest digest stage → length stage.places ≡ 4 → AllByRecursion IsHotPlace stage.places
-    → IsMoved digest worker threshold stage done → MoveKeeps longest digest worker stage.clock done
+    → IsMoved digest worker threshold stage done → MoveKeeps longest (wide_in stage.shard) digest worker stage.clock done
 moved_keeps longest digest worker threshold stage done digests some mirrors four alone is = record {
   mirrors = subst (SeatsMirror longest digest) (sym is.after) (record {
     shard = is.new.shard;
@@ -277,6 +319,7 @@ moved_keeps longest digest worker threshold stage done digests some mirrors four
     blobs = again.blobs;
     in_range = again.in_range;
   });
+  tree = ap wide_among is.after ∙ (ap (λ (s : Stage). wide_in s.shard) is.is.after ∙ ap tree_of (each-frontier longest digest worker (begun worker stage) is.is.descents));
   waits = subst (λ (xs : List Content). AllByRecursion (λ element. (element.verifier ≡ worker) × (element.stamp.epoch ≡ stage.clock.at.epoch)) (waiting_at xs)) (sym is.after) (
     subst (λ (s : Stage). (s.shard.evictor ≡ worker) × (s.shard.stamp.epoch ≡ stage.clock.at.epoch)) (sym is.is.after) (refl, epoch),
     subst (AllByRecursion (λ element. (element.verifier ≡ worker) × (element.stamp.epoch ≡ stage.clock.at.epoch))) (sym (waits-hot is.new.places still_alone))
@@ -311,7 +354,8 @@ seats_moved longest digest worker threshold clock seats done digests some mirror
 pub move_keeps : (longest : ℕ) (digest : Digest) (worker : ℕ) (threshold : Option ℕ) (clock : Reading) (seats : List Content) (done : Done (List Content))
     → GivesDigests digest → IfSome threshold (λ least. 0 < least) → SeatsMirror longest digest seats
     → move_seats digest worker threshold (stage_of clock seats) ≡ Some done
-    → MoveKeeps longest digest worker clock done
+    → MoveKeeps longest (wide_among seats) digest worker clock done
 move_keeps longest digest worker threshold clock seats done digests some mirrors is =
-    moved_keeps longest digest worker threshold (stage_at mirrors.shard mirrors.places clock) done digests some (stage_mirrors longest digest seats clock mirrors) mirrors.four mirrors.hot_alone
-    (seats_moved longest digest worker threshold clock seats done digests some mirrors is)
+    subst (λ (wide : Bool). MoveKeeps longest wide digest worker clock done) (sym (tree_is seats mirrors))
+    (moved_keeps longest digest worker threshold (stage_at mirrors.shard mirrors.places clock) done digests some (stage_mirrors longest digest seats clock mirrors) mirrors.four mirrors.hot_alone
+    (seats_moved longest digest worker threshold clock seats done digests some mirrors is))

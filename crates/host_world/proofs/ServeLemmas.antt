@@ -5,7 +5,6 @@ use Rattle.std.proofs.lemmas.Bool.{false≢true, lt-ltb, ltb-true}
 use Rattle.std.proofs.lemmas.Option.{same_Some}
 use Rattle.std.proofs.lemmas.Grind.{flat_map-append}
 use Rattle.std.proofs.lemmas.List.{append-nil}
-use Rattle.tree_keys.specs.Path.{key_path}
 use Rattle.lamport_clocks.specs.Reading.{Reading}
 use Rattle.record_text.specs.declared.request.Request.{Request}
 use Rattle.record_text.specs.Longest.{longest_blob}
@@ -16,6 +15,7 @@ use Rattle.host_core.specs.World.{Place, Worker}
 use Rattle.host_core.specs.WorldEvent.{logging, having_served}
 use Rattle.host_shard.specs.declared.link.Link.{Link}
 use Rattle.host_shard.specs.Content.{Content, cold, hot, vacant}
+use Rattle.host_shard.specs.Shard.{key_path_in}
 use Rattle.host_plan.specs.declared.plans.Plan.{Plan}
 use Rattle.host_plan.specs.Plan.{Owns, AreLinks, IsPastEnd, IsPlan, clock_after, commands_of, content_after}
 use Rattle.host_laws.proofs.ToldLaws.{all-append}
@@ -25,7 +25,7 @@ use Rattle.host_world.proofs.LinkLaws.{shard_chain_is}
 
 -- the links of a content that owns a key are one list
 pub links_are_of : (longest : ℕ) (content : Content) (key : ℕ) (links : List Link) → Owns longest content key → AreLinks content key links → links ≡ links_of content key
-links_are_of longest (cold shard) key links own way = shard_chain_is longest shard (key_path false key) own.0 own.1 links way
+links_are_of longest (cold shard) key links own way = shard_chain_is longest shard (key_path_in shard key) own.0 own.1 links way
 links_are_of longest (hot record') key links own way = way
 links_are_of longest vacant key links own way = absurd own
 

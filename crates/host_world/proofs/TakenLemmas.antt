@@ -1,13 +1,12 @@
 -- What seats that a worker can take in are to a move of them.
-use Rattle.std.proofs.Common.{◌≡◌, false, List, [], ◌∷◌, map, drop, length, IsTrue, ap, sym, ◌∙◌, subst}
+use Rattle.std.proofs.Common.{◌≡◌, List, [], ◌∷◌, map, drop, length, IsTrue, ap, sym, ◌∙◌, subst}
 use Rattle.std.specs.List.{AllByRecursion}
-use Rattle.tree_keys.specs.Path.{key_path}
 use Rattle.lamport_clocks.specs.Clock.{is_open}
 use Rattle.lamport_clocks.specs.Reading.{Reading}
 use Rattle.record_text.specs.declared.element.Element.{Element}
 use Rattle.record_text.specs.Longest.{longest_blob}
 use Rattle.merkle_records.specs.Merkle.{Digest}
-use Rattle.host_shard.specs.Content.{Content, cold, pending_hot}
+use Rattle.host_shard.specs.Content.{hot_path, Content, cold, pending_hot}
 use Rattle.host_shard.specs.Mirrors.{IsKeyOf}
 use Rattle.host_shard.specs.Shard.{Shard}
 use Rattle.host_shard.specs.Shown.{shown, shown_content}
@@ -27,7 +26,7 @@ pub record CanMoveThere (digest : Digest) (clock : Reading) (shard : Shard) (pla
   pub four : length places ≡ 4
   pub open' : IsTrue (is_open clock shard.stamp.epoch)
   pub hot_open : AllByRecursion (λ found. IsTrue (is_open clock found.stamp.epoch)) (hot_records places)
-  pub hot_own : AllByRecursion (λ found. IsKeyOf shard (key_path false found.key)) (hot_records places)
+  pub hot_own : AllByRecursion (λ found. IsKeyOf shard (hot_path found)) (hot_records places)
 
 all-images : {A B : Type 0} (P : B → Type 0) (f : A → B) (xs : List A) → AllByRecursion P (map f xs) → AllByRecursion (λ x. P (f x)) xs
 all-images P f [] all = tt

@@ -1,6 +1,7 @@
 -- A world behind the setup, and what a worker can move there.
 use Rattle.std.specs.Prelude.{◌≡◌, ℕ, ◌^◌, ◌<◌, List, [], ◌∷◌, ◌++◌, length, get_or, IsTrue}
 use Rattle.std.specs.List.{AllByRecursion}
+use Rattle.tree_keys.specs.Path.{key_bits}
 use Rattle.lamport_clocks.specs.Clock.{is_open}
 use Rattle.lamport_clocks.specs.Reading.{Reading}
 use Rattle.lamport_clocks.specs.declared.header.Header.{Header}
@@ -8,6 +9,7 @@ use Rattle.record_hash.specs.Functions.{DigestFunctions}
 use Rattle.record_text.specs.declared.request.Request.{Request}
 use Rattle.record_text.specs.Longest.{longest_blob, longest_of}
 use Rattle.record_text.specs.Value.{IsBlob}
+use Rattle.record_text.specs.Tree.{wide_of}
 use Rattle.log_codec.specs.declared.command.Command.{Command}
 use Rattle.merkle_records.specs.Merkle.{Digest}
 use Rattle.host_core.specs.Host.{Host}
@@ -22,9 +24,9 @@ use Rattle.host_world.specs.Seated.{SeatsMirror, waiting_at}
 use Rattle.host_world.specs.ShippedHost.{shipped_host}
 use Rattle.host_world.specs.Shown.{shown_world, digests_of, requests_of}
 
--- each key that the script asks for has no more than 64 bits
-abbrev pub AreInRange : List (List Task) → Type 0
-AreInRange script = AllByRecursion (λ phase. AllByRecursion (λ task. task.request.key < 2 ^ 64) phase) script
+-- each key that the script asks for has no more bits than those of a bundle with this header
+abbrev pub AreInRange : Header → List (List Task) → Type 0
+AreInRange header script = AllByRecursion (λ phase. AllByRecursion (λ task. task.request.key < 2 ^ key_bits (wide_of header)) phase) script
 
 -- each value that the script asks for has no more bytes than a data value of a bundle with this header
 abbrev pub HaveShortValues : Header → List (List Task) → Type 0
@@ -33,7 +35,7 @@ HaveShortValues header script = AllByRecursion (λ phase. AllByRecursion (λ tas
 -- The world of a shipped host behind its setup and some events, each of which was enabled.
 pub record IsBehindSetup (functions : DigestFunctions) (settings : Settings) (script : List (List Task)) (world : machine.World Content) : Type 0 where
   pub settings_fit : IsSettings settings
-  pub keys : AreInRange script
+  pub keys : AreInRange settings.header script
   pub values : HaveShortValues settings.header script
   pub events : List (WorldEvent Request)
   pub enabled : AreEnabled (shipped_host functions settings script) (machine.set_up (shipped_host functions settings script)) events

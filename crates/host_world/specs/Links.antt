@@ -1,11 +1,11 @@
 -- The chain to a key as a function of the records.
-use Rattle.std.specs.Prelude.{ℕ, zero, suc, Bool, false, List, [], ◌∷◌, if◌then◌else◌}
-use Rattle.tree_keys.specs.Path.{side, same_path, key_path, depth}
+use Rattle.std.specs.Prelude.{ℕ, zero, suc, Bool, List, [], ◌∷◌, if◌then◌else◌}
+use Rattle.tree_keys.specs.Path.{side, same_path, depth}
 use Rattle.record_text.specs.declared.value.Value.{Value}
 use Rattle.host_shard.specs.declared.link.Link.{Link}
 use Rattle.host_shard.specs.Tree.{Tree}
 use Rattle.host_shard.specs.Chain.{next_link, pointer_toward}
-use Rattle.host_shard.specs.Shard.{Shard, tree_of}
+use Rattle.host_shard.specs.Shard.{key_path_in, Shard, tree_of}
 use Rattle.host_shard.specs.Content.{Content, cold, hot, vacant}
 
 -- the link that comes behind a path with its value, on the way to a key
@@ -26,6 +26,6 @@ links_in shard path = links_within (depth path) (tree_of shard) path shard.front
 
 -- the links from what a content waits with to a key
 abbrev pub links_of : Content → ℕ → List Link
-links_of (cold shard) key = links_in shard (key_path false key)
+links_of (cold shard) key = links_in shard (key_path_in shard key)
 links_of (hot record') key = []
 links_of vacant key = []

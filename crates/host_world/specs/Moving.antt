@@ -1,12 +1,11 @@
 -- What the shipped host does for a shard at a close, as a function of the shard's seats.
-use Rattle.std.specs.Prelude.{ℕ, false, List, [], ◌∷◌, Option, Some, None, nat_lt, if◌then◌else◌}
-use Rattle.tree_keys.specs.Path.{key_path}
+use Rattle.std.specs.Prelude.{ℕ, List, [], ◌∷◌, Option, Some, None, nat_lt, if◌then◌else◌}
 use Rattle.lamport_clocks.specs.Reading.{Reading}
 use Rattle.merkle_records.specs.Merkle.{Digest}
 use Rattle.host_core.specs.Host.{Done}
 use Rattle.host_shard.specs.declared.link.Link.{Link}
-use Rattle.host_shard.specs.Shard.{Shard}
-use Rattle.host_shard.specs.Content.{Content, cold, hot, vacant}
+use Rattle.host_shard.specs.Shard.{key_path_in, Shard}
+use Rattle.host_shard.specs.Content.{hot_path, Content, cold, hot, vacant}
 use Rattle.protection_moves.specs.Stage.{Stage}
 use Rattle.protection_moves.specs.Transfer.{Transfer, demotes, promotes, transfers_of, clock_needed}
 use Rattle.protection_moves.specs.Descent.{Descent, with_back, done_by}
@@ -27,8 +26,8 @@ seats_of stage = cold stage.shard ∷ stage.places
 
 -- the links to a transfer's key
 abbrev pub links_for : Shard → Transfer → List Link
-links_for shard (demotes found) = links_in (with_back shard found) (key_path false found.key)
-links_for shard (promotes key) = links_in shard (key_path false key)
+links_for shard (demotes found) = links_in (with_back shard found) (hot_path found)
+links_for shard (promotes key) = links_in shard (key_path_in shard key)
 
 -- transfers as descents, one after another
 abbrev pub descents_for : Digest → ℕ → Stage → List Transfer → List Descent

@@ -1,17 +1,19 @@
 -- The numbers of a shipped host.
-use Rattle.std.specs.Prelude.{◌≡◌, ℕ, zero, suc, ◌^◌, ◌<◌, nat_le, IfSome, if◌then◌else◌}
+use Rattle.std.specs.Prelude.{◌≡◌, ℕ, zero, suc, ◌^◌, ◌<◌, nat_le, Bool, true, false, IfSome, if◌then◌else◌}
 use Rattle.lamport_clocks.specs.Header.{IsHeader}
+use Rattle.record_text.specs.Tree.{wide_of}
 use Rattle.host_plan.specs.Setup.{IsShardCount}
 use Rattle.host_world.specs.declared.settings.Settings.{Settings}
 
--- how many entries a verifier of the shipped host may cache
-abbrev pub shipped_cache : ℕ
-shipped_cache = 128
+-- how many entries a verifier of the shipped host may cache, where the keys are of this tree
+abbrev pub shipped_cache : Bool → ℕ
+shipped_cache false = 128
+shipped_cache true = 256
 
 -- The numbers are in their ranges, and the caches are the shipped host's.
 pub record IsSettings (settings : Settings) : Type 0 where
   pub header : IsHeader settings.header
-  pub cache : settings.header.cache ≡ shipped_cache
+  pub cache : settings.header.cache ≡ shipped_cache (wide_of settings.header)
   pub shards : IsShardCount settings.shards
   pub hot : IfSome settings.hot (λ least. 0 < least)
 

@@ -1,17 +1,19 @@
 -- The host that is shipped.
 use Rattle.std.specs.Prelude.{ℕ, ◌^◌, ◌==◌, ◌&&◌, Bool, false, not, List, [], ◌∷◌, length, map, get_or, replicate, nat_lt, nat_le, Option, Some, None, if◌then◌else◌}
 use Rattle.std.specs.List.{list_any}
-use Rattle.tree_keys.specs.Path.{is_prefix, key_path}
+use Rattle.tree_keys.specs.Path.{is_prefix}
 use Rattle.lamport_clocks.specs.Reading.{Reading}
 use Rattle.lamport_clocks.specs.declared.header.Header.{Header}
 use Rattle.record_hash.specs.Functions.{DigestFunctions}
 use Rattle.record_text.specs.declared.request.Request.{Request}
 use Rattle.record_text.specs.Longest.{longest_of}
+use Rattle.record_text.specs.Tree.{wide_of}
 use Rattle.merkle_records.specs.Merkle.{Digest}
 use Rattle.merkle_records.specs.Scheme.{scheme_of}
 use Rattle.verifier_cache.specs.Cache.{Held}
 use Rattle.host_core.specs.Host.{Done, Host}
 use Rattle.host_shard.specs.Content.{Content, cold, hot, vacant, pending}
+use Rattle.host_shard.specs.Shard.{key_path_in}
 use Rattle.host_plan.specs.Plan.{clock_after, commands_of, content_after}
 use Rattle.host_plan.specs.Setup.{setup_commands, setup_contents}
 use Rattle.host_laws.specs.Served.{waiting}
@@ -41,7 +43,7 @@ is_blob longest (Some bytes) = nat_le (length bytes) longest
 -- A content serves a key among the seats of its shard: a shard those below its frontier that are not hot, and a hot record
 -- its own.
 abbrev pub serves_key : List Content → ℕ → Content → Bool
-serves_key seats key (cold shard) = is_prefix shard.frontier (key_path false key) && not (list_any (is_hot_at key) seats)
+serves_key seats key (cold shard) = is_prefix shard.frontier (key_path_in shard key) && not (list_any (is_hot_at key) seats)
 serves_key seats key (hot record') = record'.key == key
 serves_key seats key vacant = false
 
@@ -69,8 +71,8 @@ serve_at absent digest worker clock content request =
 -- the setup of 2^bits shards, by worker 0
 abbrev pub set_up_by : Header → ℕ → Done (List (List Content))
 set_up_by header bits = record {
-  commands = setup_commands header.first bits;
-  after = map new_seats (setup_contents header.first bits);
+  commands = setup_commands (wide_of header) header.first bits;
+  after = map new_seats (setup_contents (wide_of header) header.first bits);
   clock = first_clock header.first header.end (2 ^ bits);
 }
 

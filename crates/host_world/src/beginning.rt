@@ -28,7 +28,7 @@ impl<'a, D: Digests> World<'a, D> {
         requests: &'a Requests,
     ) -> Result<Self, WorldFault>
         requires settings { IsSettings settings.now }
-        requires keys { AreInRange requests.now }
+        requires keys { AreInRange settings.now.header requests.now }
         requires values { HaveShortValues settings.now.header requests.now }
         ensures set_up { IfOk result (λ world. shown_world world
             ≡ set_up (shipped_host (D.functions d.now) settings.now requests.now)) }

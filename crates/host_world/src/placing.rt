@@ -21,20 +21,21 @@ use crate::seats::Seats;
 use crate::world::World;
 use host_shard::Content;
 use record_hash::Digests;
-use record_text::Request;
+use record_text::{Request, wide_of};
+use tree_keys::key_bits;
 
-// The number of the shard below whose frontier a key lies: that of the key's first bits, as many as a frontier has.
-fn shard_of(key: u64, shards: u32) -> u32
+// The number of the shard below whose frontier a key of a tree lies: that of the key's first bits, as many as a frontier has.
+fn shard_of(wide: bool, key: u128, shards: u32) -> u32
     requires shards { IsShardCount shards }
-    ensures first_bits { result ≡ number_of (take (frontier_bits shards) (bits_of (key_bits false) key)) }
+    ensures first_bits { result ≡ number_of (take (frontier_bits shards) (bits_of (key_bits wide) key)) }
     ensures there { result < shards }
 {
-    let bits = shards.ilog2();
-    (key >> (u64::BITS - bits)) as u32
+    let key = if wide { key } else { key % (1 << 64) };
+    (key >> (u32::from(key_bits(wide)) - shards.ilog2())) as u32
 }
 
 // Whether a content is the record of this hot key.
-fn is_hot_at(content: &Content, key: u64) -> bool
+fn is_hot_at(content: &Content, key: u128) -> bool
     ensures value { result ≡ is_hot_at key (shown_content content.now) }
 {
     match content {
@@ -45,7 +46,7 @@ fn is_hot_at(content: &Content, key: u64) -> bool
 
 impl Seats {
     // The seat of a key that lies below the shard's frontier: the hot place that has it, or else the shard's own.
-    fn seat_of(&self, key: u64) -> usize
+    fn seat_of(&self, key: u128) -> usize
         ensures hot { result ≢ 0 → is_hot_at key (get_or (contents_of self.now) result vacant) ≡ true }
         ensures cold { result ≡ 0 → list_any (is_hot_at key) (map shown_content self.now.hot.items) ≡ false }
         ensures there { result < length (contents_of self.now) }
@@ -69,7 +70,8 @@ impl<'a, D: Digests> World<'a, D> {
             → (host_of (D.functions (digests_of self.now)) self.now).owns (place_of result).shard
             (shard_at (shown_world self.now) (place_of result).shard).contents (place_of result).seat request.now ≡ true }
     {
-        let shard = shard_of(request.key, self.settings.shards);
+        let wide = wide_of(&self.settings.header);
+        let shard = shard_of(wide, request.key, self.settings.shards);
         let seat = self.shards[shard as usize].seat_of(request.key);
         shard * PLACES_EACH + seat as u32
     }

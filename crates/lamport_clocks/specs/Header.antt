@@ -1,12 +1,13 @@
 -- The ranges of the numbers that a bundle begins with.
-use Rattle.std.specs.Prelude.{ℕ, ◌≤◌, ◌==◌, nat_le, ◌&&◌, Bool}
+use Rattle.std.specs.Prelude.{◌≡◌, ◌⊎◌, ℕ, ◌≤◌, ◌==◌, nat_le, ◌&&◌, ◌||◌, Bool}
 use Rattle.lamport_clocks.specs.declared.header.Header.{Header}
 
 -- the last version of the format
 abbrev pub last_version : ℕ
-last_version = 2
+last_version = 3
 
--- each number is in its range: a version that there is, 1 to 64 verifiers, 4 to 65,536 entries, counters that end at 1 to 16,777,215
+-- Each number is in its range: a version that there is, 1 to 64 verifiers, 4 to 65,536 entries, counters that end at 1 to
+-- 16,777,215, and keys of 64 bits, or in version 3 of 128.
 pub record IsHeader (h : Header) : Type 0 where
   pub some_version : 1 ≤ h.version
   pub version : h.version ≤ last_version
@@ -16,6 +17,7 @@ pub record IsHeader (h : Header) : Type 0 where
   pub cache : h.cache ≤ 65536
   pub some_end : 1 ≤ h.end
   pub end : h.end ≤ 16777215
+  pub bits : (h.bits ≡ 64) ⊎ ((h.version ≡ 3) × (h.bits ≡ 128))
 
 -- the same as a test
 abbrev pub is_in_range : Header → Bool
@@ -23,11 +25,13 @@ is_in_range h = nat_le 1 h.version && nat_le h.version last_version
     && nat_le 1 h.verifiers && nat_le h.verifiers 64
     && nat_le 4 h.cache && nat_le h.cache 65536
     && nat_le 1 h.end && nat_le h.end 16777215
+    && (h.bits == 64 || (h.version == 3 && h.bits == 128))
 
--- the commands of a bundle's logs name paths, in version 1, or slots of a verifier's cache, in version 2
+-- the commands of a bundle's logs name paths, in version 1, or slots of a verifier's cache, in later ones
 abbrev pub names_paths : Header → Bool
 names_paths h = h.version == 1
 
--- the header of a bundle of version 1, whose commands name paths: verifiers, cache, first epoch, the counters' end
+-- the header of a bundle of version 1, whose commands name paths and whose keys have 64 bits: verifiers, cache, first epoch,
+-- the counters' end
 abbrev pub header_by_path : ℕ → ℕ → ℕ → ℕ → Header
-header_by_path verifiers cache first end = record { version = 1; verifiers = verifiers; cache = cache; first = first; end = end }
+header_by_path verifiers cache first end = record { version = 1; verifiers = verifiers; cache = cache; first = first; end = end; bits = 64 }

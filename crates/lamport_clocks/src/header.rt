@@ -4,7 +4,11 @@ ghost use Rattle.std.specs.Prelude.{◌≡◌, ◌↔◌, IsTrue};
 // The first version of the format.
 const FIRST_VERSION: u8 = 1;
 // The last version of the format.
-const LAST_VERSION: u8 = 2;
+const LAST_VERSION: u8 = 3;
+// The bits of a key in each version, and in all but the last the only ones.
+const SHORT_KEYS: u8 = 64;
+// The bits of a key that the last version has beside these.
+const LONG_KEYS: u8 = 128;
 // The fewest verifiers of a bundle.
 const LEAST_VERIFIERS: u16 = 1;
 // The most verifiers of a bundle.
@@ -22,7 +26,7 @@ const MOST_END: u32 = 16_777_215;
 /// The numbers that a bundle begins with. They hold for each of its verifiers.
 #[derive(Clone, Copy, Debug, PartialEq, Eq)]
 pub struct Header {
-    /// The version of the format: in version 1 commands name paths, in version 2 slots of a verifier's cache.
+    /// The version of the format: in version 1 commands name paths, in later ones slots of a verifier's cache.
     pub version: u8,
     /// How many verifiers there are; they are numbered from 0.
     pub verifiers: u16,
@@ -32,6 +36,8 @@ pub struct Header {
     pub first: u32,
     /// The last value of the counter in an epoch.
     pub end: u32,
+    /// How many bits a key has: 64, or in version 3 also 128.
+    pub bits: u8,
 }
 
 impl Header {
@@ -47,6 +53,7 @@ impl Header {
             cache,
             first,
             end,
+            bits: SHORT_KEYS,
         }
     }
 
@@ -70,5 +77,6 @@ impl Header {
             && self.cache <= MOST_CACHE
             && LEAST_END <= self.end
             && self.end <= MOST_END
+            && (self.bits == SHORT_KEYS || (self.version == LAST_VERSION && self.bits == LONG_KEYS))
     }
 }

@@ -170,20 +170,30 @@ fn counters_may_end_at_the_last_number(rt: HostRuntime) {
     );
 }
 
-// Version, verifiers, cache, end, whether it is a header.
+// Version, verifiers, cache, end, the bits of a key, whether it is a header.
 const HEADERS: &str = "
-1 | 1 | 4 | 1 | true
-1 | 64 | 65536 | 16777215 | true
-2 | 1 | 4 | 1 | true
-2 | 64 | 65536 | 16777215 | true
-0 | 1 | 4 | 1 | false
-3 | 1 | 4 | 1 | false
-1 | 0 | 4 | 1 | false
-1 | 65 | 4 | 1 | false
-1 | 1 | 3 | 1 | false
-1 | 1 | 65537 | 1 | false
-1 | 1 | 4 | 0 | false
-1 | 1 | 4 | 16777216 | false
+1 | 1 | 4 | 1 | 64 | true
+1 | 64 | 65536 | 16777215 | 64 | true
+2 | 1 | 4 | 1 | 64 | true
+2 | 64 | 65536 | 16777215 | 64 | true
+3 | 1 | 4 | 1 | 64 | true
+3 | 64 | 65536 | 16777215 | 128 | true
+0 | 1 | 4 | 1 | 64 | false
+4 | 1 | 4 | 1 | 64 | false
+1 | 0 | 4 | 1 | 64 | false
+1 | 65 | 4 | 1 | 64 | false
+1 | 1 | 3 | 1 | 64 | false
+1 | 1 | 65537 | 1 | 64 | false
+1 | 1 | 4 | 0 | 64 | false
+1 | 1 | 4 | 16777216 | 64 | false
+3 | 65 | 4 | 1 | 128 | false
+1 | 1 | 4 | 1 | 128 | false
+2 | 1 | 4 | 1 | 128 | false
+4 | 1 | 4 | 1 | 128 | false
+3 | 1 | 4 | 1 | 0 | false
+3 | 1 | 4 | 1 | 65 | false
+3 | 1 | 4 | 1 | 192 | false
+3 | 1 | 4 | 1 | 255 | false
 ";
 
 #[test]
@@ -193,13 +203,15 @@ fn headers_have_ranges(rt: HostRuntime) {
         let verifiers = field(&rt, row, 1);
         let cache = field(&rt, row, 2);
         let end = field(&rt, row, 3);
-        let want = field(&rt, row, 4);
+        let bits = field(&rt, row, 4);
+        let want = field(&rt, row, 5);
         let header = Header {
             version: version.parse().expect(&rt, "a number"),
             verifiers: verifiers.parse().expect(&rt, "a number"),
             cache: cache.parse().expect(&rt, "a number"),
             first: LAST,
             end: end.parse().expect(&rt, "a number"),
+            bits: bits.parse().expect(&rt, "a number"),
         };
         same(
             &rt,

@@ -216,6 +216,22 @@ fn keys_of_128_bits_are_their_words(rt: HostRuntime) {
     same(&rt, "key_bits(true)", &key_bits(true), &128);
 }
 
+// In the tree whose keys have 64 bits a longer number counts by its lowest bits.
+#[test]
+fn longer_numbers_count_by_their_low_bits(rt: HostRuntime) {
+    let table = [
+        (5, 5),
+        ((1 << 64) - 1, u64::MAX),
+        (1 << 64, 0),
+        ((1 << 64) + 5, 5),
+        (u128::MAX, u64::MAX),
+    ];
+    for (number, key) in table {
+        let path = Path::of_number(false, number);
+        same(&rt, "of_number", &path, &Path::of_key(key));
+    }
+}
+
 // How many first bits the key 0 and a key with one bit have in common. Both lie below that path, if it is shorter than they.
 #[test]
 fn keys_of_128_bits_part_at_their_first_bit(rt: HostRuntime) {

@@ -1,8 +1,9 @@
--- How many bytes a reader takes at most: a command of the narrow tree takes at most 104, and has fewer where it is cut.
-use Rattle.std.proofs.Common.{◌≡◌, ℕ, ◌+◌, ◌<◌, ◌≤◌, ◌==◌, Bool, true, false, cond, ltb, List, [], ◌∷◌, ◌++◌, length, take, drop, Option, Some, None, Ok, Err, refl, ap, subst, append-nil, length-drop, arith}
-use Rattle.std.specs.Int.{w16, w32, byte_len, from_be_bytes}
+-- How many bytes a reader takes at most: a command takes no more than the longest of its tree has, and has fewer where it is cut.
+use Rattle.std.proofs.Common.{◌≡◌, ℕ, ◌+◌, ◌*◌, ◌<◌, ◌≤◌, max, ◌==◌, Bool, true, false, cond, ltb, List, [], ◌∷◌, ◌++◌, length, take, drop, Option, Some, None, Ok, Err, refl, ap, subst, append-nil, length-drop, arith}
+use Rattle.std.specs.Int.{w16, w32, from_be_bytes}
 use Rattle.std.specs.Prelude.{nat_le}
 use Rattle.std.proofs.lemmas.Bool.{ltb-true, leb-true}
+use Rattle.std.proofs.Math.Nat.{le-max_left, le-max_right}
 use Rattle.tree_keys.specs.Path.{tree_of, IsIn, is_data}
 use Rattle.tree_keys.proofs.TreeLaws.{tree-in, in-child}
 use Rattle.lamport_clocks.specs.declared.stamp.Stamp.{Stamp}
@@ -10,13 +11,13 @@ use Rattle.record_text.specs.declared.reader.TextFault.TheVariants as faults
 use Rattle.record_text.specs.declared.value.Pointer.{Pointer}
 use Rattle.record_text.specs.declared.value.Node.{Node}
 use Rattle.record_text.specs.declared.value.Value.TheVariants as values
-use Rattle.record_text.specs.Tree.{word_width}
 use Rattle.record_text.specs.Fields.{Parsed, field, ranged}
 use Rattle.record_text.specs.Reading.{first_byte, byte_at, run_at, path_in, path_at, flag_in, count_in, blob_behind, blob_at, pointer_tag_in, path_below_in, path_below_at, pointer_behind, pointer_at, node_at, value_by, value_at, u16_at, u32_at, stamp_at}
 use Rattle.record_text.proofs.FieldLaws.{field_ok, Ok-is}
 use Rattle.log_codec.specs.declared.command.Command.{Command}
 use Rattle.log_codec.specs.declared.command.Command.TheVariants.{AddM, EvictM, AddB, EvictB, EvictBM, Get, Put, NextEpoch, Absent}
 use Rattle.log_codec.specs.Command.{add_m_at, evict_m_at, add_b_at, evict_b_at, evict_bm_at, get_at, put_at, absent_at, path_command_behind, path_command_at, path_command_text, IsPathCommand, IsCommandIn}
+use Rattle.log_codec.specs.Lengths.{longest_path_text, longest_pointer_text, longest_blob_text, longest_value_text, longest_path_command_text}
 use Rattle.log_codec.proofs.CommandLaws.{path_grammar}
 use Rattle.log_codec.proofs.CommandKeepsOnLaws.{path_exact}
 use Rattle.log_codec.proofs.GrammarLaws.{Grammar, IsExact, path_at-in, tagged_at}
@@ -122,15 +123,15 @@ pub Spans-byte : Spans 1 (λ bytes. byte_at bytes)
 unfolding byte_at
 Spans-byte = Spans-field 1 (λ run. Some (first_byte run))
 
-pub Spans-path : Spans 9 (λ bytes. path_at false bytes)
+pub Spans-path : (wide : Bool) → Spans (longest_path_text wide) (λ bytes. path_at wide bytes)
 unfolding path_at
-Spans-path = Spans-field 9 (path_in false)
+Spans-path wide = Spans-field (longest_path_text wide) (path_in wide)
 
-pub Spans-path_below : (prefix : List Bool) → IsIn false prefix → Spans 9 (λ bytes. path_below_at prefix bytes)
+pub Spans-path_below : (wide : Bool) (prefix : List Bool) → IsIn wide prefix → Spans (longest_path_text wide) (λ bytes. path_below_at prefix bytes)
 unfolding path_below_at
-Spans-path_below prefix within =
-    subst (λ (wide : Bool). Spans (1 + byte_len (word_width wide)) (λ bytes. path_below_at prefix bytes)) (tree-in false prefix within)
-    (Spans-field (1 + byte_len (word_width (tree_of prefix))) (path_below_in prefix))
+Spans-path_below wide prefix within =
+    subst (λ (tree : Bool). Spans (longest_path_text tree) (λ bytes. path_below_at prefix bytes)) (tree-in wide prefix within)
+    (Spans-field (longest_path_text (tree_of prefix)) (path_below_in prefix))
 
 pub Spans-u16 : Spans 2 (λ bytes. u16_at bytes)
 unfolding u16_at
@@ -151,54 +152,63 @@ counted true n count e = (refl, cc)
 counted false n count e = absurd (cc)
 
 -- a count that was read is at most the longest
-count_within : (bytes : List ℕ) (count : ℕ) → count_in 64 bytes ≡ Some count → count ≤ 64
-count_within bytes count e =
-    let is = counted (nat_le (first_byte bytes) 64) (first_byte bytes) count e in
-    let least : first_byte bytes ≤ 64 = leb-true _ _ is.0 in
+count_within : (longest : ℕ) (bytes : List ℕ) (count : ℕ) → count_in longest bytes ≡ Some count → count ≤ longest
+count_within longest bytes count e =
+    let is = counted (nat_le (first_byte bytes) longest) (first_byte bytes) count e in
+    let least : first_byte bytes ≤ longest = leb-true _ _ is.0 in
     omega (arith, is.1)
 
-pub Spans-blob_behind : (present : Bool) → Spans 65 (λ bytes. blob_behind 64 present bytes)
-Spans-blob_behind false = Spans-done 65 None
-Spans-blob_behind true =
-    Spans-then_found 1 64 (λ bytes. field 1 (count_in 64) bytes) (λ count left. then_at (run_at count left) (λ text rest. Ok (Some text, rest))) (Spans-field 1 (count_in 64))
+pub Spans-blob_behind : (longest : ℕ) (present : Bool) → Spans (1 + longest) (λ bytes. blob_behind longest present bytes)
+Spans-blob_behind longest false = Spans-done (1 + longest) None
+Spans-blob_behind longest true =
+    Spans-then_found 1 longest (λ bytes. field 1 (count_in longest) bytes) (λ count left. then_at (run_at count left) (λ text rest. Ok (Some text, rest))) (Spans-field 1 (count_in longest))
     (λ count bytes left is.
-    let f = field_ok 1 (count_in 64) bytes count left is in
-    let most : count ≤ 64 = count_within (take 1 bytes) count f.1 in
-    Spans-wider (count + 0) 64 _ (omega arith) (Spans-then count 0 (λ bytes. run_at count bytes) (λ text rest. Ok (Some text, rest)) (Spans-field count (λ run. Some run)) (λ text. Spans-done 0 (Some text))))
+    let f = field_ok 1 (count_in longest) bytes count left is in
+    let most : count ≤ longest = count_within longest (take 1 bytes) count f.1 in
+    Spans-wider (count + 0) longest _ (omega arith) (Spans-then count 0 (λ bytes. run_at count bytes) (λ text rest. Ok (Some text, rest)) (Spans-field count (λ run. Some run)) (λ text. Spans-done 0 (Some text))))
 
-pub Spans-blob : Spans 66 (λ bytes. blob_at 64 bytes)
+pub Spans-blob : (longest : ℕ) → Spans (longest_blob_text longest) (λ bytes. blob_at longest bytes)
 unfolding blob_at
-Spans-blob = Spans-then 1 65 (λ bytes. field 1 flag_in bytes) (λ present bytes. blob_behind 64 present bytes) (Spans-field 1 flag_in) Spans-blob_behind
+Spans-blob longest = Spans-wider (1 + (1 + longest)) (longest_blob_text longest) _ (omega arith) (Spans-then 1 (1 + longest) (λ bytes. field 1 flag_in bytes) (λ present bytes. blob_behind longest present bytes) (Spans-field 1 flag_in) (Spans-blob_behind longest))
 
-pub Spans-pointer_behind : (prefix : List Bool) → IsIn false prefix → (tag : Option Bool) → Spans 41 (λ bytes. pointer_behind prefix tag bytes)
-Spans-pointer_behind prefix within None = Spans-done 41 None
-Spans-pointer_behind prefix within (Some deferred) =
+pub Spans-pointer_behind : (wide : Bool) (prefix : List Bool) → IsIn wide prefix → (tag : Option Bool) → Spans (longest_path_text wide + 32) (λ bytes. pointer_behind prefix tag bytes)
+Spans-pointer_behind wide prefix within None = Spans-done (longest_path_text wide + 32) None
+Spans-pointer_behind wide prefix within (Some deferred) =
     let pointer : List Bool → List ℕ → Option Pointer = λ path digest. Some (record { path = path; digest = digest; deferred = deferred }) in
-    Spans-two 9 32 pointer (λ bytes. path_below_at prefix bytes) (λ path bytes. run_at 32 bytes) (Spans-path_below prefix within) (λ path. Spans-field 32 (λ run. Some run))
+    Spans-two (longest_path_text wide) 32 pointer (λ bytes. path_below_at prefix bytes) (λ path bytes. run_at 32 bytes) (Spans-path_below wide prefix within) (λ path. Spans-field 32 (λ run. Some run))
 
-pub Spans-pointer : (prefix : List Bool) → IsIn false prefix → Spans 42 (λ bytes. pointer_at prefix bytes)
+pub Spans-pointer : (wide : Bool) (prefix : List Bool) → IsIn wide prefix → Spans (longest_pointer_text wide) (λ bytes. pointer_at prefix bytes)
 unfolding pointer_at
-Spans-pointer prefix within = Spans-then 1 41 (λ bytes. field 1 pointer_tag_in bytes) (λ tag bytes. pointer_behind prefix tag bytes) (Spans-field 1 pointer_tag_in) (Spans-pointer_behind prefix within)
+Spans-pointer wide prefix within =
+    Spans-wider (1 + (longest_path_text wide + 32)) (longest_pointer_text wide) _ (omega arith)
+    (Spans-then 1 (longest_path_text wide + 32) (λ bytes. field 1 pointer_tag_in bytes) (λ tag bytes. pointer_behind prefix tag bytes) (Spans-field 1 pointer_tag_in) (Spans-pointer_behind wide prefix within))
 
-pub Spans-node : (path : List Bool) → IsIn false path → Spans 84 (λ bytes. node_at path bytes)
+pub Spans-node : (wide : Bool) (path : List Bool) → IsIn wide path → Spans (longest_pointer_text wide + longest_pointer_text wide) (λ bytes. node_at path bytes)
 unfolding node_at
-Spans-node path within =
+Spans-node wide path within =
     let node : Option Pointer → Option Pointer → Node = λ side0 side1. record { side0 = side0; side1 = side1 } in
-    Spans-two 42 42 node (λ bytes. pointer_at (path ++ false ∷ []) bytes) (λ side0 bytes. pointer_at (path ++ true ∷ []) bytes)
-    (Spans-pointer (path ++ false ∷ []) (in-child false path false within)) (λ side0. Spans-pointer (path ++ true ∷ []) (in-child false path true within))
+    Spans-two (longest_pointer_text wide) (longest_pointer_text wide) node (λ bytes. pointer_at (path ++ false ∷ []) bytes) (λ side0 bytes. pointer_at (path ++ true ∷ []) bytes)
+    (Spans-pointer wide (path ++ false ∷ []) (in-child wide path false within)) (λ side0. Spans-pointer wide (path ++ true ∷ []) (in-child wide path true within))
 
-pub Spans-value_by : (path : List Bool) → IsIn false path → (data_path : Bool) → Spans 84 (λ bytes. value_by 64 path data_path bytes)
-Spans-value_by path within true =
-    Spans-then 66 18 (λ bytes. blob_at 64 bytes) (λ blob rest. Ok (values.Blob blob, rest)) Spans-blob (λ blob. Spans-done 18 (values.Blob blob))
-Spans-value_by path within false =
-    Spans-then 84 0 (λ bytes. node_at path bytes) (λ node rest. Ok (values.Node node, rest)) (Spans-node path within) (λ node. Spans-done 0 (values.Node node))
+-- what takes no more than another reader, with something made of what was read
+pub Spans-made : {A B : Type 0} (n m : ℕ) (read : List ℕ → Parsed A) (make : A → B) → n ≤ m → Spans n read → Spans m (λ bytes. then_at (read bytes) (λ a rest. Ok (make a, rest)))
+Spans-made n m read make le spans =
+    Spans-wider (n + 0) m _ (omega arith) (Spans-then n 0 read (λ a rest. Ok (make a, rest)) spans (λ a. Spans-done 0 (make a)))
 
-pub Spans-value : (path : List Bool) → IsIn false path → Spans 84 (λ bytes. value_at 64 path bytes)
-Spans-value path within = Spans-value_by path within (is_data path)
+pub Spans-value_by : (wide : Bool) (longest : ℕ) (path : List Bool) → IsIn wide path → (data_path : Bool) → Spans (longest_value_text wide longest) (λ bytes. value_by longest path data_path bytes)
+Spans-value_by wide longest path within true =
+    Spans-made (longest_blob_text longest) (longest_value_text wide longest) (λ bytes. blob_at longest bytes) values.Blob
+    (le-max_left (longest_blob_text longest) (2 * longest_pointer_text wide)) (Spans-blob longest)
+Spans-value_by wide longest path within false =
+    Spans-made (longest_pointer_text wide + longest_pointer_text wide) (longest_value_text wide longest) (λ bytes. node_at path bytes) values.Node
+    (let most = le-max_right (longest_blob_text longest) (2 * longest_pointer_text wide) in omega arith) (Spans-node wide path within)
+
+pub Spans-value : (wide : Bool) (longest : ℕ) (path : List Bool) → IsIn wide path → Spans (longest_value_text wide longest) (λ bytes. value_at longest path bytes)
+Spans-value wide longest path within = Spans-value_by wide longest path within (is_data path)
 
 -- the value of a path that was read
-pub Spans-value_of : (path : List Bool) (bytes left : List ℕ) → path_at false bytes ≡ Ok (path, left) → Spans 84 (λ bytes. value_at 64 path bytes)
-Spans-value_of path bytes left is = Spans-value path (path_at-in false bytes path left is)
+pub Spans-value_of : (wide : Bool) (longest : ℕ) (path : List Bool) (bytes left : List ℕ) → path_at wide bytes ≡ Ok (path, left) → Spans (longest_value_text wide longest) (λ bytes. value_at longest path bytes)
+Spans-value_of wide longest path bytes left is = Spans-value wide longest path (path_at-in wide bytes path left is)
 
 -- ---- the commands
 
@@ -214,30 +224,60 @@ text_spans grammar exact n spans command is =
 
 -- ---- commands that name paths
 
-pub Spans-behind : (tag : ℕ) → Spans 103 (λ bytes. path_command_behind false 64 tag bytes)
-Spans-behind tag =
-    Spans-if 103 (tag == 1) (λ bytes. add_m_at false 64 bytes) _ (Spans-wider 102 103 _ (omega arith) (Spans-three_found 9 84 9 AddM (path_at false) (value_at 64) (path_at false) Spans-path Spans-value_of Spans-path))
-    (Spans-if 103 (tag == 2) (λ bytes. evict_m_at false bytes) _ (Spans-wider 18 103 _ (omega arith) (Spans-two 9 9 EvictM (path_at false) (λ p. path_at false) Spans-path (λ p. Spans-path)))
-    (Spans-if 103 (tag == 3) (λ bytes. add_b_at false 64 bytes) _ (Spans-four_found 9 84 8 2 AddB (path_at false) (value_at 64) stamp_at u16_at Spans-path Spans-value_of Spans-stamp Spans-u16)
-    (Spans-if 103 (tag == 4) (λ bytes. evict_b_at false bytes) _ (Spans-wider 17 103 _ (omega arith) (Spans-two 9 8 EvictB (path_at false) (λ p. stamp_at) Spans-path (λ p. Spans-stamp)))
-    (Spans-if 103 (tag == 5) (λ bytes. evict_bm_at false bytes) _ (Spans-wider 26 103 _ (omega arith) (Spans-three 9 9 8 EvictBM (path_at false) (λ p. path_at false) stamp_at Spans-path (λ p. Spans-path) Spans-stamp))
-    (Spans-if 103 (tag == 6) (λ bytes. get_at false 64 bytes) _ (Spans-wider 93 103 _ (omega arith) (Spans-two_found 9 84 Get (path_at false) (value_at 64) Spans-path Spans-value_of))
-    (Spans-if 103 (tag == 7) (λ bytes. put_at false 64 bytes) _ (Spans-wider 93 103 _ (omega arith) (Spans-two_found 9 84 Put (path_at false) (value_at 64) Spans-path Spans-value_of))
-    (Spans-if 103 (tag == 8) (λ bytes. Ok (NextEpoch, bytes)) _ (Spans-done 103 NextEpoch)
-    (Spans-if 103 (tag == 9) (λ bytes. absent_at false bytes) (λ bytes. Err faults.Malformed) (Spans-wider 18 103 _ (omega arith) (Spans-two 9 9 Absent (path_at false) (λ p. path_at false) Spans-path (λ p. Spans-path))) (Spans-malformed 103)))))))))
+-- what each command's fields take, by how much a path takes and a value, which takes more than two paths
+record Fits (path value : ℕ) : Type 0 where
+  add_m : path + (value + path) ≤ path + value + max path 10
+  add_b : path + (value + (8 + 2)) ≤ path + value + max path 10
+  paths : path + (path + 8) ≤ path + value + max path 10
 
-pub Spans-path_command : Spans 104 (λ bytes. path_command_at false 64 bytes)
+fits : (path value : ℕ) → path + 8 ≤ value → Fits path value
+fits path value le =
+    let left = le-max_left path 10 in
+    let right = le-max_right path 10 in
+    record { add_m = omega arith; add_b = omega arith; paths = omega arith }
+
+fits_of : (wide : Bool) (longest : ℕ) → Fits (longest_path_text wide) (longest_value_text wide longest)
+fits_of wide longest =
+    let node = le-max_right (longest_blob_text longest) (2 * longest_pointer_text wide) in
+    fits (longest_path_text wide) (longest_value_text wide longest) (omega arith)
+
+pub Spans-behind : (wide : Bool) (longest tag : ℕ) → Spans (longest_path_text wide + longest_value_text wide longest + max (longest_path_text wide) 10) (λ bytes. path_command_behind wide longest tag bytes)
+Spans-behind wide longest tag =
+    let p = longest_path_text wide in
+    let v = longest_value_text wide longest in
+    let n = p + v + max p 10 in
+    let fit = fits_of wide longest in
+    let path = Spans-path wide in
+    let value = Spans-value_of wide longest in
+    let path_and_value : p + v ≤ n = omega arith in
+    let two_paths : p + p ≤ n = omega (arith, fit.paths) in
+    let path_and_stamp : p + 8 ≤ n = omega (arith, fit.paths) in
+    Spans-if n (tag == 1) (λ bytes. add_m_at wide longest bytes) _ (Spans-wider (p + (v + p)) n _ fit.add_m (Spans-three_found p v p AddM (path_at wide) (value_at longest) (path_at wide) path value path))
+    (Spans-if n (tag == 2) (λ bytes. evict_m_at wide bytes) _ (Spans-wider (p + p) n _ two_paths (Spans-two p p EvictM (path_at wide) (λ p. path_at wide) path (λ p. path)))
+    (Spans-if n (tag == 3) (λ bytes. add_b_at wide longest bytes) _ (Spans-wider (p + (v + (8 + 2))) n _ fit.add_b (Spans-four_found p v 8 2 AddB (path_at wide) (value_at longest) stamp_at u16_at path value Spans-stamp Spans-u16))
+    (Spans-if n (tag == 4) (λ bytes. evict_b_at wide bytes) _ (Spans-wider (p + 8) n _ path_and_stamp (Spans-two p 8 EvictB (path_at wide) (λ p. stamp_at) path (λ p. Spans-stamp)))
+    (Spans-if n (tag == 5) (λ bytes. evict_bm_at wide bytes) _ (Spans-wider (p + (p + 8)) n _ fit.paths (Spans-three p p 8 EvictBM (path_at wide) (λ p. path_at wide) stamp_at path (λ p. path) Spans-stamp))
+    (Spans-if n (tag == 6) (λ bytes. get_at wide longest bytes) _ (Spans-wider (p + v) n _ path_and_value (Spans-two_found p v Get (path_at wide) (value_at longest) path value))
+    (Spans-if n (tag == 7) (λ bytes. put_at wide longest bytes) _ (Spans-wider (p + v) n _ path_and_value (Spans-two_found p v Put (path_at wide) (value_at longest) path value))
+    (Spans-if n (tag == 8) (λ bytes. Ok (NextEpoch, bytes)) _ (Spans-done n NextEpoch)
+    (Spans-if n (tag == 9) (λ bytes. absent_at wide bytes) (λ bytes. Err faults.Malformed) (Spans-wider (p + p) n _ two_paths (Spans-two p p Absent (path_at wide) (λ p. path_at wide) path (λ p. path))) (Spans-malformed n)))))))))
+
+pub Spans-path_command : (wide : Bool) (longest : ℕ) → Spans (longest_path_command_text wide longest) (λ bytes. path_command_at wide longest bytes)
 unfolding path_command_at
-Spans-path_command = Spans-tagged 103 (λ tag left. path_command_behind false 64 tag left) Spans-behind
+Spans-path_command wide longest =
+    let n = longest_path_text wide + longest_value_text wide longest + max (longest_path_text wide) 10 in
+    Spans-wider (1 + n) (longest_path_command_text wide longest) _ (omega arith)
+    (Spans-tagged n (λ tag left. path_command_behind wide longest tag left) (Spans-behind wide longest))
 
--- A command that was read takes at most 104 bytes.
-pub path_command_taken : (bytes : List ℕ) (command : Command) (rest : List ℕ) → path_command_at false 64 bytes ≡ Ok (command, rest) → length bytes ≤ 104 + length rest
-path_command_taken bytes command rest e = Spans-path_command.takes bytes command rest e
+-- A command that was read takes no more bytes.
+pub path_command_taken : (wide : Bool) (longest : ℕ) (bytes : List ℕ) (command : Command) (rest : List ℕ) → path_command_at wide longest bytes ≡ Ok (command, rest) → length bytes ≤ longest_path_command_text wide longest + length rest
+path_command_taken wide longest bytes command rest e = (Spans-path_command wide longest).takes bytes command rest e
 
--- A command that is cut has fewer than 104 bytes.
-pub path_command_cut : (bytes : List ℕ) → path_command_at false 64 bytes ≡ Err faults.Truncated → length bytes < 104
-path_command_cut bytes e = Spans-path_command.cut bytes e
+-- A command that is cut has fewer.
+pub path_command_cut : (wide : Bool) (longest : ℕ) (bytes : List ℕ) → path_command_at wide longest bytes ≡ Err faults.Truncated → length bytes < longest_path_command_text wide longest
+path_command_cut wide longest bytes e = (Spans-path_command wide longest).cut bytes e
 
--- A command's text has at most 104 bytes.
-pub path_text_within : (command : Command) → IsCommandIn false command → IsPathCommand 64 command → length (path_command_text command) ≤ 104
-path_text_within command inside is = text_spans (path_grammar false 64) (path_exact false 64) 104 Spans-path_command command (inside, is)
+-- A command's text has no more.
+pub path_text_within : (wide : Bool) (longest : ℕ) (command : Command) → IsCommandIn wide command → IsPathCommand longest command → length (path_command_text command) ≤ longest_path_command_text wide longest
+path_text_within wide longest command inside is =
+    text_spans (path_grammar wide longest) (path_exact wide longest) (longest_path_command_text wide longest) (Spans-path_command wide longest) command (inside, is)

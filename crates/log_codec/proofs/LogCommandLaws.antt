@@ -1,10 +1,12 @@
 -- The texts of the commands of a log of any version: what was read as one is spelled so and in its ranges, what is
--- spelled so is read, more bytes behind disturb neither, and a command has at most 106 bytes.
-use Rattle.std.proofs.Common.{◌≡◌, ℕ, ◌+◌, ◌<◌, ◌≤◌, Bool, true, false, List, [], ◌++◌, length, Ok, Err, refl, ap, arith}
+-- spelled so is read, more bytes behind disturb neither, and a command has no more bytes than the longest of its format.
+use Rattle.std.proofs.Common.{◌≡◌, ℕ, ◌+◌, ◌<◌, ◌≤◌, ◌==◌, Bool, true, false, List, [], ◌++◌, length, inl, inr, Ok, Err, if◌then◌else◌, nat_lt, refl, ◌∙◌, ap, arith}
 use Rattle.lamport_clocks.specs.declared.header.Header.{Header}
-use Rattle.lamport_clocks.specs.Header.{names_paths}
+use Rattle.lamport_clocks.specs.Header.{IsHeader, names_paths}
 use Rattle.record_text.specs.declared.reader.TextFault.TheVariants.{Truncated}
 use Rattle.record_text.specs.Fields.{Parsed, KeepsOn}
+use Rattle.record_text.specs.Tree.{wide_of}
+use Rattle.record_text.specs.Longest.{longest_blob}
 use Rattle.record_text.specs.Format.{LogFormat, format_of}
 use Rattle.record_text.proofs.FieldLaws.{AreBytes, Begins, Ok-is}
 use Rattle.record_text.proofs.KeepsOnLaws.{keeps_on-nothing, keeps_on-then}
@@ -13,11 +15,12 @@ use Rattle.log_codec.specs.declared.log_command.LogCommand.TheVariants.{ByPath, 
 use Rattle.log_codec.specs.Command.{path_command_text, path_command_at, IsPathCommand, IsCommandIn}
 use Rattle.log_codec.specs.SlotCommand.{slot_command_text, slot_command_at, IsSlotCommand, IsSlotCommandIn}
 use Rattle.log_codec.specs.LogCommand.{command_text, command_by, command_at, IsCommandBy, IsCommand}
+use Rattle.log_codec.specs.Lengths.{longest_path_command_text, longest_slot_command_text, longest_command_text}
 use Rattle.log_codec.proofs.StepLaws.{then_at, then_ok, then_again}
 use Rattle.log_codec.proofs.GrammarLaws.{Grammar, IsExact, Spells-done, Spells-then}
 use Rattle.log_codec.proofs.CommandLaws.{path_command_begins, path_command_again}
 use Rattle.log_codec.proofs.CommandKeepsOnLaws.{keeps_on-path_command, path_command_shorter}
-use Rattle.log_codec.proofs.LengthLaws.{Spans, Spans-done, Spans-then, Spans-path_command, text_spans}
+use Rattle.log_codec.proofs.LengthLaws.{Spans, Spans-made, Spans-path_command, text_spans}
 use Rattle.log_codec.proofs.SlotCommandLaws.{slot_command_begins, slot_command_again, keeps_on-slot_command, slot_command_shorter, Spans-slot_command}
 
 -- commands that name paths, or slots
@@ -82,24 +85,72 @@ keeps_on-command format = (log_exact format).keeps_on
 pub command_shorter : (format : LogFormat) (bytes : List ℕ) (command : LogCommand) (rest : List ℕ) → command_at format bytes ≡ Ok (command, rest) → length rest < length bytes
 command_shorter format = (log_exact format).shorter
 
--- ---- at most 106 bytes
+-- ---- no more bytes than the longest
 
-Spans-by : (by_path : Bool) → Spans 106 (λ bytes. command_by by_path false 64 bytes)
-Spans-by true = Spans-then 104 2 (λ bytes. path_command_at false 64 bytes) (λ command rest. Ok (ByPath command, rest)) Spans-path_command (λ command. Spans-done 2 (ByPath command))
-Spans-by false = Spans-then 106 0 (λ bytes. slot_command_at false 64 bytes) (λ command rest. Ok (BySlot command, rest)) Spans-slot_command (λ command. Spans-done 0 (BySlot command))
+Spans-by : (by_path wide : Bool) (longest : ℕ) → Spans (longest_command_text (record { by_path = by_path; wide = wide; longest = longest })) (λ bytes. command_by by_path wide longest bytes)
+Spans-by true wide longest =
+    Spans-made (longest_path_command_text wide longest) (longest_path_command_text wide longest) (λ bytes. path_command_at wide longest bytes) ByPath (omega arith) (Spans-path_command wide longest)
+Spans-by false wide longest =
+    Spans-made (longest_slot_command_text wide longest) (longest_slot_command_text wide longest) (λ bytes. slot_command_at wide longest bytes) BySlot (omega arith) (Spans-slot_command wide longest)
 
-Spans-command : (header : Header) → Spans 106 (λ bytes. command_at (format_of header) bytes)
+Spans-command : (format : LogFormat) → Spans (longest_command_text format) (λ bytes. command_at format bytes)
 unfolding command_at
-Spans-command header = Spans-by (names_paths header)
+Spans-command format = Spans-by format.by_path format.wide format.longest
 
--- A command that was read takes at most 106 bytes.
-pub taken_within : (header : Header) (bytes : List ℕ) (command : LogCommand) (rest : List ℕ) → command_at (format_of header) bytes ≡ Ok (command, rest) → length bytes ≤ 106 + length rest
-taken_within header bytes command rest e = (Spans-command header).takes bytes command rest e
+-- A command that was read takes no more bytes.
+pub taken_within : (format : LogFormat) (bytes : List ℕ) (command : LogCommand) (rest : List ℕ) → command_at format bytes ≡ Ok (command, rest) → length bytes ≤ longest_command_text format + length rest
+taken_within format bytes command rest e = (Spans-command format).takes bytes command rest e
 
--- A command that is cut has fewer than 106 bytes.
-pub cut_is_short : (header : Header) (bytes : List ℕ) → command_at (format_of header) bytes ≡ Err Truncated → length bytes < 106
-cut_is_short header bytes e = (Spans-command header).cut bytes e
+-- A command that is cut has fewer.
+pub cut_is_short : (format : LogFormat) (bytes : List ℕ) → command_at format bytes ≡ Err Truncated → length bytes < longest_command_text format
+cut_is_short format bytes e = (Spans-command format).cut bytes e
 
--- A command's text has at most 106 bytes.
-pub text_within : (header : Header) (command : LogCommand) → IsCommand (format_of header) command → length (command_text command) ≤ 106
-text_within header command is = text_spans (log_grammar (format_of header)) (log_exact (format_of header)) 106 (Spans-command header) command is
+-- A command's text has no more.
+pub text_within : (format : LogFormat) (command : LogCommand) → IsCommand format command → length (command_text command) ≤ longest_command_text format
+text_within format command is = text_spans (log_grammar format) (log_exact format) (longest_command_text format) (Spans-command format) command is
+
+-- ---- and how many these are
+
+-- the longest values of versions 1 and 2, and those of version 3
+most_by : (by_path wide short : Bool) → longest_command_text (record { by_path = by_path; wide = wide; longest = if short then 64 else longest_blob }) ≤ 292
+most_by false false false = omega arith
+most_by false false true = omega arith
+most_by false true false = omega arith
+most_by false true true = omega arith
+most_by true false false = omega arith
+most_by true false true = omega arith
+most_by true true false = omega arith
+most_by true true true = omega arith
+
+-- A command of a bundle has at most 292 bytes.
+pub most : (header : Header) → longest_command_text (format_of header) ≤ 292
+most header = most_by (names_paths header) (wide_of header) (nat_lt header.version 3)
+
+-- A command that is cut has fewer.
+pub cut_fits : (header : Header) (bytes : List ℕ) → command_at (format_of header) bytes ≡ Err Truncated → length bytes < 292
+cut_fits header bytes e = let short = cut_is_short (format_of header) bytes e in omega (arith, most header)
+
+count_by : ℕ → ℕ → ℕ
+count_by version bits = longest_command_text (record { by_path = version == 1; wide = bits == 128; longest = if nat_lt version 3 then 64 else longest_blob })
+
+-- below version 3 keys have 64 bits
+short_keys : (header : Header) → IsHeader header → header.version < 3 → header.bits ≡ 64
+short_keys header is early = elim is.bits [ inl short ↦ short | inr long ↦ absurd (omega (arith, early, long.0)) ]
+
+-- In version 1 it has at most 104, in version 2 106, and in version 3 279 or, where keys have 128 bits, 287.
+pub most_by_paths : (header : Header) → IsHeader header → header.version ≡ 1 → longest_command_text (format_of header) ≡ 104
+unfolding count_by
+most_by_paths header is version =
+    ap (λ (v : ℕ). count_by v header.bits) version ∙ ap (λ (bits : ℕ). count_by 1 bits) (short_keys header is (omega (arith, version)))
+
+pub most_by_slots : (header : Header) → IsHeader header → header.version ≡ 2 → longest_command_text (format_of header) ≡ 106
+unfolding count_by
+most_by_slots header is version =
+    ap (λ (v : ℕ). count_by v header.bits) version ∙ ap (λ (bits : ℕ). count_by 2 bits) (short_keys header is (omega (arith, version)))
+
+pub most_of_longer : (header : Header) → header.version ≡ 3 → longest_command_text (format_of header) ≡ (if wide_of header then 287 else 279)
+unfolding count_by
+most_of_longer header version = ap (λ (v : ℕ). count_by v header.bits) version ∙ of_tree (wide_of header) where
+  of_tree : (wide : Bool) → longest_command_text (record { by_path = false; wide = wide; longest = longest_blob }) ≡ (if wide then 287 else 279)
+  of_tree true = refl
+  of_tree false = refl

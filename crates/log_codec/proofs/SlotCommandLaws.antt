@@ -1,7 +1,8 @@
 -- The texts of commands that name slots: what was read as one is spelled so and in its ranges, what is spelled so is
--- read, more bytes behind disturb neither, and a command of the narrow tree has at most 106 bytes.
-use Rattle.std.proofs.Common.{◌≡◌, ℕ, ◌+◌, ◌<◌, ◌≤◌, ◌==◌, Bool, false, List, [], ◌∷◌, ◌++◌, length, Ok, Err, refl, arith}
+-- read, more bytes behind disturb neither, and a command has no more bytes than the longest of its tree.
+use Rattle.std.proofs.Common.{◌≡◌, ℕ, ◌+◌, ◌*◌, ◌<◌, ◌≤◌, ◌==◌, Bool, List, [], ◌∷◌, ◌++◌, length, Ok, Err, refl, arith}
 use Rattle.std.specs.Int.{w16, to_be_bytes}
+use Rattle.std.proofs.Math.Nat.{le-max_left}
 use Rattle.record_text.specs.declared.reader.TextFault.TheVariants.{Malformed, Truncated}
 use Rattle.record_text.specs.Fields.{KeepsOn}
 use Rattle.record_text.specs.Reading.{path_at, value_at, blob_at, stamp_at, u16_at}
@@ -12,6 +13,7 @@ use Rattle.record_text.proofs.KeepsOnLaws.{keeps_on-nothing, keeps_on-then, keep
 use Rattle.log_codec.specs.declared.slot_command.SlotCommand.{SlotCommand}
 use Rattle.log_codec.specs.declared.slot_command.SlotCommand.TheVariants.{AddM, EvictM, AddB, EvictB, EvictBM, Get, Put, NextEpoch, Absent}
 use Rattle.log_codec.specs.SlotCommand.{slot_text, slot_command_text, add_m_at, evict_m_at, add_b_at, evict_b_at, evict_bm_at, get_at, put_at, absent_at, slot_command_behind, slot_command_at, IsSlotCommand, IsSlotCommandIn}
+use Rattle.log_codec.specs.Lengths.{longest_path_text, longest_pointer_text, longest_blob_text, longest_value_text, longest_slot_command_text}
 use Rattle.log_codec.proofs.StepLaws.{then_at, two_at, three_at, four_at, keeps_on-if, keeps_on-malformed, keeps_on-two, keeps_on-three, keeps_on-four}
 use Rattle.log_codec.proofs.GrammarLaws.{Grammar, IsExact, Spells, Spells-done, Spells-malformed, Spells-if, Spells-path, Spells-value, Spells-blob, Spells-stamp, Spells-u16, Again, Again-done, Again-path, Again-value, Again-blob, Again-stamp, Again-u16, two_texts, three_texts, four_texts, five_texts, tagged_at, tagged_begins, tagged_again, keeps_on-tagged, tagged_shorter}
 use Rattle.log_codec.proofs.LengthLaws.{Spans, Spans-done, Spans-malformed, Spans-if, Spans-wider, Spans-then, Spans-two, Spans-three, Spans-three_found, Spans-four_found, Spans-path, Spans-u16, Spans-stamp, Spans-blob, Spans-value_of, Spans-tagged, text_spans}
@@ -188,32 +190,47 @@ slot_exact wide longest = record {
   shorter = slot_command_shorter wide longest;
 }
 
--- ---- at most 106 bytes
+-- ---- no more bytes than the longest
 
-Spans-behind : (tag : ℕ) → Spans 105 (λ bytes. slot_command_behind false 64 tag bytes)
-Spans-behind tag =
-    Spans-if 105 (tag == 1) (λ bytes. add_m_at false 64 bytes) _ (Spans-wider 97 105 _ (omega arith) (Spans-then 2 95 u16_at (λ slot left. three_at (AddM slot) (path_at false) (value_at 64) u16_at left) Spans-u16 (λ slot. Spans-three_found 9 84 2 (AddM slot) (path_at false) (value_at 64) u16_at Spans-path Spans-value_of Spans-u16)))
-    (Spans-if 105 (tag == 2) (λ bytes. evict_m_at bytes) _ (Spans-wider 4 105 _ (omega arith) (Spans-two 2 2 EvictM u16_at (λ s. u16_at) Spans-u16 (λ s. Spans-u16)))
-    (Spans-if 105 (tag == 3) (λ bytes. add_b_at false 64 bytes) _ (Spans-then 2 103 u16_at (λ slot left. four_at (AddB slot) (path_at false) (value_at 64) stamp_at u16_at left) Spans-u16 (λ slot. Spans-four_found 9 84 8 2 (AddB slot) (path_at false) (value_at 64) stamp_at u16_at Spans-path Spans-value_of Spans-stamp Spans-u16))
-    (Spans-if 105 (tag == 4) (λ bytes. evict_b_at bytes) _ (Spans-wider 10 105 _ (omega arith) (Spans-two 2 8 EvictB u16_at (λ s. stamp_at) Spans-u16 (λ s. Spans-stamp)))
-    (Spans-if 105 (tag == 5) (λ bytes. evict_bm_at bytes) _ (Spans-wider 12 105 _ (omega arith) (Spans-three 2 2 8 EvictBM u16_at (λ s. u16_at) stamp_at Spans-u16 (λ s. Spans-u16) Spans-stamp))
-    (Spans-if 105 (tag == 6) (λ bytes. get_at 64 bytes) _ (Spans-wider 68 105 _ (omega arith) (Spans-two 2 66 Get u16_at (λ s. blob_at 64) Spans-u16 (λ s. Spans-blob)))
-    (Spans-if 105 (tag == 7) (λ bytes. put_at 64 bytes) _ (Spans-wider 68 105 _ (omega arith) (Spans-two 2 66 Put u16_at (λ s. blob_at 64) Spans-u16 (λ s. Spans-blob)))
-    (Spans-if 105 (tag == 8) (λ bytes. Ok (NextEpoch, bytes)) _ (Spans-done 105 NextEpoch)
-    (Spans-if 105 (tag == 9) (λ bytes. absent_at false bytes) (λ bytes. Err Malformed) (Spans-wider 11 105 _ (omega arith) (Spans-two 9 2 Absent (path_at false) (λ p. u16_at) Spans-path (λ p. Spans-u16))) (Spans-malformed 105)))))))))
+Spans-behind : (wide : Bool) (longest tag : ℕ) → Spans (2 + (longest_path_text wide + (longest_value_text wide longest + 10))) (λ bytes. slot_command_behind wide longest tag bytes)
+Spans-behind wide longest tag =
+    let p = longest_path_text wide in
+    let v = longest_value_text wide longest in
+    let n = 2 + (p + (v + 10)) in
+    let blobs : longest_blob_text longest ≤ v = le-max_left (longest_blob_text longest) (2 * longest_pointer_text wide) in
+    let path = Spans-path wide in
+    let value = Spans-value_of wide longest in
+    let blob = Spans-blob longest in
+    let value_and_slot : 2 + (p + (v + 2)) ≤ n = omega arith in
+    let slots_and_stamp : 2 + (2 + 8) ≤ n = omega arith in
+    let slot_and_blob : 2 + longest_blob_text longest ≤ n = omega arith in
+    Spans-if n (tag == 1) (λ bytes. add_m_at wide longest bytes) _ (Spans-wider (2 + (p + (v + 2))) n _ value_and_slot (Spans-then 2 (p + (v + 2)) u16_at (λ slot left. three_at (AddM slot) (path_at wide) (value_at longest) u16_at left) Spans-u16 (λ slot. Spans-three_found p v 2 (AddM slot) (path_at wide) (value_at longest) u16_at path value Spans-u16)))
+    (Spans-if n (tag == 2) (λ bytes. evict_m_at bytes) _ (Spans-wider 4 n _ (omega (arith, slots_and_stamp)) (Spans-two 2 2 EvictM u16_at (λ s. u16_at) Spans-u16 (λ s. Spans-u16)))
+    (Spans-if n (tag == 3) (λ bytes. add_b_at wide longest bytes) _ (Spans-then 2 (p + (v + 10)) u16_at (λ slot left. four_at (AddB slot) (path_at wide) (value_at longest) stamp_at u16_at left) Spans-u16 (λ slot. Spans-four_found p v 8 2 (AddB slot) (path_at wide) (value_at longest) stamp_at u16_at path value Spans-stamp Spans-u16))
+    (Spans-if n (tag == 4) (λ bytes. evict_b_at bytes) _ (Spans-wider 10 n _ (omega (arith, slots_and_stamp)) (Spans-two 2 8 EvictB u16_at (λ s. stamp_at) Spans-u16 (λ s. Spans-stamp)))
+    (Spans-if n (tag == 5) (λ bytes. evict_bm_at bytes) _ (Spans-wider 12 n _ slots_and_stamp (Spans-three 2 2 8 EvictBM u16_at (λ s. u16_at) stamp_at Spans-u16 (λ s. Spans-u16) Spans-stamp))
+    (Spans-if n (tag == 6) (λ bytes. get_at longest bytes) _ (Spans-wider (2 + longest_blob_text longest) n _ slot_and_blob (Spans-two 2 (longest_blob_text longest) Get u16_at (λ s. blob_at longest) Spans-u16 (λ s. blob)))
+    (Spans-if n (tag == 7) (λ bytes. put_at longest bytes) _ (Spans-wider (2 + longest_blob_text longest) n _ slot_and_blob (Spans-two 2 (longest_blob_text longest) Put u16_at (λ s. blob_at longest) Spans-u16 (λ s. blob)))
+    (Spans-if n (tag == 8) (λ bytes. Ok (NextEpoch, bytes)) _ (Spans-done n NextEpoch)
+    (Spans-if n (tag == 9) (λ bytes. absent_at wide bytes) (λ bytes. Err Malformed) (Spans-wider (p + 2) n _ (omega (arith, value_and_slot)) (Spans-two p 2 Absent (path_at wide) (λ p. u16_at) path (λ p. Spans-u16))) (Spans-malformed n)))))))))
 
-pub Spans-slot_command : Spans 106 (λ bytes. slot_command_at false 64 bytes)
+pub Spans-slot_command : (wide : Bool) (longest : ℕ) → Spans (longest_slot_command_text wide longest) (λ bytes. slot_command_at wide longest bytes)
 unfolding slot_command_at
-Spans-slot_command = Spans-tagged 105 (λ tag left. slot_command_behind false 64 tag left) Spans-behind
+Spans-slot_command wide longest =
+    let p = longest_path_text wide in
+    let v = longest_value_text wide longest in
+    Spans-wider (1 + (2 + (p + (v + 10)))) (longest_slot_command_text wide longest) _ (omega arith)
+    (Spans-tagged (2 + (p + (v + 10))) (λ tag left. slot_command_behind wide longest tag left) (Spans-behind wide longest))
 
--- A command that was read takes at most 106 bytes.
-pub slot_command_taken : (bytes : List ℕ) (command : SlotCommand) (rest : List ℕ) → slot_command_at false 64 bytes ≡ Ok (command, rest) → length bytes ≤ 106 + length rest
-slot_command_taken bytes command rest e = Spans-slot_command.takes bytes command rest e
+-- A command that was read takes no more bytes.
+pub slot_command_taken : (wide : Bool) (longest : ℕ) (bytes : List ℕ) (command : SlotCommand) (rest : List ℕ) → slot_command_at wide longest bytes ≡ Ok (command, rest) → length bytes ≤ longest_slot_command_text wide longest + length rest
+slot_command_taken wide longest bytes command rest e = (Spans-slot_command wide longest).takes bytes command rest e
 
--- A command that is cut has fewer than 106 bytes.
-pub slot_command_cut : (bytes : List ℕ) → slot_command_at false 64 bytes ≡ Err Truncated → length bytes < 106
-slot_command_cut bytes e = Spans-slot_command.cut bytes e
+-- A command that is cut has fewer.
+pub slot_command_cut : (wide : Bool) (longest : ℕ) (bytes : List ℕ) → slot_command_at wide longest bytes ≡ Err Truncated → length bytes < longest_slot_command_text wide longest
+slot_command_cut wide longest bytes e = (Spans-slot_command wide longest).cut bytes e
 
--- A command's text has at most 106 bytes.
-pub slot_text_within : (command : SlotCommand) → IsSlotCommandIn false command → IsSlotCommand 64 command → length (slot_command_text command) ≤ 106
-slot_text_within command inside is = text_spans (slot_grammar false 64) (slot_exact false 64) 106 Spans-slot_command command (inside, is)
+-- A command's text has no more.
+pub slot_text_within : (wide : Bool) (longest : ℕ) (command : SlotCommand) → IsSlotCommandIn wide command → IsSlotCommand longest command → length (slot_command_text command) ≤ longest_slot_command_text wide longest
+slot_text_within wide longest command inside is =
+    text_spans (slot_grammar wide longest) (slot_exact wide longest) (longest_slot_command_text wide longest) (Spans-slot_command wide longest) command (inside, is)

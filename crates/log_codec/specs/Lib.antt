@@ -2,6 +2,7 @@
 pub mod Command
 pub mod SlotCommand
 pub mod LogCommand
+pub mod Lengths
 pub mod Decoded
 pub mod Log
 pub use Rattle.record_text.specs

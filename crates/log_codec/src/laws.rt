@@ -1,18 +1,23 @@
 //! What follows from the definitions of commands and logs of any version. These functions do nothing: their
 //! contracts are the laws.
-ghost use Rattle.std.specs.Prelude.{◌≡◌, ℕ, ◌+◌, ◌<◌, ◌≤◌, true, List, [], ◌∷◌, ◌++◌, length, map, Ok, Err, All};
+ghost use Rattle.std.specs.Prelude.{◌≡◌, ℕ, ◌+◌, ◌<◌, ◌≤◌, true, List, [], ◌∷◌, ◌++◌, length, map, Ok, Err, All, if◌then◌else◌};
 ghost use Rattle.std.specs.List.{AllByRecursion};
 ghost use Rattle.lamport_clocks.specs.declared.header.Header.{Header};
 ghost use Rattle.record_text.specs.declared.reader.TextFault.{TextFault};
 ghost use Rattle.record_text.specs.declared.reader.TextFault.TheVariants.{Malformed, Truncated};
 ghost use Rattle.record_text.specs.Fields.{KeepsOn};
+ghost use Rattle.lamport_clocks.specs.Header.{IsHeader};
+ghost use Rattle.record_text.specs.Tree.{wide_of};
 ghost use Rattle.record_text.specs.Format.{LogFormat, format_of};
 ghost use Rattle.log_codec.specs.declared.command.Command.{Command};
 ghost use Rattle.log_codec.specs.declared.log_command.LogCommand.{LogCommand};
 ghost use Rattle.log_codec.specs.declared.log_command.LogCommand.TheVariants.{ByPath};
 ghost use Rattle.log_codec.specs.Command.{IsPathCommand, IsCommandIn};
 ghost use Rattle.log_codec.specs.LogCommand.{command_text, command_at, IsCommand};
+ghost use Rattle.log_codec.specs.Lengths.{longest_command_text};
 ghost use Rattle.log_codec.specs.Log.{Log, whole, faulty, log_text, path_log_text, with_command, with_commands, log_up_to, read_log, IsLeft, IsLog};
+
+use crate::reading::LONGEST_COMMAND_TEXT;
 
 /// A command is read of its text, whatever follows; and what is read as a command is its text.
 pub fn commands_are_read_as_spelled()
@@ -42,15 +47,26 @@ pub fn commands_keep_on()
         → command_at format front ≡ Err Truncated }
 {}
 
-/// A command takes at most 106 bytes, and where it is cut there are fewer.
-pub fn commands_have_at_most_106_bytes()
-    ensures text { (header : Header) (command : LogCommand) → IsCommand (format_of header) command
-        → length (command_text command) ≤ 106 }
-    ensures taken { (header : Header) (bytes : List ℕ) (command : LogCommand) (rest : List ℕ)
-        → command_at (format_of header) bytes ≡ Ok (command, rest)
-        → length bytes ≤ 106 + length rest }
-    ensures cut { (header : Header) (bytes : List ℕ) → command_at (format_of header) bytes ≡ Err Truncated
-        → length bytes < 106 }
+/// A command takes no more bytes than the longest of its format, and where it is cut there are fewer.
+pub fn commands_have_a_longest_text()
+    ensures text { (format : LogFormat) (command : LogCommand) → IsCommand format command
+        → length (command_text command) ≤ longest_command_text format }
+    ensures taken { (format : LogFormat) (bytes : List ℕ) (command : LogCommand) (rest : List ℕ)
+        → command_at format bytes ≡ Ok (command, rest)
+        → length bytes ≤ longest_command_text format + length rest }
+    ensures cut { (format : LogFormat) (bytes : List ℕ) → command_at format bytes ≡ Err Truncated
+        → length bytes < longest_command_text format }
+
+    // How many these are in a bundle of each version.
+    ensures first { (header : Header) → IsHeader header → header.version ≡ 1
+        → longest_command_text (format_of header) ≡ 104 }
+    ensures second { (header : Header) → IsHeader header → header.version ≡ 2
+        → longest_command_text (format_of header) ≡ 106 }
+    ensures third { (header : Header) → header.version ≡ 3
+        → longest_command_text (format_of header) ≡ (if wide_of header then 287 else 279) }
+
+    // Whatever a header says, they fit in the room that is kept for a command.
+    ensures most { (header : Header) → longest_command_text (format_of header) ≤ LONGEST_COMMAND_TEXT }
 {}
 
 /// A log goes on command by command, up to its end or the first fault.

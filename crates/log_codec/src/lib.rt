@@ -2,7 +2,7 @@
 //! commands, joined.
 //!
 //! A command names paths, as `Command` of `command.rt` in a bundle of version 1, or slots of a verifier's cache, as
-//! `SlotCommand` of `slot_command.rt` in one of version 2; `LogCommand` is one of either. What bytes mean as a command is
+//! `SlotCommand` of `slot_command.rt` in those of later versions; `LogCommand` is one of either. What bytes mean as a command is
 //! defined in `specs/Command.antt` and `specs/SlotCommand.antt`, and for the format of a log in `specs/LogCommand.antt`;
 //! what they mean as a log in `specs/Log.antt`. The crate stands on `record_text` for paths, values and stamps, on
 //! `tree_keys` and on `lamport_clocks`. Begin with `read_command`, then `write_path_command` and `write_slot_command`.
@@ -26,20 +26,20 @@ mod slot_writing;
 pub use command::Command;
 pub use decoded::Decoded;
 pub use laws::{
-    commands_are_read_as_spelled, commands_have_at_most_106_bytes, commands_keep_on,
+    commands_are_read_as_spelled, commands_have_a_longest_text, commands_keep_on,
     logs_are_read_as_spelled, logs_by_path_are_read, logs_go_by_commands, logs_keep_on,
     no_command_begins_another,
 };
 pub use log_command::LogCommand;
 pub use path_laws::{
     no_path_command_begins_another, path_commands_are_read_as_spelled,
-    path_commands_have_at_most_104_bytes, path_commands_keep_on,
+    path_commands_have_a_longest_text, path_commands_keep_on,
 };
 pub use path_writing::{LONGEST_PATH_COMMAND_TEXT, write_path_command};
 pub use reading::{LONGEST_COMMAND_TEXT, read_command, read_command_into};
 pub use slot_command::SlotCommand;
 pub use slot_laws::{
     no_slot_command_begins_another, slot_commands_are_read_as_spelled,
-    slot_commands_have_at_most_106_bytes, slot_commands_keep_on,
+    slot_commands_have_a_longest_text, slot_commands_keep_on,
 };
 pub use slot_writing::{LONGEST_SLOT_COMMAND_TEXT, write_slot_command};

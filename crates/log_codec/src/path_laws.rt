@@ -1,12 +1,11 @@
 //! What follows from the definition of commands that name paths. These functions do nothing: their contracts are
 //! the laws.
-ghost use Rattle.std.specs.Prelude.{◌≡◌, ℕ, ◌+◌, ◌<◌, ◌≤◌, Bool, List, ◌∷◌, ◌++◌, length, Ok, Err, All};
+ghost use Rattle.std.specs.Prelude.{◌≡◌, ℕ, ◌+◌, ◌<◌, ◌≤◌, Bool, true, false, List, ◌∷◌, ◌++◌, length, Ok, Err, All};
 ghost use Rattle.record_text.specs.declared.reader.TextFault.TheVariants.{Truncated};
 ghost use Rattle.record_text.specs.Fields.{KeepsOn};
-ghost use Rattle.lamport_clocks.specs.declared.header.Header.{Header};
-ghost use Rattle.record_text.specs.Tree.{wide_of};
-ghost use Rattle.record_text.specs.Longest.{longest_of};
+ghost use Rattle.record_text.specs.Longest.{longest_blob};
 ghost use Rattle.log_codec.specs.declared.command.Command.{Command};
+ghost use Rattle.log_codec.specs.Lengths.{longest_path_command_text};
 ghost use Rattle.log_codec.specs.Command.{path_command_text, path_command_at, IsPathCommand, IsCommandIn};
 
 /// A command is read of its text, whatever follows; and what is read as a command is its text.
@@ -38,13 +37,16 @@ pub fn path_commands_keep_on()
         → path_command_at wide longest front ≡ Err Truncated }
 {}
 
-/// A command of a bundle takes at most 104 bytes, and where it is cut there are fewer.
-pub fn path_commands_have_at_most_104_bytes()
-    ensures text { (header : Header) (command : Command) → IsCommandIn (wide_of header) command → IsPathCommand (longest_of header) command
-        → length (path_command_text command) ≤ 104 }
-    ensures taken { (header : Header) (bytes : List ℕ) (command : Command) (rest : List ℕ)
-        → path_command_at (wide_of header) (longest_of header) bytes ≡ Ok (command, rest)
-        → length bytes ≤ 104 + length rest }
-    ensures cut { (header : Header) (bytes : List ℕ) → path_command_at (wide_of header) (longest_of header) bytes ≡ Err Truncated
-        → length bytes < 104 }
+/// A command takes no more bytes than the longest of its tree, and where it is cut there are fewer.
+pub fn path_commands_have_a_longest_text()
+    ensures text { (wide : Bool) (longest : ℕ) (command : Command) → IsCommandIn wide command → IsPathCommand longest command
+        → length (path_command_text command) ≤ longest_path_command_text wide longest }
+    ensures taken { (wide : Bool) (longest : ℕ) (bytes : List ℕ) (command : Command) (rest : List ℕ)
+        → path_command_at wide longest bytes ≡ Ok (command, rest)
+        → length bytes ≤ longest_path_command_text wide longest + length rest }
+    ensures cut { (wide : Bool) (longest : ℕ) (bytes : List ℕ) → path_command_at wide longest bytes ≡ Err Truncated
+        → length bytes < longest_path_command_text wide longest }
+
+    // How many these are.
+    ensures counts { (longest_path_command_text false 64 ≡ 104) × (longest_path_command_text true longest_blob ≡ 292) }
 {}

@@ -1,12 +1,11 @@
 //! What follows from the definition of commands that name slots, as of those that name paths. These functions
 //! do nothing: their contracts are the laws.
-ghost use Rattle.std.specs.Prelude.{◌≡◌, ℕ, ◌+◌, ◌<◌, ◌≤◌, Bool, List, ◌∷◌, ◌++◌, length, Ok, Err, All};
+ghost use Rattle.std.specs.Prelude.{◌≡◌, ℕ, ◌+◌, ◌<◌, ◌≤◌, Bool, true, false, List, ◌∷◌, ◌++◌, length, Ok, Err, All};
 ghost use Rattle.record_text.specs.declared.reader.TextFault.TheVariants.{Truncated};
 ghost use Rattle.record_text.specs.Fields.{KeepsOn};
-ghost use Rattle.lamport_clocks.specs.declared.header.Header.{Header};
-ghost use Rattle.record_text.specs.Tree.{wide_of};
-ghost use Rattle.record_text.specs.Longest.{longest_of};
+ghost use Rattle.record_text.specs.Longest.{longest_blob};
 ghost use Rattle.log_codec.specs.declared.slot_command.SlotCommand.{SlotCommand};
+ghost use Rattle.log_codec.specs.Lengths.{longest_slot_command_text};
 ghost use Rattle.log_codec.specs.SlotCommand.{slot_command_text, slot_command_at, IsSlotCommand, IsSlotCommandIn};
 
 /// A command is read of its text, whatever follows; and what is read as a command is its text.
@@ -38,13 +37,17 @@ pub fn slot_commands_keep_on()
         → slot_command_at wide longest front ≡ Err Truncated }
 {}
 
-/// A command of a bundle takes at most 106 bytes, and where it is cut there are fewer.
-pub fn slot_commands_have_at_most_106_bytes()
-    ensures text { (header : Header) (command : SlotCommand) → IsSlotCommandIn (wide_of header) command → IsSlotCommand (longest_of header) command
-        → length (slot_command_text command) ≤ 106 }
-    ensures taken { (header : Header) (bytes : List ℕ) (command : SlotCommand) (rest : List ℕ)
-        → slot_command_at (wide_of header) (longest_of header) bytes ≡ Ok (command, rest)
-        → length bytes ≤ 106 + length rest }
-    ensures cut { (header : Header) (bytes : List ℕ) → slot_command_at (wide_of header) (longest_of header) bytes ≡ Err Truncated
-        → length bytes < 106 }
+/// A command takes no more bytes than the longest of its tree, and where it is cut there are fewer.
+pub fn slot_commands_have_a_longest_text()
+    ensures text { (wide : Bool) (longest : ℕ) (command : SlotCommand) → IsSlotCommandIn wide command → IsSlotCommand longest command
+        → length (slot_command_text command) ≤ longest_slot_command_text wide longest }
+    ensures taken { (wide : Bool) (longest : ℕ) (bytes : List ℕ) (command : SlotCommand) (rest : List ℕ)
+        → slot_command_at wide longest bytes ≡ Ok (command, rest)
+        → length bytes ≤ longest_slot_command_text wide longest + length rest }
+    ensures cut { (wide : Bool) (longest : ℕ) (bytes : List ℕ) → slot_command_at wide longest bytes ≡ Err Truncated
+        → length bytes < longest_slot_command_text wide longest }
+
+    // How many these are.
+    ensures counts { (longest_slot_command_text false 64 ≡ 106) × (longest_slot_command_text false longest_blob ≡ 279)
+        × (longest_slot_command_text true longest_blob ≡ 287) }
 {}

@@ -1,9 +1,9 @@
 -- The shard of a stage that mirrors, with a hot record that comes back: the way to it, and that the stage mirrors again.
-use Rattle.std.proofs.Common.{◌≡◌, ◌^◌, ◌<◌, ◌≢◌, ◌⊎◌, ℕ, Bool, true, false, List, Option, Some, is_some, IsSome, if◌then◌else◌, refl, sym, ◌∙◌, ap, subst, inl, inr}
+use Rattle.std.proofs.Common.{◌≡◌, ◌≢◌, ◌⊎◌, ℕ, Bool, true, false, List, Option, Some, is_some, IsSome, if◌then◌else◌, refl, sym, ◌∙◌, ap, subst, inl, inr}
 use Rattle.std.specs.List.{IsAmong, AllPairs}
 use Rattle.std.proofs.lemmas.Bool.{false≢true}
 use Rattle.std.proofs.lemmas.Option.{same_Some}
-use Rattle.tree_keys.specs.Path.{side, is_prefix, same_path, key_bits, IsData, key_path}
+use Rattle.tree_keys.specs.Path.{side, is_prefix, same_path, IsData}
 use Rattle.tree_keys.proofs.PathLaws.{same_path-self, same_path-true, same_path-apart}
 use Rattle.tree_keys.proofs.SideLaws.{is_prefix-self}
 use Rattle.tree_keys.proofs.TreeLaws.{key_path-data}
@@ -18,8 +18,8 @@ use Rattle.host_shard.specs.declared.content.HotRecord.{HotRecord}
 use Rattle.host_shard.specs.Tree.{Tree, with_record, IsPointerIn, IsReached, at_start, by_pointer}
 use Rattle.host_shard.specs.Chain.{closed_records}
 use Rattle.host_shard.specs.Shard.{Shard, tree_of}
-use Rattle.host_shard.specs.Content.{vacant}
-use Rattle.host_shard.specs.Mirrors.{IsShard, IsKeyOf, IsKept, IsWaiting}
+use Rattle.host_shard.specs.Content.{hot_path, vacant}
+use Rattle.host_shard.specs.Mirrors.{HasKeyOf, IsShard, IsKeyOf, IsKept, IsWaiting}
 use Rattle.host_laws.proofs.DepthLaws.{whole_none}
 use Rattle.host_laws.proofs.FrontierLaws.{frontier_there}
 use Rattle.protection_moves.specs.Stage.{Stage, hot_records, hot_paths, replaced}
@@ -27,6 +27,7 @@ use Rattle.protection_moves.specs.Transfer.{demotes}
 use Rattle.protection_moves.specs.Descent.{with_back, AreLinks, done_by}
 use Rattle.move_laws.specs.Stages.{StageMirrors, IsOne}
 use Rattle.move_laws.proofs.PlaceLaws.{all-replaced, one_of-all, one-replaced}
+use Rattle.move_laws.proofs.KeyLaws.{has_key-on, same_path_of}
 use Rattle.move_laws.proofs.VacantLaws.{among-member, member-among, one-member, member-one, pairs-different, different-pairs, one-vacant, different-vacant}
 use Rattle.move_laws.proofs.WayLemmas.{AreOf, IsStep, IsWay, IsLast, side_in, reached_below, way_of}
 use Rattle.move_laws.proofs.ClosedLemmas.{Ground, kinds_behind, reached_behind, kept_behind, waits_behind, hot_waits_behind}
@@ -49,18 +50,18 @@ module _ (longest : ℕ) (digest : Digest) (stage : Stage) (mirrors : StageMirro
     tree = tree_of (with_back stage.shard found)
 
     abbrev key : List Bool
-    key = key_path false found.key
+    key = hot_path found
 
     abbrev value : Value
     value = values.Blob found.value
 
-    whole : IsData (key_path false found.key)
-    whole = key_path-data false found.key
+    whole : IsData (hot_path found)
+    whole = key_path-data found.wide found.key
 
-    among : IsAmong (hot_paths stage.places) (key_path false found.key)
-    among = member-among _ _ (one-member (λ r. key_path false r.key) (hot_records stage.places) found is_hot)
+    among : IsAmong (hot_paths stage.places) (hot_path found)
+    among = member-among _ _ (one-member hot_path (hot_records stage.places) found is_hot)
 
-    pub end : tree (key_path false found.key) ≡ Some (values.Blob found.value)
+    pub end : tree (hot_path found) ≡ Some (values.Blob found.value)
     end =
         ap (λ (b : Bool). if b then Some shard.value else with_record shard.records key value key)
         (same_path-apart key shard.frontier (λ same. apart_from longest digest stage mirrors key whole (sym same)))
@@ -105,10 +106,10 @@ module _ (longest : ℕ) (digest : Digest) (stage : Stage) (mirrors : StageMirro
     reached_on k (by_pointer path on pointer reached is) = by_pointer path on pointer (reached_on path reached) (pointer_on path on pointer is)
 
     -- the pointer that waits for it
-    waiting : IsWaiting old (key_path false found.key)
+    waiting : IsWaiting old (hot_path found)
     waiting = mirrors.shard.mirrors.hot_waits key among
 
-    last : IsLast tree (key_path false found.key) true waiting.at waiting.on waiting.pointer
+    last : IsLast tree (hot_path found) true waiting.at waiting.on waiting.pointer
     last = record { is = pointer_on waiting.at waiting.on waiting.pointer waiting.is; to = waiting.to; deferred = waiting.deferred }
 
     reached_last : IsReached tree shard.frontier waiting.at
@@ -118,7 +119,7 @@ module _ (longest : ℕ) (digest : Digest) (stage : Stage) (mirrors : StageMirro
     pub back_shard : IsShard longest (with_back stage.shard found)
     back_shard = record { below_root = mirrors.shard.fits.below_root; no_data = mirrors.shard.fits.no_data; kinds = kinds }
 
-    pub back_own : IsKeyOf (with_back stage.shard found) (key_path false found.key)
+    pub back_own : IsKeyOf (with_back stage.shard found) (hot_path found)
     back_own = record {
       whole = whole;
       below = ap (λ (o : Option Bool). is_some o)
@@ -128,7 +129,7 @@ module _ (longest : ℕ) (digest : Digest) (stage : Stage) (mirrors : StageMirro
     }
 
     module _ (links : List Link) (chain : AreLinks stage.shard (demotes found) links) where
-      pub back_way : IsWay longest tree (key_path false found.key) true shard.frontier shard.value links
+      pub back_way : IsWay longest tree (hot_path found) true shard.frontier shard.value links
       back_way =
           way_of longest tree key true kinds value end waiting.at waiting.on waiting.pointer last shard.frontier shard.value links
           (frontier_there (with_back stage.shard found)) reached_last chain
@@ -141,7 +142,7 @@ module _ (longest : ℕ) (digest : Digest) (stage : Stage) (mirrors : StageMirro
               subst (IsReached tree shard.frontier) (waiting.to ∙ sym (same_path-true k key same)) (by_pointer waiting.at waiting.on waiting.pointer reached_last last.is)
           go false apart = reached_on k (mirrors.shard.mirrors.reached k (subst (λ (o : Option Value). IsSome o) (others k apart) there))
 
-      back_ground : Ground longest digest tree back.records shard.frontier shard.value (key_path false found.key) false (values.Blob found.value) links
+      back_ground : Ground longest digest tree back.records shard.frontier shard.value (hot_path found) false (values.Blob found.value) links
       back_ground = record {
         kinds = kinds;
         whole = whole;
@@ -153,8 +154,8 @@ module _ (longest : ℕ) (digest : Digest) (stage : Stage) (mirrors : StageMirro
       }
 
       -- each pointer above is kept
-      pub back_sound : (at : List Bool) (v : Value) (link : Link) → same_path link.path (key_path false found.key) ≡ false
-          → (step : IsStep longest tree (key_path false found.key) true at v link)
+      pub back_sound : (at : List Bool) (v : Value) (link : Link) → same_path link.path (hot_path found) ≡ false
+          → (step : IsStep longest tree (hot_path found) true at v link)
           → (step.pointer.deferred ≡ false) × (step.pointer.digest ≡ digest (value_text link.taken))
       back_sound at v link apart step =
           let kept = above_is_kept longest digest stage mirrors key at step.on step.pointer whole (pointer_back at step.on step.pointer step.is_in)
@@ -186,34 +187,38 @@ module _ (longest : ℕ) (digest : Digest) (stage : Stage) (mirrors : StageMirro
           };
         };
         blobs = all-replaced (λ r. IsBlob longest r.value) (λ r. IsBlob longest r.value) found.key vacant stage.places (λ r is other. is) tt mirrors.blobs;
-        in_range = all-replaced (λ r. r.key < 2 ^ key_bits false) (λ r. r.key < 2 ^ key_bits false) found.key vacant stage.places (λ r is other. is) tt mirrors.in_range;
+        in_range = all-replaced (HasKeyOf stage.shard) (HasKeyOf (done_by digest worker stage (demotes found) links).shard) found.key vacant stage.places
+            (λ r is other. has_key-on stage.shard (done_by digest worker stage (demotes found) links).shard refl r is) tt mirrors.in_range;
       }
         where
           new_hot : List (List Bool)
           new_hot = hot_paths (replaced found.key vacant stage.places)
 
-          different : (r : HotRecord) → IsOne (hot_records stage.places) r → (r.key ≡ found.key → ⊥) → key_path false r.key ≢ key
-          different r is other same = go (different_one (λ one. key_path false one.key) (hot_records stage.places) r found (pairs-different _ mirrors.shard.mirrors.hot_keys.once) is is_hot)
+          has_key : (r : HotRecord) → IsOne (hot_records stage.places) r → HasKeyOf stage.shard r
+          has_key r is = one_of-all (HasKeyOf stage.shard) (hot_records stage.places) r mirrors.in_range is
+
+          different : (r : HotRecord) → IsOne (hot_records stage.places) r → (r.key ≡ found.key → ⊥) → hot_path r ≢ key
+          different r is other same = go (different_one hot_path (hot_records stage.places) r found (pairs-different _ mirrors.shard.mirrors.hot_keys.once) is is_hot)
             where
-              go : (r ≡ found) ⊎ (key_path false r.key ≢ key) → ⊥
+              go : (r ≡ found) ⊎ (hot_path r ≢ key) → ⊥
               go (inl one) = other (ap (λ (h : HotRecord). h.key) one)
               go (inr apart) = apart same
 
           was_hot : (path : List Bool) → IsAmong new_hot path → IsAmong (hot_paths stage.places) path × (path ≢ key)
           was_hot path is =
-              let new = member-one (λ r. key_path false r.key) (hot_records (replaced found.key vacant stage.places)) path (among-member _ path is) in
+              let new = member-one hot_path (hot_records (replaced found.key vacant stage.places)) path (among-member _ path is) in
               let was = one-vacant found.key stage.places new.0 new.1 in (
                 subst (IsAmong (hot_paths stage.places)) (sym new.2)
-                    (member-among _ _ (one-member (λ r. key_path false r.key) (hot_records stage.places) new.0 was.0)),
+                    (member-among _ _ (one-member hot_path (hot_records stage.places) new.0 was.0)),
                 (λ same. different new.0 was.0 was.1 (sym new.2 ∙ same)),
               )
 
           is_still : (path : List Bool) → IsAmong (hot_paths stage.places) path → path ≢ key → IsAmong new_hot path
           is_still path is other =
-              let was = member-one (λ r. key_path false r.key) (hot_records stage.places) path (among-member _ path is) in
+              let was = member-one hot_path (hot_records stage.places) path (among-member _ path is) in
               subst (IsAmong new_hot) (sym was.2)
-              (member-among _ _ (one-member (λ r. key_path false r.key) (hot_records (replaced found.key vacant stage.places)) was.0
-              (one-replaced found.key vacant stage.places was.0 was.1 (λ same. other (was.2 ∙ ap (key_path false) same)))))
+              (member-among _ _ (one-member hot_path (hot_records (replaced found.key vacant stage.places)) was.0
+              (one-replaced found.key vacant stage.places was.0 was.1 (λ same. other (was.2 ∙ same_path_of stage.shard was.0 found (has_key was.0 was.1) (has_key found is_hot) same)))))
 
           kept_before : (at : List Bool) (on : Bool) (pointer : Pointer) → IsPointerIn tree at on pointer → pointer.deferred ≡ false → is_prefix pointer.path key ≡ false
               → IsKept digest tree pointer
@@ -240,7 +245,7 @@ module _ (longest : ℕ) (digest : Digest) (stage : Stage) (mirrors : StageMirro
               (record { at = before.at; on = before.on; pointer = before.pointer; is = pointer_on before.at before.on before.pointer before.is; to = before.to; deferred = before.deferred })
 
           once : AllPairs (λ a b. a ≢ b) new_hot
-          once = different-pairs _ (different-vacant (key_path false) found.key stage.places (pairs-different _ mirrors.shard.mirrors.hot_keys.once))
+          once = different-pairs _ (different-vacant hot_path found.key stage.places (pairs-different _ mirrors.shard.mirrors.hot_keys.once))
 
           touched : (path : List Bool) → IsSome (shard.records path) → IsSome (closed_records digest false back.records links value path)
           touched path there = closed_some digest false back.records links value path (go (same_path path key))

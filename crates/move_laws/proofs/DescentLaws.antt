@@ -1,10 +1,10 @@
 -- Transfers that are done one after another: what holds of each holds of all of them.
-use Rattle.std.proofs.Common.{◌≡◌, ◌≢◌, ℕ, ◌+◌, ◌<◌, ◌≤◌, Bool, false, List, [], ◌∷◌, ◌++◌, map, Option, Some, Ok, refl, sym, ◌∙◌, ap, subst, arith, if◌then◌else◌}
+use Rattle.std.proofs.Common.{◌≡◌, ◌≢◌, ℕ, ◌+◌, ◌<◌, ◌≤◌, Bool, List, [], ◌∷◌, ◌++◌, map, Option, Some, Ok, refl, sym, ◌∙◌, ap, subst, arith, if◌then◌else◌}
 use Rattle.std.specs.Prelude.{◌==◌}
 use Rattle.std.specs.List.{AllByRecursion, flat_map}
 use Rattle.std.proofs.Math.Nat.{le-max_left}
 use Rattle.std.proofs.lemmas.List.Concat.{flat_map-append}
-use Rattle.tree_keys.specs.Path.{key_bits, key_path, IsIn, IsBelow}
+use Rattle.tree_keys.specs.Path.{key_bits, tree_of, IsIn, IsBelow}
 use Rattle.lamport_clocks.specs.declared.stamp.Stamp.{Stamp}
 use Rattle.lamport_clocks.specs.Reading.{Reading}
 use Rattle.record_text.specs.declared.element.Element.{Element}
@@ -19,6 +19,7 @@ use Rattle.soundness.specs.Typed.{IsPathTypedIn}
 use Rattle.host_shard.specs.declared.link.Link.{Link}
 use Rattle.host_shard.specs.declared.content.HotRecord.{HotRecord}
 use Rattle.host_shard.specs.Content.{vacant}
+use Rattle.host_shard.specs.Shard.{key_path_in, wide_in}
 use Rattle.host_laws.specs.Served.{IsBare}
 use Rattle.host_laws.specs.Running.{Told, Access, run, added_told, evicted_told, accesses_told}
 use Rattle.host_laws.specs.Carried.{carried}
@@ -32,6 +33,7 @@ use Rattle.move_laws.specs.Stages.{StageMirrors, IsTakable}
 use Rattle.move_laws.specs.Transfers.{IsFit, TransferRuns, IsBetween, adds_by, evicts_by, holding}
 use Rattle.move_laws.proofs.CountLaws.{weight, count-append}
 use Rattle.move_laws.proofs.PlaceLaws.{AreApart, all-map, replaced-weight}
+use Rattle.move_laws.proofs.KeyLaws.{paths_in}
 use Rattle.move_laws.proofs.VacantLaws.{AreDifferent, pairs-different, all-images, placed-weight}
 use Rattle.move_laws.proofs.TransferLaws.{transfer_runs, transfer_mirrors, transfer_typed}
 
@@ -168,13 +170,14 @@ module _ (longest : ℕ) (digest : Digest) (worker : ℕ) where
 
   -- no key is hot twice
   pub apart_by_number : (stage : Stage) → StageMirrors longest digest stage → AreApart (hot_records stage.places)
-  apart_by_number stage mirrors = go (hot_records stage.places) (pairs-different (hot_paths stage.places) mirrors.shard.mirrors.hot_keys.once)
+  apart_by_number stage mirrors = go (hot_records stage.places)
+      (subst AreDifferent (paths_in stage.shard (hot_records stage.places) mirrors.in_range) (pairs-different (hot_paths stage.places) mirrors.shard.mirrors.hot_keys.once))
     where
-      go : (records : List HotRecord) → AreDifferent (map (λ (r : HotRecord). key_path false r.key) records) → AreApart records
+      go : (records : List HotRecord) → AreDifferent (map (λ (r : HotRecord). key_path_in stage.shard r.key) records) → AreApart records
       go [] different = tt
       go (found ∷ records) different = (
-        all-map (λ r. key_path false found.key ≢ key_path false r.key) (λ r. r.key ≡ found.key → ⊥) (λ r apart same. apart (ap (key_path false) (sym same))) records
-            (all-images (λ (r : HotRecord). key_path false r.key) (λ y. key_path false found.key ≢ y) records different.0),
+        all-map (λ r. key_path_in stage.shard found.key ≢ key_path_in stage.shard r.key) (λ r. r.key ≡ found.key → ⊥) (λ r apart same. apart (ap (key_path_in stage.shard) (sym same))) records
+            (all-images (λ (r : HotRecord). key_path_in stage.shard r.key) (λ y. key_path_in stage.shard found.key ≢ y) records different.0),
         go records different.1,
       )
 
@@ -221,8 +224,7 @@ all-widen : (P Q : Stamp → Type 0) → ((at : Stamp) → P at → Q at) → (t
 all-widen P Q step [] all = tt
 all-widen P Q step (one ∷ told) all = (step one.0 all.0, all-widen P Q step told all.1)
 
-module _ (rules : Rules) (entries : List Entry) (room : ℕ) (digests : GivesDigests rules.scheme.digest) (bare : IsBare entries)
-    (roomy : key_bits false < room) where
+module _ (rules : Rules) (entries : List Entry) (room : ℕ) (digests : GivesDigests rules.scheme.digest) (bare : IsBare entries) where
   abbrev longest : ℕ
   longest = rules.scheme.format.longest
 
@@ -278,12 +280,12 @@ module _ (rules : Rules) (entries : List Entry) (room : ℕ) (digests : GivesDig
   first-part P (x ∷ xs) ys all = let rest = first-part P xs ys all.1 in ((all.0, rest.0), rest.1)
 
   -- Descents run one after another, where each can be done and the counters that they take don't pass the end.
-  pub descents_run : (stage : Stage) (descents : List Descent) → StageMirrors rules.scheme.format.longest rules.scheme.digest stage
+  pub descents_run : (stage : Stage) (descents : List Descent) → key_bits (wide_in stage.shard) < room → StageMirrors rules.scheme.format.longest rules.scheme.digest stage
       → AreFit rules.scheme.format.longest rules.scheme.digest rules.number stage descents → AreDescents rules.scheme.digest rules.number stage descents
       → AllByRecursion (IsTakable rules stage.clock) (adds_by_each rules.scheme.format.longest rules.scheme.digest rules.number descents)
       → (done_by_each rules.scheme.digest rules.number stage descents).clock.at.counter ≤ stage.clock.end
       → DescentsRun rules entries room stage descents
-  descents_run stage [] mirrors fit ways takable within = record {
+  descents_run stage [] roomy mirrors fit ways takable within = record {
     told = [];
     runs = run-none rules (holding entries room stage);
     added = refl;
@@ -294,17 +296,21 @@ module _ (rules : Rules) (entries : List Entry) (room : ℕ) (digests : GivesDig
     kept = λ path. (λ value is. is);
     own = λ path is. refl;
   }
-  descents_run stage (descent ∷ descents) mirrors fit ways takable within =
+  descents_run stage (descent ∷ descents) roomy mirrors fit ways takable within =
       both_run stage descent descents
       (transfer_runs rules entries room stage descent.transfer descent.links bare roomy mirrors fit.0
       (record { takable = parts.0; counters = omega (arith, within, each-up longest digest rules.number (after stage descent) descents, ap (λ (clock : Reading). clock.at.counter) same) }) ways.0)
-      (descents_run (after stage descent) descents (transfer_mirrors longest digest rules.number stage descent.transfer descent.links digests mirrors fit.0 ways.0) fit.1 ways.1
+      (descents_run (after stage descent) descents still_roomy (transfer_mirrors longest digest rules.number stage descent.transfer descent.links digests mirrors fit.0 ways.0) fit.1 ways.1
       (subst (λ (clock : Reading). AllByRecursion (IsTakable rules clock) (adds_by_each longest digest rules.number descents)) (sym same)
       (all-takable stage.clock descent.transfer (adds_by_each longest digest rules.number descents) parts.1))
       (omega (arith, within, ap (λ (clock : Reading). clock.end) same, by-end stage.clock descent.transfer)))
     where
       same : (after stage descent).clock ≡ clock_by stage.clock descent.transfer
       same = clock-done rules.scheme.digest rules.number stage descent.transfer descent.links
+
+      still_roomy : key_bits (wide_in (after stage descent).shard) < room
+      still_roomy = subst (λ (frontier : List Bool). key_bits (tree_of frontier) < room)
+          (sym (frontier-done longest digest rules.number stage descent.transfer descent.links)) roomy
 
       parts : AllByRecursion (IsTakable rules stage.clock) (adds_by descent.transfer)
           × AllByRecursion (IsTakable rules stage.clock) (adds_by_each rules.scheme.format.longest rules.scheme.digest rules.number descents)

@@ -14,8 +14,9 @@ use Rattle.merkle_records.specs.Merkle.{Digest}
 use Rattle.host_shard.specs.declared.link.Link.{Link}
 use Rattle.host_shard.specs.declared.content.HotRecord.{HotRecord}
 use Rattle.host_shard.specs.Chain.{last_value, closed_records}
-use Rattle.host_shard.specs.Content.{Content, hot, vacant}
-use Rattle.host_shard.specs.Mirrors.{IsKeyOf, Mirrors}
+use Rattle.host_shard.specs.Content.{hot_path, Content, hot, vacant}
+use Rattle.host_shard.specs.Mirrors.{HasKeyOf, IsKeyOf, Mirrors}
+use Rattle.host_shard.specs.Shard.{key_path_in, wide_in}
 use Rattle.host_plan.specs.Moments.{renewing}
 use Rattle.protection_moves.specs.Stage.{Stage, hot_records, hot_paths, vacancies, replaced, placed, is_touched, touched_in, untouched_in}
 use Rattle.protection_moves.specs.Renewing.{renewed_record, renewed_places}
@@ -27,6 +28,7 @@ use Rattle.protection_moves.proofs.TouchedLaws.{all-filter, all-order, touched_a
 use Rattle.move_laws.specs.Stages.{StageMirrors, IsOne}
 use Rattle.move_laws.specs.Transfers.{IsFit}
 use Rattle.move_laws.proofs.PlaceLaws.{HasNone, AreApart, all-are, all-map, all-replaced, one_of-all}
+use Rattle.move_laws.proofs.KeyLaws.{paths_in, have_keys-on}
 use Rattle.move_laws.proofs.VacantLaws.{AreDifferent, among-member, member-among, one-member, member-one, all-images, images-all, one-vacant, vacancies-vacant, vacancies-hot, all-placed, placed-one, vacancies-placed}
 use Rattle.move_laws.proofs.AboveLaws.{closed_some}
 use Rattle.move_laws.proofs.RenewLaws.{IsFresh, still_there, renewed-keys, renewed-all, renewed-fresh}
@@ -37,18 +39,18 @@ use Rattle.move_laws.proofs.DescentLaws.{AreFit, apart_by_number}
 
 -- a key of the shard that isn't hot and has a record, whose touches are forgotten
 pub record IsReady (stage : Stage) (key : ℕ) : Type 0 where
-  pub in_range : key < 2 ^ key_bits false
-  pub own : IsKeyOf stage.shard (key_path false key)
-  pub cold : IsAmong (hot_paths stage.places) (key_path false key) → ⊥
-  pub there : IsSome (stage.shard.records (key_path false key))
-  pub untouched : stage.shard.touches (key_path false key) ≡ 0
+  pub in_range : key < 2 ^ key_bits (wide_in stage.shard)
+  pub own : IsKeyOf stage.shard (key_path_in stage.shard key)
+  pub cold : IsAmong (hot_paths stage.places) (key_path_in stage.shard key) → ⊥
+  pub there : IsSome (stage.shard.records (key_path_in stage.shard key))
+  pub untouched : stage.shard.touches (key_path_in stage.shard key) ≡ 0
 
 -- These records are to come back, and these keys are to become hot.
 pub record AreReady (longest : ℕ) (worker epoch : ℕ) (stage : Stage) (back : List HotRecord) (keys : List ℕ) : Type 0 where
   pub there : AllByRecursion (IsOne (hot_records stage.places)) back
   pub apart : AreApart back
   pub ready : AllByRecursion (IsReady stage) keys
-  pub different : AreDifferent (map (key_path false) keys)
+  pub different : AreDifferent (map (key_path_in stage.shard) keys)
   pub room : length keys ≤ vacancies stage.places + length back
   pub of_epoch : stage.clock.at.epoch ≡ epoch
   pub fresh : AllByRecursion (λ found. IsFresh worker epoch found ⊎ IsOne back found) (hot_records stage.places)
@@ -76,12 +78,12 @@ module _ (longest : ℕ) (digest : Digest) (worker epoch : ℕ) where
 
       was_hot : (path : List Bool) → IsAmong (hot_paths (replaced found.key vacant stage.places)) path → IsAmong (hot_paths stage.places) path
       was_hot path is =
-          let new = member-one (λ r. key_path false r.key) (hot_records (replaced found.key vacant stage.places)) path (among-member _ path is) in
+          let new = member-one hot_path (hot_records (replaced found.key vacant stage.places)) path (among-member _ path is) in
           subst (IsAmong (hot_paths stage.places)) (sym new.2)
-          (member-among _ _ (one-member (λ r. key_path false r.key) (hot_records stage.places) new.0 (one-vacant found.key stage.places new.0 new.1).0))
+          (member-among _ _ (one-member hot_path (hot_records stage.places) new.0 (one-vacant found.key stage.places new.0 new.1).0))
 
       base_some : (path : List Bool) → IsSome (stage.shard.records path) → IsSome ((with_back stage.shard found).records path)
-      base_some path there = go (same_path path (key_path false found.key))
+      base_some path there = go (same_path path (hot_path found))
         where
           go : (b : Bool) → IsSome (if b then Some (values.Blob found.value) else stage.shard.records path)
           go true = refl
@@ -91,9 +93,9 @@ module _ (longest : ℕ) (digest : Digest) (worker epoch : ℕ) where
       one key is = record {
         in_range = is.in_range;
         own = record { whole = is.own.whole; below = is.own.below };
-        cold = λ among. is.cold (was_hot (key_path false key) among);
-        there = closed_some digest false (with_back stage.shard found).records links (values.Blob found.value) (key_path false key)
-            (base_some (key_path false key) is.there);
+        cold = λ among. is.cold (was_hot (key_path_in stage.shard key) among);
+        there = closed_some digest false (with_back stage.shard found).records links (values.Blob found.value) (key_path_in stage.shard key)
+            (base_some (key_path_in stage.shard key) is.there);
         untouched = is.untouched;
       }
 
@@ -108,7 +110,7 @@ module _ (longest : ℕ) (digest : Digest) (worker epoch : ℕ) where
   ready-hot stage key links keys are = record {
     there = tt;
     apart = tt;
-    ready = all-ready keys are.ready.1 (all-images (key_path false) (λ path. key_path false key ≢ path) keys are.different.0);
+    ready = all-ready keys are.ready.1 (all-images (key_path_in stage.shard) (λ path. key_path_in stage.shard key ≢ path) keys are.different.0);
     different = are.different.1;
     room = omega (arith, are.room, vacancies-placed new stage.places (omega (arith, are.room)));
     of_epoch = are.of_epoch;
@@ -118,37 +120,37 @@ module _ (longest : ℕ) (digest : Digest) (worker epoch : ℕ) where
       new : HotRecord
       new = promoted_record worker stage key links
 
-      was_hot : (path : List Bool) → path ≢ key_path false key → IsAmong (hot_paths (placed new stage.places)) path → IsAmong (hot_paths stage.places) path
+      was_hot : (path : List Bool) → path ≢ key_path_in stage.shard key → IsAmong (hot_paths (placed new stage.places)) path → IsAmong (hot_paths stage.places) path
       was_hot path other is = go now.0 now.1 now.2
         where
-          now : (r : HotRecord) × (IsOne (hot_records (placed new stage.places)) r) × (path ≡ key_path false r.key)
-          now = member-one (λ r. key_path false r.key) (hot_records (placed new stage.places)) path (among-member _ path is)
+          now : (r : HotRecord) × (IsOne (hot_records (placed new stage.places)) r) × (path ≡ hot_path r)
+          now = member-one hot_path (hot_records (placed new stage.places)) path (among-member _ path is)
 
-          go : (r : HotRecord) → IsOne (hot_records (placed new stage.places)) r → path ≡ key_path false r.key → IsAmong (hot_paths stage.places) path
+          go : (r : HotRecord) → IsOne (hot_records (placed new stage.places)) r → path ≡ hot_path r → IsAmong (hot_paths stage.places) path
           go r one same = further (placed-one new stage.places r one)
             where
               further : (r ≡ new) ⊎ IsOne (hot_records stage.places) r → IsAmong (hot_paths stage.places) path
-              further (inl it) = absurd (other (same ∙ ap (λ (h : HotRecord). key_path false h.key) it))
+              further (inl it) = absurd (other (same ∙ ap hot_path it))
               further (inr was) =
                   subst (IsAmong (hot_paths stage.places)) (sym same)
-                  (member-among _ _ (one-member (λ h. key_path false h.key) (hot_records stage.places) r was))
+                  (member-among _ _ (one-member hot_path (hot_records stage.places) r was))
 
-      one : (more : ℕ) → IsReady stage more → key_path false key ≢ key_path false more
+      one : (more : ℕ) → IsReady stage more → key_path_in stage.shard key ≢ key_path_in stage.shard more
           → IsReady (done_by digest worker stage (promotes key) links) more
       one more is apart = record {
         in_range = is.in_range;
         own = record { whole = is.own.whole; below = is.own.below };
-        cold = λ among. is.cold (was_hot (key_path false more) (λ same. apart (sym same)) among);
-        there = subst (λ (b : Bool). IsSome (if b then None else closed (key_path false more)))
-            (sym (same_path-apart (key_path false more) (key_path false key) (λ same. apart (sym same))))
-            (closed_some digest true stage.shard.records links (last_value stage.shard.value links) (key_path false more) is.there);
+        cold = λ among. is.cold (was_hot (key_path_in stage.shard more) (λ same. apart (sym same)) among);
+        there = subst (λ (b : Bool). IsSome (if b then None else closed (key_path_in stage.shard more)))
+            (sym (same_path-apart (key_path_in stage.shard more) (key_path_in stage.shard key) (λ same. apart (sym same))))
+            (closed_some digest true stage.shard.records links (last_value stage.shard.value links) (key_path_in stage.shard more) is.there);
         untouched = is.untouched;
       }
         where
           closed : List Bool → Option Value
           closed = closed_records digest true stage.shard.records links (last_value stage.shard.value links)
 
-      all-ready : (more : List ℕ) → AllByRecursion (IsReady stage) more → AllByRecursion (λ other. key_path false key ≢ key_path false other) more
+      all-ready : (more : List ℕ) → AllByRecursion (IsReady stage) more → AllByRecursion (λ other. key_path_in stage.shard key ≢ key_path_in stage.shard other) more
           → AllByRecursion (IsReady (done_by digest worker stage (promotes key) links)) more
       all-ready [] all apart = tt
       all-ready (other ∷ more) all apart = (one other all.0 apart.0, all-ready more all.1 apart.1)
@@ -293,30 +295,45 @@ length-front (suc n) (x ∷ xs) = omega (arith, length-front n xs)
 
 -- keys that rise have paths that are apart
 module _ where
-  different_keys : (keys : List ℕ) → AllPairs (λ a b. a < b) keys → AllByRecursion (λ key. key < 2 ^ key_bits false) keys
-      → AreDifferent (map (key_path false) keys)
-  different_keys [] rising small = tt
-  different_keys (key ∷ keys) rising small = (
-    images-all (key_path false) (λ path. key_path false key ≢ path) keys (go keys small.1 (λ i d within. rising zero (suc i) d (omega arith) (omega (arith, within)))),
-    different_keys keys (λ i j d before within. rising (suc i) (suc j) d (omega (arith, before)) (omega (arith, within))) small.1,
+  different_keys : (wide : Bool) (keys : List ℕ) → AllPairs (λ a b. a < b) keys → AllByRecursion (λ key. key < 2 ^ key_bits wide) keys
+      → AreDifferent (map (key_path wide) keys)
+  different_keys wide [] rising small = tt
+  different_keys wide (key ∷ keys) rising small = (
+    images-all (key_path wide) (λ path. key_path wide key ≢ path) keys (go keys small.1 (λ i d within. rising zero (suc i) d (omega arith) (omega (arith, within)))),
+    different_keys wide keys (λ i j d before within. rising (suc i) (suc j) d (omega (arith, before)) (omega (arith, within))) small.1,
   )
     where
-      go : (more : List ℕ) → AllByRecursion (λ other. other < 2 ^ key_bits false) more → ((i d : ℕ) → i < length more → key < get_or more i d)
-          → AllByRecursion (λ other. key_path false key ≢ key_path false other) more
+      go : (more : List ℕ) → AllByRecursion (λ other. other < 2 ^ key_bits wide) more → ((i d : ℕ) → i < length more → key < get_or more i d)
+          → AllByRecursion (λ other. key_path wide key ≢ key_path wide other) more
       go [] all above = tt
       go (other ∷ more) all above = (
-        (λ same. let less : key < other = above zero 0 (omega arith) in omega (arith, less, key_path-injective false key other small.0 all.0 same)),
+        (λ same. let less : key < other = above zero 0 (omega arith) in omega (arith, less, key_path-injective wide key other small.0 all.0 same)),
         go more all.1 (λ i d within. above (suc i) d (omega (arith, within))),
       )
 
-  different-front : (n : ℕ) (keys : List ℕ) → AreDifferent (map (key_path false) keys) → AreDifferent (map (key_path false) (take n keys))
-  different-front zero keys different = tt
-  different-front (suc n) [] different = tt
-  different-front (suc n) (key ∷ keys) different = (
-    images-all (key_path false) (λ path. key_path false key ≢ path) (take n keys)
-        (all-take (λ other. key_path false key ≢ key_path false other) n keys (all-images (key_path false) (λ path. key_path false key ≢ path) keys different.0)),
-    different-front n keys different.1,
+  different-front : (wide : Bool) (n : ℕ) (keys : List ℕ) → AreDifferent (map (key_path wide) keys) → AreDifferent (map (key_path wide) (take n keys))
+  different-front wide zero keys different = tt
+  different-front wide (suc n) [] different = tt
+  different-front wide (suc n) (key ∷ keys) different = (
+    images-all (key_path wide) (λ path. key_path wide key ≢ path) (take n keys)
+        (all-take (λ other. key_path wide key ≢ key_path wide other) n keys (all-images (key_path wide) (λ path. key_path wide key ≢ path) keys different.0)),
+    different-front wide n keys different.1,
   )
+
+-- the hot keys are of the shard's tree once those that were touched are renewed
+begun_keys : (longest : ℕ) (digest : Digest) (worker : ℕ) (stage : Stage) → StageMirrors longest digest stage
+    → AllByRecursion (HasKeyOf stage.shard) (hot_records (begun worker stage).places)
+begun_keys longest digest worker stage mirrors =
+    renewed-all (HasKeyOf stage.shard) (λ number clock found has. record { tree = has.tree; range = has.range }) worker stage.clock stage.places (touched_in stage.places)
+    (touched_all (HasKeyOf stage.shard) stage.places mirrors.in_range) mirrors.in_range
+
+-- and the same as before
+begun_paths : (longest : ℕ) (digest : Digest) (worker : ℕ) (stage : Stage) → StageMirrors longest digest stage
+    → hot_paths (begun worker stage).places ≡ hot_paths stage.places
+begun_paths longest digest worker stage mirrors =
+    paths_in stage.shard (hot_records (begun worker stage).places) (begun_keys longest digest worker stage mirrors)
+    ∙ (renewed-keys (key_path_in stage.shard) worker stage.clock stage.places (touched_in stage.places)
+    ∙ sym (paths_in stage.shard (hot_records stage.places) mirrors.in_range))
 
 -- the transfers of a move are ready at its beginning
 pub begun-ready : (longest : ℕ) (digest : Digest) (worker : ℕ) (threshold : Option ℕ) (stage : Stage) (promotable : List ℕ)
@@ -328,8 +345,8 @@ begun-ready longest digest worker threshold stage promotable some mirrors apart 
       (touched_apart stage.places apart);
   apart = apart_untouched stage.places apart;
   ready = all-take (IsReady (begun worker stage)) most promotable (all-among (IsReady (begun worker stage)) promotable (λ key is. ready key ((are.promotable key).0 is)));
-  different = different-front most promotable (different_keys promotable are.rising
-      (all-among (λ key. key < 2 ^ key_bits false) promotable (λ key is. small threshold key ((are.promotable key).0 is))));
+  different = different-front (wide_in stage.shard) most promotable (different_keys (wide_in stage.shard) promotable are.rising
+      (all-among (λ key. key < 2 ^ key_bits (wide_in stage.shard)) promotable (λ key is. small threshold key ((are.promotable key).0 is))));
   room = omega (arith, length-front most promotable, renewed-vacancies worker stage.clock stage.places touched);
   of_epoch = renewing_each-epoch stage.clock touched;
   fresh = renewed-fresh worker stage.clock stage.places touched back
@@ -347,9 +364,9 @@ begun-ready longest digest worker threshold stage promotable some mirrors apart 
     most = vacancies stage.places + length (untouched_in stage.places)
 
     same_hot : hot_paths (begun worker stage).places ≡ hot_paths stage.places
-    same_hot = renewed-keys (key_path false) worker stage.clock stage.places (touched_in stage.places)
+    same_hot = begun_paths longest digest worker stage mirrors
 
-    small : (least : Option ℕ) (key : ℕ) → IsPromotable stage least key → key < 2 ^ key_bits false
+    small : (least : Option ℕ) (key : ℕ) → IsPromotable stage least key → key < 2 ^ key_bits (wide_in stage.shard)
     small None key is = absurd is
     small (Some least) key is = is.in_range
 
@@ -361,8 +378,8 @@ begun-ready longest digest worker threshold stage promotable some mirrors apart 
         go (Some least) positive promotable' = record {
           in_range = promotable'.in_range;
           own = record { whole = promotable'.own.whole; below = promotable'.own.below };
-          cold = λ among. promotable'.cold (subst (λ (paths : List (List Bool)). IsAmong paths (key_path false key)) same_hot among);
-          there = mirrors.shard.mirrors.touched (key_path false key) (omega (arith, positive, promotable'.often));
+          cold = λ among. promotable'.cold (subst (λ (paths : List (List Bool)). IsAmong paths (key_path_in stage.shard key)) same_hot among);
+          there = mirrors.shard.mirrors.touched (key_path_in stage.shard key) (omega (arith, positive, promotable'.often));
           untouched = refl;
         }
 
@@ -373,7 +390,7 @@ pub begun_mirrors : (longest : ℕ) (digest : Digest) (worker : ℕ) (stage : St
 begun_mirrors longest digest worker stage mirrors = record {
   shard = record {
     fits = record { below_root = mirrors.shard.fits.below_root; no_data = mirrors.shard.fits.no_data; kinds = mirrors.shard.fits.kinds };
-    mirrors = subst (Mirrors digest (begun worker stage).shard) (sym (renewed-keys (key_path false) worker stage.clock stage.places (touched_in stage.places)))
+    mirrors = subst (Mirrors digest (begun worker stage).shard) (sym (begun_paths longest digest worker stage mirrors))
         (record {
           kept = mirrors.shard.mirrors.kept;
           waits = mirrors.shard.mirrors.waits;
@@ -385,8 +402,7 @@ begun_mirrors longest digest worker stage mirrors = record {
   };
   blobs = renewed-all (λ found. IsBlob longest found.value) (λ number clock found is. is) worker stage.clock stage.places (touched_in stage.places)
       (touched_all (λ found. IsBlob longest found.value) stage.places mirrors.blobs) mirrors.blobs;
-  in_range = renewed-all (λ found. found.key < 2 ^ key_bits false) (λ number clock found is. is) worker stage.clock stage.places (touched_in stage.places)
-      (touched_all (λ found. found.key < 2 ^ key_bits false) stage.places mirrors.in_range) mirrors.in_range;
+  in_range = have_keys-on stage.shard (begun worker stage).shard refl (hot_records (begun worker stage).places) (begun_keys longest digest worker stage mirrors);
 }
 
 -- What is hot behind a move was handed out in it.

@@ -1,9 +1,9 @@
 -- A key of a stage that mirrors becomes hot: the way to its record, and that the stage mirrors again.
-use Rattle.std.proofs.Common.{◌≡◌, ◌≢◌, ◌⊎◌, ℕ, ◌^◌, ◌<◌, Bool, true, false, List, Option, Some, None, is_some, IsSome, if◌then◌else◌, refl, sym, ◌∙◌, ap, subst, inl, inr, arith}
+use Rattle.std.proofs.Common.{◌≡◌, ◌≢◌, ◌⊎◌, ℕ, ◌<◌, Bool, true, false, List, Option, Some, None, is_some, IsSome, if◌then◌else◌, refl, sym, ◌∙◌, ap, subst, inl, inr, arith}
 use Rattle.std.specs.List.{IsAmong, AllPairs}
 use Rattle.std.proofs.lemmas.Bool.{false≢true}
 use Rattle.std.proofs.lemmas.Option.{same_Some}
-use Rattle.tree_keys.specs.Path.{is_prefix, same_path, key_bits, IsData, key_path}
+use Rattle.tree_keys.specs.Path.{is_prefix, same_path, IsData}
 use Rattle.tree_keys.proofs.PathLaws.{same_path-self, same_path-true, same_path-apart}
 use Rattle.tree_keys.proofs.TreeLaws.{data-no_node}
 use Rattle.record_text.specs.declared.value.Pointer.{Pointer}
@@ -16,8 +16,9 @@ use Rattle.host_shard.specs.declared.link.Link.{Link}
 use Rattle.host_shard.specs.declared.content.HotRecord.{HotRecord}
 use Rattle.host_shard.specs.Tree.{Tree, IsPointerIn, IsReached}
 use Rattle.host_shard.specs.Chain.{last_value, closed_records}
-use Rattle.host_shard.specs.Shard.{Shard, tree_of}
-use Rattle.host_shard.specs.Mirrors.{IsKept, IsWaiting}
+use Rattle.host_shard.specs.Shard.{key_path_in, Shard, tree_of}
+use Rattle.host_shard.specs.Mirrors.{HasKeyOf, IsKept, IsWaiting}
+use Rattle.host_shard.specs.Content.{hot_path}
 use Rattle.host_laws.proofs.FrontierLaws.{frontier_there}
 use Rattle.protection_moves.specs.Stage.{Stage, hot_records, hot_paths, placed}
 use Rattle.protection_moves.specs.Transfer.{promotes}
@@ -25,6 +26,7 @@ use Rattle.protection_moves.specs.Descent.{data_of, AreLinks, promoted_record, s
 use Rattle.move_laws.specs.Stages.{StageMirrors, IsOne}
 use Rattle.move_laws.specs.Transfers.{IsPromotable}
 use Rattle.move_laws.proofs.PlaceLaws.{all-are, all-map}
+use Rattle.move_laws.proofs.KeyLaws.{have_keys-on}
 use Rattle.move_laws.proofs.VacantLaws.{among-member, member-among, one-member, member-one, pairs-different, different-pairs, one-placed, one-placed_other, all-placed, placed-one, different-placed}
 use Rattle.move_laws.proofs.WayLemmas.{IsStep, IsWay, last_pointer, way_of, way_end}
 use Rattle.move_laws.proofs.ClosedLemmas.{Ground, kinds_behind, reached_behind, kept_behind, waits_behind, hot_waits_behind, key_waits}
@@ -45,22 +47,22 @@ module _ (longest : ℕ) (digest : Digest) (stage : Stage) (mirrors : StageMirro
 
   module _ (key : ℕ) (can : IsPromotable stage key) (links : List Link) (chain : AreLinks stage.shard (promotes key) links) where
     abbrev path_to : List Bool
-    path_to = key_path false key
+    path_to = key_path_in stage.shard key
 
     abbrev last : Value
     last = last_value stage.shard.value links
 
-    apart : stage.shard.frontier ≢ key_path false key
+    apart : stage.shard.frontier ≢ key_path_in stage.shard key
     apart = apart_from longest digest stage mirrors path_to can.own.whole
 
     -- its record is the shard's
-    pub recorded : old (key_path false key) ≡ stage.shard.records (key_path false key)
+    pub recorded : old (key_path_in stage.shard key) ≡ stage.shard.records (key_path_in stage.shard key)
     recorded = ap (λ (b : Bool). if b then Some shard.value else shard.records path_to) (same_path-apart path_to shard.frontier (λ same. apart (sym same)))
 
-    there : (value : Value) × (old (key_path false key) ≡ Some value)
+    there : (value : Value) × (old (key_path_in stage.shard key) ≡ Some value)
     there = there_is (old path_to) (subst (λ (o : Option Value). IsSome o) (sym recorded) can.there)
 
-    cold_pointer : (at : List Bool) (on : Bool) (pointer : Pointer) → IsPointerIn old at on pointer → pointer.path ≡ key_path false key → pointer.deferred ≡ false
+    cold_pointer : (at : List Bool) (on : Bool) (pointer : Pointer) → IsPointerIn old at on pointer → pointer.path ≡ key_path_in stage.shard key → pointer.deferred ≡ false
     cold_pointer at on pointer is to = go pointer.deferred refl
       where
         go : (b : Bool) → pointer.deferred ≡ b → pointer.deferred ≡ false
@@ -68,19 +70,19 @@ module _ (longest : ℕ) (digest : Digest) (stage : Stage) (mirrors : StageMirro
         go true deferred = absurd (can.cold (subst (IsAmong (hot_paths stage.places)) to (mirrors.shard.mirrors.waits at on pointer is deferred)))
 
     from : (at : List Bool) × (on : Bool) × (pointer : Pointer) × (IsReached old stage.shard.frontier at) × (IsPointerIn old at on pointer)
-        × (pointer.path ≡ key_path false key)
+        × (pointer.path ≡ key_path_in stage.shard key)
     from = last_pointer old shard.frontier path_to (mirrors.shard.mirrors.reached path_to (ap (λ (o : Option Value). is_some o) there.1)) apart
 
-    pub hot_way : IsWay longest old (key_path false key) false stage.shard.frontier stage.shard.value links
+    pub hot_way : IsWay longest old (key_path_in stage.shard key) false stage.shard.frontier stage.shard.value links
     hot_way =
         way_of longest old path_to false mirrors.shard.fits.kinds there.0 there.1 from.0 from.1 from.2
         (record { is = from.4; to = from.5; deferred = cold_pointer from.0 from.1 from.2 from.4 from.5 })
         shard.frontier shard.value links (frontier_there stage.shard) from.3 chain
 
-    pub hot_end : old (key_path false key) ≡ Some (last_value stage.shard.value links)
+    pub hot_end : old (key_path_in stage.shard key) ≡ Some (last_value stage.shard.value links)
     hot_end = way_end longest old path_to false shard.frontier shard.value links (frontier_there stage.shard) hot_way
 
-    hot_ground : Ground longest digest old stage.shard.records stage.shard.frontier stage.shard.value (key_path false key) true (last_value stage.shard.value links) links
+    hot_ground : Ground longest digest old stage.shard.records stage.shard.frontier stage.shard.value (key_path_in stage.shard key) true (last_value stage.shard.value links) links
     hot_ground = record {
       kinds = mirrors.shard.fits.kinds;
       whole = can.own.whole;
@@ -92,7 +94,7 @@ module _ (longest : ℕ) (digest : Digest) (stage : Stage) (mirrors : StageMirro
     }
 
     -- each pointer on the way is kept
-    pub hot_sound : (at : List Bool) (v : Value) (link : Link) → (step : IsStep longest old (key_path false key) false at v link)
+    pub hot_sound : (at : List Bool) (v : Value) (link : Link) → (step : IsStep longest old (key_path_in stage.shard key) false at v link)
         → (step.pointer.deferred ≡ false) × (step.pointer.digest ≡ digest (value_text link.taken))
     hot_sound at v link step = (
       fresh,
@@ -144,7 +146,8 @@ module _ (longest : ℕ) (digest : Digest) (stage : Stage) (mirrors : StageMirro
         };
       };
       blobs = all-placed (λ r. IsBlob longest r.value) new stage.places last_blob mirrors.blobs;
-      in_range = all-placed (λ r. r.key < 2 ^ key_bits false) new stage.places can.in_range mirrors.in_range;
+      in_range = all-placed (HasKeyOf (done_by digest worker stage (promotes key) links).shard) new stage.places (record { tree = refl; range = can.in_range })
+          (have_keys-on stage.shard (done_by digest worker stage (promotes key) links).shard refl (hot_records stage.places) mirrors.in_range);
     }
       where
         new : HotRecord
@@ -154,29 +157,29 @@ module _ (longest : ℕ) (digest : Digest) (stage : Stage) (mirrors : StageMirro
         new_hot = hot_paths (placed new stage.places)
 
         own_hot : IsAmong new_hot path_to
-        own_hot = member-among _ _ (one-member (λ r. key_path false r.key) (hot_records (placed new stage.places)) new (one-placed new stage.places can.room))
+        own_hot = member-among _ _ (one-member hot_path (hot_records (placed new stage.places)) new (one-placed new stage.places can.room))
 
         still_hot : (path : List Bool) → IsAmong (hot_paths stage.places) path → IsAmong new_hot path
         still_hot path is =
-            let was = member-one (λ r. key_path false r.key) (hot_records stage.places) path (among-member _ path is) in
+            let was = member-one hot_path (hot_records stage.places) path (among-member _ path is) in
             subst (IsAmong new_hot) (sym was.2)
-            (member-among _ _ (one-member (λ r. key_path false r.key) (hot_records (placed new stage.places)) was.0 (one-placed_other new stage.places was.0 was.1)))
+            (member-among _ _ (one-member hot_path (hot_records (placed new stage.places)) was.0 (one-placed_other new stage.places was.0 was.1)))
 
         was_hot : (path : List Bool) → IsAmong new_hot path → (path ≡ path_to) ⊎ IsAmong (hot_paths stage.places) path
         was_hot path is = go now.0 now.1 now.2
           where
-            now : (r : HotRecord) × (IsOne (hot_records (placed new stage.places)) r) × (path ≡ key_path false r.key)
-            now = member-one (λ r. key_path false r.key) (hot_records (placed new stage.places)) path (among-member _ path is)
+            now : (r : HotRecord) × (IsOne (hot_records (placed new stage.places)) r) × (path ≡ hot_path r)
+            now = member-one hot_path (hot_records (placed new stage.places)) path (among-member _ path is)
 
-            go : (r : HotRecord) → IsOne (hot_records (placed new stage.places)) r → path ≡ key_path false r.key
+            go : (r : HotRecord) → IsOne (hot_records (placed new stage.places)) r → path ≡ hot_path r
                 → (path ≡ path_to) ⊎ IsAmong (hot_paths stage.places) path
             go r one same = further (placed-one new stage.places r one)
               where
                 further : (r ≡ new) ⊎ IsOne (hot_records stage.places) r → (path ≡ path_to) ⊎ IsAmong (hot_paths stage.places) path
-                further (inl it) = inl (same ∙ ap (λ (h : HotRecord). key_path false h.key) it)
+                further (inl it) = inl (same ∙ ap hot_path it)
                 further (inr was) =
                     inr (subst (IsAmong (hot_paths stage.places)) (sym same)
-                    (member-among _ _ (one-member (λ h. key_path false h.key) (hot_records stage.places) r was)))
+                    (member-among _ _ (one-member hot_path (hot_records stage.places) r was)))
 
         hot_waits_after : (path : List Bool) → IsAmong new_hot path
             → IsWaiting (tree_of (done_by digest worker stage (promotes key) links).shard) path
@@ -201,10 +204,10 @@ module _ (longest : ℕ) (digest : Digest) (stage : Stage) (mirrors : StageMirro
 
         once : AllPairs (λ a b. a ≢ b) new_hot
         once =
-            different-pairs _ (different-placed (key_path false) new stage.places
-            (all-map (IsOne (hot_records stage.places)) (λ r. key_path false r.key ≢ path_to)
+            different-pairs _ (different-placed hot_path new stage.places
+            (all-map (IsOne (hot_records stage.places)) (λ r. hot_path r ≢ path_to)
             (λ r is same. can.cold (subst (IsAmong (hot_paths stage.places)) same
-            (member-among _ _ (one-member (λ h. key_path false h.key) (hot_records stage.places) r is))))
+            (member-among _ _ (one-member hot_path (hot_records stage.places) r is))))
             (hot_records stage.places) (all-are (hot_records stage.places)))
             (pairs-different _ mirrors.shard.mirrors.hot_keys.once))
 

@@ -1,6 +1,7 @@
 -- How the laws of transfers and of moves are proved, in reading order.
 mod CountLaws
 pub mod PlaceLaws
+pub mod KeyLaws
 pub mod VacantLaws
 mod WayLemmas
 mod EndLemmas

@@ -5,7 +5,7 @@ use Rattle.std.specs.List.{AllByRecursion, flat_map}
 use Rattle.std.proofs.lemmas.Bool.{false≢true, cases_lt}
 use Rattle.std.proofs.lemmas.List.Concat.{flat_map-append}
 use Rattle.tree_keys.proofs.TreeLaws.{key_path-data}
-use Rattle.tree_keys.specs.Path.{key_path, IsIn}
+use Rattle.tree_keys.specs.Path.{IsIn}
 use Rattle.lamport_clocks.specs.declared.stamp.Stamp.{Stamp}
 use Rattle.lamport_clocks.specs.Reading.{Reading}
 use Rattle.lamport_clocks.specs.Stamp.{IsLater}
@@ -25,14 +25,14 @@ use Rattle.soundness.specs.Certified.{sealed_by}
 use Rattle.soundness.specs.Permutation.{count_of}
 use Rattle.soundness.specs.Typed.{IsPathTypedIn}
 use Rattle.host_shard.specs.declared.content.HotRecord.{HotRecord}
-use Rattle.host_shard.specs.Shard.{pending_shard}
-use Rattle.host_shard.specs.Content.{pending_hot}
+use Rattle.host_shard.specs.Shard.{wide_in, pending_shard}
+use Rattle.host_shard.specs.Content.{hot_path, pending_hot}
 use Rattle.host_shard.specs.Mirrors.{IsKeyOf}
 use Rattle.host_plan.specs.Moments.{taking, giving, renewing}
 use Rattle.host_laws.specs.Running.{Told, Access, run, added_told, evicted_told, accesses_told}
 use Rattle.host_laws.specs.Carried.{carried, carries}
 use Rattle.host_laws.specs.Served.{IsWithin}
-use Rattle.host_laws.proofs.DepthLaws.{not_root}
+use Rattle.host_laws.proofs.DepthLaws.{not_root, some_bits}
 use Rattle.host_laws.proofs.MomentLaws.{received-taken, sent-given}
 use Rattle.host_laws.proofs.BetweenLaws.{clear-bare, length-bare}
 use Rattle.host_laws.proofs.FrontierLaws.{key_in, frontier_there}
@@ -51,6 +51,7 @@ use Rattle.move_laws.specs.Stages.{StageMirrors, IsTakable, IsOne}
 use Rattle.move_laws.specs.Transfers.{IsBetween, adds_by, holding}
 use Rattle.move_laws.proofs.CountLaws.{weight, count-front, count-append}
 use Rattle.move_laws.proofs.PlaceLaws.{AreApart, all-are, all-map}
+use Rattle.move_laws.proofs.KeyLaws.{have_keys-on}
 use Rattle.move_laws.proofs.VacantLaws.{all-images, images-all}
 use Rattle.move_laws.proofs.AroundLaws.{told_in, told_out, takes_in, hands_out}
 use Rattle.move_laws.specs.Moved.{waiting_in, CanMove, IsOfClock, MoveRuns, at_stage}
@@ -93,7 +94,7 @@ handed_mirrors longest digest worker stage mirrors = record {
     };
   };
   blobs = mirrors.blobs;
-  in_range = mirrors.in_range;
+  in_range = have_keys-on stage.shard (handed_out worker stage).shard refl (hot_records stage.places) mirrors.in_range;
 }
 
 -- ---- what transfers add
@@ -146,18 +147,18 @@ module _ (longest : ℕ) (digest : Digest) (worker : ℕ) (threshold : Option �
     all_typed wide within =
         all-append (IsPathTypedIn wide longest) (renewing_commands old.clock (touched_in old.places)) _
         (renewing-typed old.clock (touched_in old.places) (touched_all (λ found. IsBlob longest found.value) old.places given.mirrors.blobs)
-        (touched_all (λ found. IsKeyOf old.shard (key_path false found.key)) old.places (hot_own longest digest old given.mirrors))) (
+        (touched_all (λ found. IsKeyOf old.shard (hot_path found)) old.places (hot_own longest digest old given.mirrors))) (
           (within, given.mirrors.shard.fits.kinds old.shard.frontier old.shard.value (frontier_there old.shard)),
           all-append (IsPathTypedIn wide longest) _ _ (descents_typed longest digest worker wide (begun worker old) descents within given.digests begins go_well.fit given.ways) ((within, tt), tt),
         )
       where
         renewing-typed : (clock : Reading) (records : List HotRecord) → AllByRecursion (λ found. IsBlob longest found.value) records
-            → AllByRecursion (λ found. IsKeyOf old.shard (key_path false found.key)) records
+            → AllByRecursion (λ found. IsKeyOf old.shard (hot_path found)) records
             → AllByRecursion (IsPathTypedIn wide longest) (renewing_commands clock records)
         renewing-typed clock [] blobs own = tt
         renewing-typed clock (found ∷ more) blobs own =
-            let below = key_in wide old.shard (key_path false found.key) own.0 within in
-            ((below, (key_path-data false found.key, blobs.0)), ((below, tt), renewing-typed (renewing clock found.stamp) more blobs.1 own.1))
+            let below = key_in wide old.shard (hot_path found) own.0 within in
+            ((below, (key_path-data found.wide found.key, blobs.0)), ((below, tt), renewing-typed (renewing clock found.stamp) more blobs.1 own.1))
 
 -- ---- it runs
 
@@ -221,7 +222,7 @@ module _ (rules : Rules) (cache : Held) (threshold : Option ℕ) (old : Stage) (
 
   done : DescentsRun rules cache.entries cache.room (begun rules.number old) descents
   done =
-      descents_run rules cache.entries cache.room given.digests can.bare can.room start descents (begins longest digest rules.number threshold old promotable descents given)
+      descents_run rules cache.entries cache.room given.digests can.bare start descents can.room (begins longest digest rules.number threshold old promotable descents given)
       (go_well longest digest rules.number threshold old promotable descents given).fit given.ways back_takable (omega (arith, within, ends))
 
   -- what is told of the move
@@ -337,11 +338,11 @@ module _ (rules : Rules) (cache : Held) (threshold : Option ℕ) (old : Stage) (
   is_run = record {
     told = told_all;
     runs = run-append rules (at_stage cache old) _ _ _ _ (record { cache = cache; clock = renewed }) (at_stage cache new)
-        (renewing-runs rules (at_stage cache old) touched can.bare (omega (arith, can.room))
+        (renewing-runs rules (at_stage cache old) touched can.bare (omega (arith, can.room, some_bits (wide_in old.shard)))
         (touched_all (λ found. IsTakable rules old.clock (pending_hot found)) old.places takable)
         (omega (arith, within, counters, ends, renewing-up renewed old.shard.stamp)))
         (run-append rules (record { cache = cache; clock = renewed }) _ _ _ _ (holding cache.entries cache.room start) (at_stage cache new)
-        (takes_in rules cache.entries cache.room renewed element apart clear (omega (arith, length-bare cache.entries can.bare, can.room))
+        (takes_in rules cache.entries cache.room renewed element apart clear (omega (arith, length-bare cache.entries can.bare, can.room, some_bits (wide_in old.shard)))
         can.takable.0.0 open_still (omega (arith, within, counters, ends)))
         (run-append rules (holding cache.entries cache.room start) _ _ _ _ (holding cache.entries cache.room last) (at_stage cache new) done.runs
         (subst (λ (k : List Bool). run rules (standing cache.entries cache.room last.clock (new_entry k last.shard.value B)) (EvictB old.shard.frontier (giving last.clock).at ∷ [])

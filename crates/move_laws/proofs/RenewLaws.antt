@@ -1,7 +1,6 @@
 -- Hot records that are taken in and handed out again, one after another.
-use Rattle.std.proofs.Common.{◌≡◌, ◌⊎◌, ℕ, ◌+◌, ◌<◌, ◌≤◌, Bool, true, false, List, [], ◌∷◌, ◌++◌, map, Ok, refl, ◌∙◌, ap, inl, inr, arith}
+use Rattle.std.proofs.Common.{◌≡◌, ◌⊎◌, ℕ, ◌+◌, ◌<◌, ◌≤◌, Bool, true, List, [], ◌∷◌, ◌++◌, map, Ok, refl, ◌∙◌, ap, inl, inr, arith}
 use Rattle.std.specs.List.{AllByRecursion, flat_map}
-use Rattle.tree_keys.specs.Path.{key_path}
 use Rattle.soundness.specs.Certified.{sealed_by}
 use Rattle.std.proofs.lemmas.Bool.{false≢true}
 use Rattle.lamport_clocks.specs.declared.stamp.Stamp.{Stamp}
@@ -13,7 +12,7 @@ use Rattle.verifier_commands.specs.declared.state.State.{State}
 use Rattle.verifier_commands.specs.Change.{Change}
 use Rattle.verifier_commands.specs.Transition.{Rules}
 use Rattle.host_shard.specs.declared.content.HotRecord.{HotRecord}
-use Rattle.host_shard.specs.Content.{Content, hot, pending_hot}
+use Rattle.host_shard.specs.Content.{hot_path, Content, hot, pending_hot}
 use Rattle.host_plan.specs.Moments.{renewing}
 use Rattle.host_laws.specs.Running.{Told, run, added_told, evicted_told, accesses_told}
 use Rattle.host_laws.specs.Carried.{carried, carries}
@@ -47,7 +46,7 @@ renewing-runs rules state [] bare room takable within = run-none rules state
 renewing-runs rules state (found ∷ more) bare room takable within =
     run-append rules state _ _ _ _ (record state { clock = renewing state.clock found.stamp }) _
     (between_runs rules state (pending_hot found) 0 [] [] (values.Blob found.value)
-    (not_root (key_path false found.key) (key_deep false found.key)) (clear-bare state.cache.entries (key_path false found.key) bare (key_deep false found.key))
+    (not_root (hot_path found) (key_deep found.wide found.key)) (clear-bare state.cache.entries (hot_path found) bare (key_deep found.wide found.key))
     (omega (arith, length-bare state.cache.entries bare)) takable.0.0 takable.0.1
     (omega (arith, renewing_each-up (renewing state.clock found.stamp) more))
     (works-none rules 0 _ B _ _))

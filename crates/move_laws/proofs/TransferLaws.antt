@@ -4,7 +4,7 @@ use Rattle.std.specs.List.{AllByRecursion}
 use Rattle.std.proofs.lemmas.Option.{same_Some}
 use Rattle.std.proofs.Math.Nat.{le-max_left}
 use Rattle.std.specs.Prelude.{◌==◌}
-use Rattle.tree_keys.specs.Path.{key_bits, key_path, side, same_path, IsIn, IsBelow}
+use Rattle.tree_keys.specs.Path.{key_bits, side, same_path, IsIn, IsBelow}
 use Rattle.tree_keys.proofs.PathLaws.{same_path-apart}
 use Rattle.tree_keys.proofs.TreeLaws.{in-below, key_path-data}
 use Rattle.verifier_commands.proofs.BelowLaws.{below_apart}
@@ -24,20 +24,19 @@ use Rattle.host_shard.specs.declared.link.Link.{Link}
 use Rattle.host_shard.specs.declared.content.HotRecord.{HotRecord}
 use Rattle.host_shard.specs.Tree.{Tree}
 use Rattle.host_shard.specs.Chain.{last_value}
-use Rattle.host_shard.specs.Shard.{Shard, tree_of}
-use Rattle.host_shard.specs.Content.{pending_hot}
-use Rattle.host_shard.specs.Mirrors.{IsShard, IsKeyOf}
+use Rattle.host_shard.specs.Shard.{key_path_in, wide_in, Shard, tree_of}
+use Rattle.host_shard.specs.Content.{hot_path, pending_hot}
+use Rattle.host_shard.specs.Mirrors.{HasKeyOf, IsShard, IsKeyOf}
 use Rattle.host_plan.specs.Moments.{taking, giving}
 use Rattle.host_laws.specs.Served.{IsBare}
 use Rattle.host_laws.proofs.DepthLaws.{depth_in, some_path}
-use Rattle.host_laws.proofs.FrontierLaws.{frontier_in}
 use Rattle.host_laws.proofs.BetweenLaws.{clear-bare, length-bare}
 use Rattle.host_laws.proofs.ToldLaws.{all-append}
 use Rattle.protection_moves.specs.Stage.{Stage, hot_records}
 use Rattle.protection_moves.specs.Transfer.{Transfer, demotes, promotes}
 use Rattle.protection_moves.specs.Descent.{with_back, AreLinks, visit_but_last, come_back, become_hot, commands_by, done_by}
 use Rattle.move_laws.specs.Stages.{StageMirrors, IsOne}
-use Rattle.move_laws.proofs.PlaceLaws.{all-are, all-map}
+use Rattle.move_laws.proofs.PlaceLaws.{all-are, all-map, one_of-all}
 use Rattle.move_laws.specs.Transfers.{IsPromotable, IsFit, CanDo, TransferRuns}
 use Rattle.move_laws.proofs.WayLemmas.{IsStep, IsWay, way_length}
 use Rattle.move_laws.proofs.AlongLemmas.{Along, IsOnward, along, back_ends, hot_ends}
@@ -72,9 +71,9 @@ shard_for stage (demotes found) = with_back stage.shard found
 shard_for stage (promotes key) = stage.shard
 
 -- and the key to which they do
-abbrev pub key_for : Transfer → List Bool
-key_for (demotes found) = key_path false found.key
-key_for (promotes key) = key_path false key
+abbrev pub key_for : Stage → Transfer → List Bool
+key_for stage (demotes found) = hot_path found
+key_for stage (promotes key) = key_path_in stage.shard key
 
 -- That is a shard, and the key is one of it.
 pub transfer_shard : (longest : ℕ) (digest : Digest) (stage : Stage) (transfer : Transfer) → StageMirrors longest digest stage → IsFit stage transfer
@@ -83,15 +82,15 @@ transfer_shard longest digest stage (demotes found) mirrors fit = back_shard lon
 transfer_shard longest digest stage (promotes key) mirrors fit = mirrors.shard.fits
 
 pub transfer_own : (longest : ℕ) (digest : Digest) (stage : Stage) (transfer : Transfer) → StageMirrors longest digest stage → IsFit stage transfer
-    → IsKeyOf (shard_for stage transfer) (key_for transfer)
+    → IsKeyOf (shard_for stage transfer) (key_for stage transfer)
 transfer_own longest digest stage (demotes found) mirrors fit = back_own longest digest stage mirrors found fit
 transfer_own longest digest stage (promotes key) mirrors fit = fit.own
 
 -- each hot key is one of the shard
 pub hot_own : (longest : ℕ) (digest : Digest) (stage : Stage) → StageMirrors longest digest stage
-    → AllByRecursion (λ found. IsKeyOf stage.shard (key_path false found.key)) (hot_records stage.places)
+    → AllByRecursion (λ found. IsKeyOf stage.shard (hot_path found)) (hot_records stage.places)
 hot_own longest digest stage mirrors =
-    all-map (IsOne (hot_records stage.places)) (λ found. IsKeyOf stage.shard (key_path false found.key))
+    all-map (IsOne (hot_records stage.places)) (λ found. IsKeyOf stage.shard (hot_path found))
     (λ found is. let own = back_own longest digest stage mirrors found is in record { whole = own.whole; below = own.below })
     (hot_records stage.places) (all-are (hot_records stage.places))
 
@@ -114,38 +113,30 @@ pub transfer_typed : (wide : Bool) (longest : ℕ) (digest : Digest) (stage : St
     → IsIn wide stage.shard.frontier → StageMirrors longest digest stage → IsFit stage transfer → AreLinks stage.shard transfer links
     → AllByRecursion (IsPathTypedIn wide longest) (commands_by stage transfer links)
 transfer_typed wide longest digest stage (demotes found) links within mirrors fit chain =
-    along_typed wide longest (tree_of (with_back stage.shard found)) (key_path false found.key) true (come_back (pending_hot found))
+    along_typed wide longest (tree_of (with_back stage.shard found)) (hot_path found) true (come_back (pending_hot found))
     (λ at value link above step is_key.
     let below = in-below wide at link.path step.on above step.below in
-    ((subst (IsIn wide) is_key below, (key_path-data false found.key, blob longest digest stage mirrors found fit)), (((below, above), tt), tt)))
+    ((subst (IsIn wide) is_key below, (key_path-data found.wide found.key, blob longest digest stage mirrors found fit)), (((below, above), tt), tt)))
     stage.shard.frontier stage.shard.value links within (back_way longest digest stage mirrors found fit links chain)
 transfer_typed wide longest digest stage (promotes key) links within mirrors fit chain =
-    along_typed wide longest (tree_of stage.shard) (key_path false key) false (become_hot (giving stage.clock).at)
+    along_typed wide longest (tree_of stage.shard) (key_path_in stage.shard key) false (become_hot (giving stage.clock).at)
     (λ at value link above step is_key.
     let below = in-below wide at link.path step.on above step.below in
     (((below, above), subst (IsOf longest link.path) (sym step.as_it_is) step.kind), (((below, above), tt), tt)))
     stage.shard.frontier stage.shard.value links within (hot_way longest digest stage mirrors key fit links chain)
 
--- the frontier is of the tree of the transfer's key
-pub transfer_in : (longest : ℕ) (digest : Digest) (stage : Stage) (transfer : Transfer) → StageMirrors longest digest stage → IsFit stage transfer
-    → IsIn false stage.shard.frontier
-transfer_in longest digest stage (demotes found) mirrors fit =
-    frontier_in false longest (with_back stage.shard found) (key_path false found.key) (back_shard longest digest stage mirrors found fit)
-    (back_own longest digest stage mirrors found fit) refl
-transfer_in longest digest stage (promotes key) mirrors fit = frontier_in false longest stage.shard (key_path false key) mirrors.shard.fits fit.own refl
-
 -- ---- it runs
 
 runs_back : (rules : Rules) (entries : List Entry) (room : ℕ) (stage : Stage) (found : HotRecord) (links : List Link)
-    → IsBare entries → key_bits false < room → StageMirrors rules.scheme.format.longest rules.scheme.digest stage
+    → IsBare entries → key_bits (wide_in stage.shard) < room → StageMirrors rules.scheme.format.longest rules.scheme.digest stage
     → IsOne (hot_records stage.places) found → CanDo rules stage (demotes found) → AreLinks stage.shard (demotes found) links
     → TransferRuns rules entries room stage (demotes found) links
 runs_back rules entries room stage found [] bare roomy mirrors is_hot can chain =
-    absurd (apart_from rules.scheme.format.longest rules.scheme.digest stage mirrors (key_path false found.key) (key_path-data false found.key) chain)
+    absurd (apart_from rules.scheme.format.longest rules.scheme.digest stage mirrors (hot_path found) (key_path-data found.wide found.key) chain)
 runs_back rules entries room stage found (link ∷ more) bare roomy mirrors is_hot can chain = record {
   told = way.told;
   runs = way.works entries room (clear-bare entries shard.frontier bare mirrors.shard.fits.below_root)
-      (omega (arith, length-bare entries bare, few, depth_in shard.frontier mirrors.shard.fits.below_root, mirrors.shard.fits.below_root, key_path-data false found.key, roomy));
+      (omega (arith, length-bare entries bare, few, depth_in shard.frontier mirrors.shard.fits.below_root, mirrors.shard.fits.below_root, key_path-data found.wide found.key, ap (λ (wide : Bool). key_bits wide) has.tree, roomy));
   added = way.added;
   evicted = way.evicted;
   no_access = way.no_access;
@@ -162,7 +153,10 @@ runs_back rules entries room stage found (link ∷ more) bare roomy mirrors is_h
     shard = stage.shard
 
     key : List Bool
-    key = key_path false found.key
+    key = hot_path found
+
+    has : HasKeyOf stage.shard found
+    has = one_of-all (HasKeyOf stage.shard) (hot_records stage.places) found mirrors.in_range is_hot
 
     tree : Tree
     tree = tree_of (with_back stage.shard found)
@@ -196,15 +190,15 @@ runs_back rules entries room stage found (link ∷ more) bare roomy mirrors is_h
         shard.frontier B shard.value link more (some_path shard.frontier mirrors.shard.fits.below_root) based is_way
 
 runs_hot : (rules : Rules) (entries : List Entry) (room : ℕ) (stage : Stage) (key : ℕ) (links : List Link)
-    → IsBare entries → key_bits false < room → StageMirrors rules.scheme.format.longest rules.scheme.digest stage
+    → IsBare entries → key_bits (wide_in stage.shard) < room → StageMirrors rules.scheme.format.longest rules.scheme.digest stage
     → IsPromotable stage key → CanDo rules stage (promotes key) → AreLinks stage.shard (promotes key) links
     → TransferRuns rules entries room stage (promotes key) links
 runs_hot rules entries room stage key [] bare roomy mirrors fit can chain =
-    absurd (apart_from rules.scheme.format.longest rules.scheme.digest stage mirrors (key_path false key) fit.own.whole chain)
+    absurd (apart_from rules.scheme.format.longest rules.scheme.digest stage mirrors (key_path_in stage.shard key) fit.own.whole chain)
 runs_hot rules entries room stage key (link ∷ more) bare roomy mirrors fit can chain = record {
   told = way.told;
   runs = way.works entries room (clear-bare entries shard.frontier bare mirrors.shard.fits.below_root)
-      (omega (arith, length-bare entries bare, few, depth_in shard.frontier mirrors.shard.fits.below_root, mirrors.shard.fits.below_root, key_path-data false key, roomy));
+      (omega (arith, length-bare entries bare, few, depth_in shard.frontier mirrors.shard.fits.below_root, mirrors.shard.fits.below_root, key_path-data (wide_in stage.shard) key, roomy));
   added = way.added;
   evicted = way.evicted
       ∙ ap (λ (v : Value). record { path = path; value = v; stamp = (giving stage.clock).at; verifier = rules.number } ∷ [])
@@ -223,7 +217,7 @@ runs_hot rules entries room stage key (link ∷ more) bare roomy mirrors fit can
     shard = stage.shard
 
     path : List Bool
-    path = key_path false key
+    path = key_path_in stage.shard key
 
     tree : Tree
     tree = tree_of stage.shard
@@ -263,7 +257,7 @@ runs_hot rules entries room stage key (link ∷ more) bare roomy mirrors fit can
 
 -- A transfer runs behind the frontier of its shard.
 pub transfer_runs : (rules : Rules) (entries : List Entry) (room : ℕ) (stage : Stage) (transfer : Transfer) (links : List Link)
-    → IsBare entries → key_bits false < room → StageMirrors rules.scheme.format.longest rules.scheme.digest stage
+    → IsBare entries → key_bits (wide_in stage.shard) < room → StageMirrors rules.scheme.format.longest rules.scheme.digest stage
     → IsFit stage transfer → CanDo rules stage transfer → AreLinks stage.shard transfer links
     → TransferRuns rules entries room stage transfer links
 transfer_runs rules entries room stage (demotes found) links bare roomy mirrors fit can chain = runs_back rules entries room stage found links bare roomy mirrors fit can chain

@@ -91,21 +91,21 @@ one-vacant key places found is =
     (all-replaced (IsOne (hot_records places)) (λ r. IsOne (hot_records places) r × (r.key ≡ key → ⊥)) key vacant places
     (λ r there other. (there, other)) tt (all-are (hot_records places))) is
 
-pub different-vacant : {A : Type 0} (of : ℕ → A) (key : ℕ) (places : List Content) → AreDifferent (map (λ (r : HotRecord). of r.key) (hot_records places))
-    → AreDifferent (map (λ (r : HotRecord). of r.key) (hot_records (replaced key vacant places)))
+pub different-vacant : {A : Type 0} (of : HotRecord → A) (key : ℕ) (places : List Content) → AreDifferent (map of (hot_records places))
+    → AreDifferent (map of (hot_records (replaced key vacant places)))
 different-vacant of key [] different = tt
 different-vacant of key (cold shard ∷ places) different = different-vacant of key places different
 different-vacant of key (vacant ∷ places) different = different-vacant of key places different
 different-vacant {A} of key (hot first ∷ places) different =
     go (different-vacant of key places different.1)
-    (images-all (λ (r : HotRecord). of r.key) (λ y. of first.key ≢ y) (hot_records (replaced key vacant places))
-    (all-replaced (λ r. of first.key ≢ of r.key) (λ r. of first.key ≢ of r.key) key vacant places (λ r apart other. apart) tt
-    (all-images (λ (r : HotRecord). of r.key) (λ y. of first.key ≢ y) (hot_records places) different.0)))
+    (images-all of (λ y. of first ≢ y) (hot_records (replaced key vacant places))
+    (all-replaced (λ r. of first ≢ of r) (λ r. of first ≢ of r) key vacant places (λ r apart other. apart) tt
+    (all-images of (λ y. of first ≢ y) (hot_records places) different.0)))
     (first.key == key)
   where
-    go : AreDifferent (map (λ (r : HotRecord). of r.key) (hot_records (replaced key vacant places)))
-        → AllByRecursion (λ y. of first.key ≢ y) (map (λ (r : HotRecord). of r.key) (hot_records (replaced key vacant places)))
-        → (b : Bool) → AreDifferent (map (λ (r : HotRecord). of r.key) (hot_records ((if b then vacant else hot first) ∷ replaced key vacant places)))
+    go : AreDifferent (map of (hot_records (replaced key vacant places)))
+        → AllByRecursion (λ y. of first ≢ y) (map of (hot_records (replaced key vacant places)))
+        → (b : Bool) → AreDifferent (map of (hot_records ((if b then vacant else hot first) ∷ replaced key vacant places)))
     go rest others true = rest
     go rest others false = (others, rest)
 
@@ -185,21 +185,21 @@ placed-one new places found is =
     (all-placed (λ r. (r ≡ new) ⊎ IsOne (hot_records places) r) new places (inl refl)
     (all-map (IsOne (hot_records places)) (λ r. (r ≡ new) ⊎ IsOne (hot_records places) r) (λ r is. inr is) (hot_records places) (all-are (hot_records places)))) is
 
-pub different-placed : {A : Type 0} (of : ℕ → A) (new : HotRecord) (places : List Content)
-    → AllByRecursion (λ r. of r.key ≢ of new.key) (hot_records places)
-    → AreDifferent (map (λ (r : HotRecord). of r.key) (hot_records places))
-    → AreDifferent (map (λ (r : HotRecord). of r.key) (hot_records (placed new places)))
+pub different-placed : {A : Type 0} (of : HotRecord → A) (new : HotRecord) (places : List Content)
+    → AllByRecursion (λ r. of r ≢ of new) (hot_records places)
+    → AreDifferent (map of (hot_records places))
+    → AreDifferent (map of (hot_records (placed new places)))
 different-placed of new [] apart different = tt
 different-placed of new (cold shard ∷ places) apart different = different-placed of new places apart different
 different-placed of new (hot found ∷ places) apart different = (
-  images-all (λ (r : HotRecord). of r.key) (λ y. of found.key ≢ y) (hot_records (placed new places))
-      (all-placed (λ r. of found.key ≢ of r.key) new places apart.0
-      (all-images (λ (r : HotRecord). of r.key) (λ y. of found.key ≢ y) (hot_records places) different.0)),
+  images-all of (λ y. of found ≢ y) (hot_records (placed new places))
+      (all-placed (λ r. of found ≢ of r) new places apart.0
+      (all-images of (λ y. of found ≢ y) (hot_records places) different.0)),
   different-placed of new places apart.1 different.1,
 )
 different-placed of new (vacant ∷ places) apart different = (
-  images-all (λ (r : HotRecord). of r.key) (λ y. of new.key ≢ y) (hot_records places)
-      (all-map (λ r. of r.key ≢ of new.key) (λ r. of new.key ≢ of r.key) (λ r apart same. apart (sym same)) (hot_records places) apart),
+  images-all of (λ y. of new ≢ y) (hot_records places)
+      (all-map (λ r. of r ≢ of new) (λ r. of new ≢ of r) (λ r apart same. apart (sym same)) (hot_records places) apart),
   different,
 )
 

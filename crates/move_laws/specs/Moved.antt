@@ -1,5 +1,5 @@
 -- What the commands of a move do to the verifier of its worker.
-use Rattle.std.specs.Prelude.{◌≡◌, ℕ, ◌<◌, Bool, true, false, List, [], ◌∷◌, map, Option, Some, Ok}
+use Rattle.std.specs.Prelude.{◌≡◌, ℕ, ◌<◌, Bool, true, List, [], ◌∷◌, map, Option, Some, Ok}
 use Rattle.std.specs.List.{AllByRecursion, flat_map}
 use Rattle.tree_keys.specs.Path.{IsBelow, key_bits}
 use Rattle.lamport_clocks.specs.Stamp.{IsLater}
@@ -11,7 +11,7 @@ use Rattle.verifier_commands.specs.declared.state.State.{State}
 use Rattle.verifier_commands.specs.Transition.{Rules}
 use Rattle.soundness.specs.Certified.{sealed_by}
 use Rattle.host_core.specs.Deeds.{AreSame}
-use Rattle.host_shard.specs.Shard.{pending_shard}
+use Rattle.host_shard.specs.Shard.{wide_in, pending_shard}
 use Rattle.host_shard.specs.Content.{pending_hot}
 use Rattle.host_laws.specs.Running.{Told, run, added_told, evicted_told, accesses_told}
 use Rattle.host_laws.specs.Carried.{carried, carries}
@@ -33,7 +33,7 @@ at_stage cache stage = record { cache = cache; clock = stage.clock }
 -- each element of the stage is of one of the verifiers and of an open epoch, and the counters don't pass the end.
 pub record CanMove (rules : Rules) (cache : Held) (threshold : Option ℕ) (stage : Stage) : Type 0 where
   pub bare : IsBare cache.entries
-  pub room : key_bits false < cache.room
+  pub room : key_bits (wide_in stage.shard) < cache.room
   pub takable : AllByRecursion (IsTakable rules stage.clock) (waiting_in stage)
   pub counters : IsPastEnd threshold stage → ⊥
 

@@ -1,7 +1,7 @@
 -- Which transfers can be done, and what one does to the verifier of its worker while the shard's frontier stands in its cache.
-use Rattle.std.specs.Prelude.{◌≡◌, ℕ, ◌^◌, ◌<◌, ◌≤◌, Bool, false, List, [], ◌∷◌, ◌++◌, IsSome, Ok}
+use Rattle.std.specs.Prelude.{◌≡◌, ℕ, ◌^◌, ◌<◌, ◌≤◌, Bool, List, [], ◌∷◌, ◌++◌, IsSome, Ok}
 use Rattle.std.specs.List.{AllByRecursion, IsAmong, flat_map}
-use Rattle.tree_keys.specs.Path.{IsBelow, key_bits, key_path}
+use Rattle.tree_keys.specs.Path.{IsBelow, key_bits}
 use Rattle.lamport_clocks.specs.declared.stamp.Stamp.{Stamp}
 use Rattle.lamport_clocks.specs.Reading.{Reading}
 use Rattle.record_text.specs.declared.element.Element.{Element}
@@ -14,6 +14,7 @@ use Rattle.soundness.specs.Certified.{sealed_by}
 use Rattle.host_shard.specs.declared.link.Link.{Link}
 use Rattle.host_shard.specs.Content.{pending_hot}
 use Rattle.host_shard.specs.Mirrors.{IsKeyOf}
+use Rattle.host_shard.specs.Shard.{key_path_in, wide_in}
 use Rattle.host_laws.specs.Running.{Told, run, added_told, evicted_told, accesses_told}
 use Rattle.host_laws.specs.Carried.{carried}
 use Rattle.protection_moves.specs.Stage.{Stage, hot_records, hot_paths, vacancies}
@@ -24,11 +25,11 @@ use Rattle.move_laws.specs.Stages.{IsOne, IsTakable}
 
 -- A key of the shard can become hot: it has a record there and isn't hot, its touches are forgotten, and a place is vacant.
 pub record IsPromotable (stage : Stage) (key : ℕ) : Type 0 where
-  pub in_range : key < 2 ^ key_bits false
-  pub own : IsKeyOf stage.shard (key_path false key)
-  pub cold : IsAmong (hot_paths stage.places) (key_path false key) → ⊥
-  pub there : IsSome (stage.shard.records (key_path false key))
-  pub untouched : stage.shard.touches (key_path false key) ≡ 0
+  pub in_range : key < 2 ^ key_bits (wide_in stage.shard)
+  pub own : IsKeyOf stage.shard (key_path_in stage.shard key)
+  pub cold : IsAmong (hot_paths stage.places) (key_path_in stage.shard key) → ⊥
+  pub there : IsSome (stage.shard.records (key_path_in stage.shard key))
+  pub untouched : stage.shard.touches (key_path_in stage.shard key) ≡ 0
   pub room : 0 < vacancies stage.places
 
 -- The transfer can be done: the record that comes back is hot, or the key can become hot.

@@ -1,6 +1,6 @@
 //! What follows from the definitions of a transfer and of the transition. These functions do nothing: their contracts are
 //! the laws.
-ghost use Rattle.std.specs.Prelude.{ℕ, ◌<◌, false, List};
+ghost use Rattle.std.specs.Prelude.{ℕ, ◌<◌, List};
 ghost use Rattle.std.specs.List.{AllByRecursion};
 ghost use Rattle.tree_keys.specs.Path.{key_bits};
 ghost use Rattle.merkle_records.specs.Merkle.{Digest, GivesDigests};
@@ -8,6 +8,7 @@ ghost use Rattle.verifier_cache.specs.declared.entry.Entry.{Entry};
 ghost use Rattle.verifier_commands.specs.Transition.{Rules};
 ghost use Rattle.soundness.specs.Typed.{IsPathTypedIn};
 ghost use Rattle.host_shard.specs.declared.link.Link.{Link};
+ghost use Rattle.host_shard.specs.Shard.{wide_in};
 ghost use Rattle.host_laws.specs.Served.{IsBare};
 ghost use Rattle.protection_moves.specs.Stage.{Stage};
 ghost use Rattle.protection_moves.specs.Transfer.{Transfer};
@@ -19,7 +20,7 @@ ghost use Rattle.move_laws.specs.Transfers.{CanDo, TransferRuns, IsFit};
 /// the links to its key. Nothing is asked of the digests.
 pub fn a_transfer_runs()
     ensures runs { (rules : Rules) (entries : List Entry) (room : ℕ) (stage : Stage) (transfer : Transfer) (links : List Link)
-        → IsBare entries → key_bits false < room → StageMirrors rules.scheme.format.longest rules.scheme.digest stage
+        → IsBare entries → key_bits (wide_in stage.shard) < room → StageMirrors rules.scheme.format.longest rules.scheme.digest stage
         → IsFit stage transfer → CanDo rules stage transfer → AreLinks stage.shard transfer links
         → TransferRuns rules entries room stage transfer links }
 {}
@@ -31,10 +32,10 @@ pub fn a_transfer_mirrors()
         → StageMirrors longest digest (done_by digest worker stage transfer links) }
 {}
 
-/// The paths that a transfer's commands name are of the tree whose keys have 64 bits, and the values that they bring in are of
-/// their paths' kinds.
+/// The paths that a transfer's commands name are of the shard's tree, and the values that they bring in are of their paths'
+/// kinds.
 pub fn a_transfer_is_typed()
     ensures typed { (longest : ℕ) (digest : Digest) (stage : Stage) (transfer : Transfer) (links : List Link)
         → StageMirrors longest digest stage → IsFit stage transfer → AreLinks stage.shard transfer links
-        → AllByRecursion (IsPathTypedIn false longest) (commands_by stage transfer links) }
+        → AllByRecursion (IsPathTypedIn (wide_in stage.shard) longest) (commands_by stage transfer links) }
 {}

@@ -1,5 +1,5 @@
 -- Numbers that words spell are in their ranges.
-use Rattle.std.proofs.Common.{◌≡◌, ℕ, ◌-◌, ◌<◌, ◌≤◌, ◌^◌, ◌==◌, Bool, true, false, List, [], ◌∷◌, Option, Some, None, IfSome, if◌then◌else◌, option_and_then, unwrap_or, refl, ◌∙◌, arith, subst}
+use Rattle.std.proofs.Common.{◌≡◌, ℕ, ◌-◌, ◌<◌, ◌≤◌, ◌^◌, ◌==◌, ◌⊎◌, inl, inr, Bool, true, false, List, [], ◌∷◌, Option, Some, None, IfSome, if◌then◌else◌, option_and_then, unwrap_or, refl, sym, ◌∙◌, arith, subst}
 use Rattle.std.specs.Prelude.{codes}
 use Rattle.std.specs.List.{list_any}
 use Rattle.std.specs.Option.{option_map}
@@ -8,7 +8,7 @@ use Rattle.std.proofs.lemmas.Bool.Decides.{nat_tests}
 use Rattle.clap.specs.Walk.{Row, Text, first_of}
 use Rattle.program_words.specs.Found.{flag_in}
 use Rattle.program_words.specs.Numbers.{is_numeral, in_range, number_between, needed_in, optional_in, given}
-use Rattle.program_words.specs.HostWords.{most_verifiers, most_touches, greatest_end, first_version, last_version, is_shard_count, shards_in, numbers_in, IsPower, AreHostNumbers}
+use Rattle.program_words.specs.HostWords.{most_verifiers, most_touches, greatest_end, first_version, last_version, is_shard_count, shards_in, are_key_bits, key_bits_or, key_bits_in, numbers_in, IsPower, AreHostNumbers}
 use Rattle.program_words.specs.LoadWords.{most_ops, most_keys, usual_keys, most_every, usual_every, load_in, AreLoadNumbers}
 use Rattle.program_words.specs.declared.host_words.HostNumbers.{HostNumbers}
 use Rattle.program_words.specs.declared.load_words.LoadNumbers.{LoadNumbers}
@@ -92,6 +92,27 @@ shards_range found word is =
     let c = counted (is_shard_count m.0) m.0 found m.1.1 in
     subst IsPower c.1 (shards_power m.0 c.0)
 
+-- ---- the bits of a key
+
+tested_bits : (version bits : ℕ) → are_key_bits version bits ≡ true → (bits ≡ 64) ⊎ ((version ≡ last_version) × (bits ≡ 128))
+tested_bits version bits test = go (bits == 64) refl
+  where
+    go : (short : Bool) → (bits == 64) ≡ short → (bits ≡ 64) ⊎ ((version ≡ last_version) × (bits ≡ 128))
+    go true is = inl (same_number bits 64 is)
+    go false is = inr (grind (arith, nat_tests, test, is), grind (arith, nat_tests, test, is))
+
+bits_or_range : (version : ℕ) (given_bits : Option ℕ) (found : ℕ) → key_bits_or version given_bits ≡ Some found
+    → (found ≡ 64) ⊎ ((version ≡ last_version) × (found ≡ 128))
+bits_or_range version None found is = let same : 64 ≡ found = cc in inl (sym same)
+bits_or_range version (Some bits) found is =
+    let c = counted (are_key_bits version bits) bits found is in
+    subst (λ (n : ℕ). (n ≡ 64) ⊎ ((version ≡ last_version) × (n ≡ 128))) c.1 (tested_bits version bits c.0)
+
+bits_range : (version found : ℕ) (word : Option Text) → key_bits_in version word ≡ Some found → (found ≡ 64) ⊎ ((version ≡ last_version) × (found ≡ 128))
+bits_range version found word is =
+    let m = and_then_found (optional_in 64 128 word) (key_bits_or version) found is in
+    bits_or_range version m.0 found m.1.1
+
 -- ---- the numbers of a host
 
 pub numbers_range : (rows : List Row) (numbers : HostNumbers) → numbers_in rows ≡ Some numbers → AreHostNumbers numbers
@@ -102,6 +123,7 @@ numbers_range rows numbers is =
     let f = then_found (optional_in 0 (2 ^ 32 - 1) (first_of (codes "first") rows)) _ numbers h.1.1 in
     let e = then_found (optional_in 1 greatest_end (first_of (codes "counter") rows)) _ numbers f.1.1 in
     let v = then_found (optional_in first_version last_version (first_of (codes "format") rows)) _ numbers e.1.1 in
+    let b' = then_found (key_bits_in (unwrap_or v.0 first_version) (first_of (codes "bits") rows)) _ numbers v.1.1 in
     let made : HostNumbers = record {
       verifiers = a.0;
       shards = b.0;
@@ -109,9 +131,10 @@ numbers_range rows numbers is =
       first = unwrap_or f.0 0;
       counter = unwrap_or e.0 greatest_end;
       version = unwrap_or v.0 first_version;
+      bits = b'.0;
       absent = flag_in (codes "absent") rows;
     } in
-    let same : made ≡ numbers = (let inside : Some made ≡ Some numbers = v.1.1 in cc) in
+    let same : made ≡ numbers = (let inside : Some made ≡ Some numbers = b'.1.1 in cc) in
     let verifiers = needed_range 1 most_verifiers a.0 (first_of (codes "verifiers") rows) a.1.0 in
     let first = or_range 0 (2 ^ 32 - 1) 0 f.0 (optional_range 0 (2 ^ 32 - 1) f.0 (first_of (codes "first") rows) f.1.0) (omega arith) (omega arith) in
     let end = or_range 1 greatest_end greatest_end e.0 (optional_range 1 greatest_end e.0 (first_of (codes "counter") rows) e.1.0) (omega arith) (omega arith) in
@@ -127,6 +150,7 @@ numbers_range rows numbers is =
       end = end.1;
       some_version = version.0;
       version = version.1;
+      bits = bits_range (unwrap_or v.0 first_version) b'.0 (first_of (codes "bits") rows) b'.1.0;
     })
 
 -- ---- the numbers of a load

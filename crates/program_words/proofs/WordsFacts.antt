@@ -72,7 +72,7 @@ following = refl
 -- ---- run
 
 abbrev numbers : HostNumbers
-numbers = record { verifiers = 1; shards = 2; hot = None; first = 0; counter = 16777215; version = 1; absent = false }
+numbers = record { verifiers = 1; shards = 2; hot = None; first = 0; counter = 16777215; version = 1; bits = 64; absent = false }
 
 abbrev host_words : List (List ℕ)
 host_words = codes "fastver" ∷ codes "run" ∷ codes "--key=00112233445566778899aabbccddeeff" ∷ codes "--verifiers" ∷ codes "1" ∷ codes "--shards" ∷ codes "2" ∷ []
@@ -97,9 +97,35 @@ by_slot_run : asked_of (host_words ++ codes "--format=2" ∷ []) ≡ Some (Run (
 unfolding clap_on_literals hex_on_literals number_between
 by_slot_run = refl
 
-no_version : asked_of (host_words ++ codes "--format=3" ∷ []) ≡ None
+of_last_version_run : asked_of (host_words ++ codes "--format=3" ∷ []) ≡ Some (Run (record { key = key; numbers = record numbers { version = 3 }; logs = None; receipts = false }))
+unfolding clap_on_literals hex_on_literals number_between
+of_last_version_run = refl
+
+no_version : asked_of (host_words ++ codes "--format=4" ∷ []) ≡ None
 unfolding clap_on_literals hex_on_literals number_between
 no_version = refl
+
+-- with keys of either size, which is said in the last version alone, and with no other
+short_keys : asked_of (host_words ++ codes "--format=3" ∷ codes "--bits=64" ∷ []) ≡ Some (Run (record { key = key; numbers = record numbers { version = 3 }; logs = None; receipts = false }))
+unfolding clap_on_literals hex_on_literals number_between
+short_keys = refl
+
+long_keys : asked_of (host_words ++ codes "--bits" ∷ codes "128" ∷ codes "--format=3" ∷ [])
+    ≡ Some (Run (record { key = key; numbers = record numbers { version = 3; bits = 128 }; logs = None; receipts = false }))
+unfolding clap_on_literals hex_on_literals number_between
+long_keys = refl
+
+no_such_keys : asked_of (host_words ++ codes "--format=3" ∷ codes "--bits=96" ∷ []) ≡ None
+unfolding clap_on_literals hex_on_literals number_between
+no_such_keys = refl
+
+keys_of_no_version : asked_of (host_words ++ codes "--bits=64" ∷ []) ≡ None
+unfolding clap_on_literals hex_on_literals number_between
+keys_of_no_version = refl
+
+keys_of_other_version : asked_of (host_words ++ codes "--format=2" ∷ codes "--bits=128" ∷ []) ≡ None
+unfolding clap_on_literals hex_on_literals number_between
+keys_of_other_version = refl
 
 -- with receipts
 run_with_receipts : asked_of (host_words ++ codes "--receipts" ∷ []) ≡ Some (Run (record { key = key; numbers = numbers; logs = None; receipts = true }))

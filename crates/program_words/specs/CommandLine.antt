@@ -37,11 +37,13 @@ with_host_options app =
     let logged = with_option (with_option needed (codes "hot") false) (codes "logs") false in
     with_option (with_option logged (codes "first") false) (codes "counter") false
 
--- the command `run`, with the options of a host, one for the version of its bundle, and its flags for absence and for receipts
+-- the command `run`, with the options of a host, one for the version of its bundle and one for the bits of its keys, and its
+-- flags for absence and for receipts
 abbrev pub run_app : App
 run_app =
     let formatted = with_option (with_host_options (command_with_key (codes "run"))) (codes "format") false in
-    with_flag (with_flag formatted (codes "absent")) (codes "receipts")
+    let sized = with_option formatted (codes "bits") false in
+    with_flag (with_flag sized (codes "absent")) (codes "receipts")
 
 -- the command `gen`, with the options of a load and of a host
 abbrev pub gen_app : App

@@ -1,5 +1,5 @@
 -- What the words behind `run` and `gen` say of a host: its numbers.
-use Rattle.std.specs.Prelude.{◌≡◌, ℕ, ◌-◌, ◌^◌, ◌<◌, ◌≤◌, ◌==◌, IfSome, Bool, List, [], ◌∷◌, Option, Some, None, codes, option_and_then, unwrap_or, if◌then◌else◌}
+use Rattle.std.specs.Prelude.{◌≡◌, ℕ, ◌-◌, ◌^◌, ◌<◌, ◌≤◌, ◌==◌, ◌&&◌, ◌||◌, ◌⊎◌, IfSome, Bool, List, [], ◌∷◌, Option, Some, None, codes, option_and_then, unwrap_or, if◌then◌else◌}
 use Rattle.std.specs.List.{list_any}
 use Rattle.clap.specs.Walk.{Row, Text, first_of}
 use Rattle.program_words.specs.Found.{flag_in}
@@ -23,7 +23,7 @@ abbrev pub first_version : ℕ
 first_version = 1
 
 abbrev pub last_version : ℕ
-last_version = 2
+last_version = 3
 
 -- so many shards there can be: a power of two from 2 to 1,024
 abbrev pub is_shard_count : ℕ → Bool
@@ -32,6 +32,18 @@ is_shard_count shards = list_any (λ count. shards == count) (2 ∷ 4 ∷ 8 ∷ 
 -- how many shards there are to be
 abbrev pub shards_in : Option Text → Option ℕ
 shards_in word = option_and_then (λ shards. if is_shard_count shards then Some shards else None) (needed_in 2 1024 word)
+
+-- so many bits a key can be asked to have in this version: 64 or 128, and in the last version alone
+abbrev pub are_key_bits : ℕ → ℕ → Bool
+are_key_bits version bits = version == last_version && (bits == 64 || bits == 128)
+
+-- how many bits a key is to have in this version: 64 where no number is given
+abbrev pub key_bits_or : ℕ → Option ℕ → Option ℕ
+key_bits_or version None = Some 64
+key_bits_or version (Some bits) = if are_key_bits version bits then Some bits else None
+
+abbrev pub key_bits_in : ℕ → Option Text → Option ℕ
+key_bits_in version word = option_and_then (key_bits_or version) (optional_in 64 128 word)
 
 -- the numbers of a host in what was found of a command's options, if each that is needed is there and each is in its range
 abbrev pub numbers_in : List Row → Option HostNumbers
@@ -42,6 +54,7 @@ numbers_in rows =
     given (optional_in 0 (2 ^ 32 - 1) (first_of (codes "first") rows)) (λ first.
     given (optional_in 1 greatest_end (first_of (codes "counter") rows)) (λ counter.
     given (optional_in first_version last_version (first_of (codes "format") rows)) (λ version.
+    given (key_bits_in (unwrap_or version first_version) (first_of (codes "bits") rows)) (λ bits.
     Some (record {
       verifiers = verifiers;
       shards = shards;
@@ -49,8 +62,9 @@ numbers_in rows =
       first = unwrap_or first 0;
       counter = unwrap_or counter greatest_end;
       version = unwrap_or version first_version;
+      bits = bits;
       absent = flag_in (codes "absent") rows;
-    })))))))
+    }))))))))
 
 -- a power of two from 2 to 1,024
 pub record IsPower (shards : ℕ) : Type 0 where
@@ -70,3 +84,4 @@ pub record AreHostNumbers (numbers : HostNumbers) : Type 0 where
   pub end : numbers.counter ≤ greatest_end
   pub some_version : first_version ≤ numbers.version
   pub version : numbers.version ≤ last_version
+  pub bits : (numbers.bits ≡ 64) ⊎ ((numbers.version ≡ last_version) × (numbers.bits ≡ 128))

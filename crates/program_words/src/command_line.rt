@@ -40,8 +40,8 @@ fn check_command<'a>(alloc: Global) -> Result<Command<'a>, AllocError>
     with_flag(alloc, check, "receipts")
 }
 
-// The command `run`, with the options of a host, one for the version of its bundle, and its flags for absence and for
-// receipts.
+// The command `run`, with the options of a host, one for the version of its bundle and one for the bits of its keys, and
+// its flags for absence and for receipts.
 fn run_command<'a>(alloc: Global) -> Result<Command<'a>, AllocError>
     ensures app { IfOk result (λ command. app_of command ≡ run_app) }
     ensures local { IfOk result (λ command. (fields_of command).has_globals ≡ false) }
@@ -49,6 +49,7 @@ fn run_command<'a>(alloc: Global) -> Result<Command<'a>, AllocError>
     let run = command_with_key(alloc, "run")?;
     let run = with_host_options(alloc, run)?;
     let run = with_option(alloc, run, "format", false)?;
+    let run = with_option(alloc, run, "bits", false)?;
     let run = with_flag(alloc, run, "absent")?;
     with_flag(alloc, run, "receipts")
 }

@@ -1,7 +1,7 @@
 //! What the words behind `run` and `gen` say of a host: its numbers, and where its logs go.
 ghost use Rattle.std.specs.Prelude.{◌≡◌, ◌==◌, Some, None, IfOk, codes, true};
 ghost use Rattle.clap.specs.Words.{first_of, found_of, rows_of};
-ghost use Rattle.program_words.specs.HostWords.{is_shard_count, shards_in, numbers_in};
+ghost use Rattle.program_words.specs.HostWords.{are_key_bits, is_shard_count, key_bits_in, shards_in, numbers_in};
 
 use crate::found::{flag_of, word_of};
 use crate::key::Key;
@@ -22,7 +22,12 @@ const GREATEST_END: u32 = 16_777_215;
 // The first version of the format, which is also the one that is taken where none is given, and the last one.
 const FIRST_VERSION: u32 = 1;
 
-const LAST_VERSION: u32 = 2;
+const LAST_VERSION: u32 = 3;
+
+// How many bits a key has where no number is given, and the other number that can be given in the last version.
+const SHORT_KEYS: u32 = 64;
+
+const LONG_KEYS: u32 = 128;
 
 /// The numbers of a host, as words give them.
 #[derive(Clone, Copy, Debug, PartialEq, Eq)]
@@ -39,6 +44,8 @@ pub struct HostNumbers {
     pub counter: u32,
     /// Which version of the format its bundle has.
     pub version: u8,
+    /// How many bits a key has.
+    pub bits: u8,
     /// Whether a get of a key that was never put makes no record of it.
     pub absent: bool,
 }
@@ -97,13 +104,16 @@ pub(crate) fn numbers_of(found: &ArgMatches<'_>) -> Option<HostNumbers>
     let first = optional(found, "first", 0, u32::MAX)?;
     let counter = optional(found, "counter", 1, GREATEST_END)?;
     let version = optional(found, "format", FIRST_VERSION, LAST_VERSION)?;
+    let version = version.unwrap_or(FIRST_VERSION);
+    let bits = key_bits_of(found, version)?;
     Some(HostNumbers {
         verifiers: verifiers as u16,
         shards,
         hot,
         first: first.unwrap_or(0),
         counter: counter.unwrap_or(GREATEST_END),
-        version: version.unwrap_or(FIRST_VERSION) as u8,
+        version: version as u8,
+        bits,
         absent: flag_of(found, "absent"),
     })
 }
@@ -133,4 +143,22 @@ fn is_shard_count(shards: u32) -> bool
     ensures value { result ≡ is_shard_count shards }
 {
     matches!(shards, 2 | 4 | 8 | 16 | 32 | 64 | 128 | 256 | 512 | 1024)
+}
+
+// How many bits a key is to have in this version of the format.
+fn key_bits_of(found: &ArgMatches<'_>, version: u32) -> Option<u8>
+    ensures value { result ≡ key_bits_in version (first_of (codes "bits") (rows_of (found_of found.now))) }
+{
+    match optional(found, "bits", SHORT_KEYS, LONG_KEYS)? {
+        Some(bits) if are_key_bits(version, bits) => Some(bits as u8),
+        Some(_) => None,
+        None => Some(SHORT_KEYS as u8),
+    }
+}
+
+// Whether a key can be asked to have so many bits in this version of the format.
+fn are_key_bits(version: u32, bits: u32) -> bool
+    ensures value { result ≡ are_key_bits version bits }
+{
+    version == LAST_VERSION && (bits == SHORT_KEYS || bits == LONG_KEYS)
 }

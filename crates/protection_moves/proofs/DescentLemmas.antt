@@ -1,11 +1,13 @@
 -- A descent along a chain: its commands are commands, and what it leaves of the shard is a shard.
-use Rattle.std.proofs.Common.{◌≡◌, ℕ, suc, ◌<◌, ◌^◌, Bool, true, false, List, [], ◌∷◌, ◌++◌, length, ◌-◌, Option, Some, None, if◌then◌else◌, refl, sym, ◌∙◌, ap, subst, arith}
+use Rattle.std.proofs.Common.{◌≡◌, ℕ, suc, ◌<◌, ◌^◌, Bool, true, false, List, [], ◌∷◌, ◌++◌, length, ◌-◌, Option, Some, None, IsSome, if◌then◌else◌, refl, sym, ◌∙◌, ap, subst, arith}
 use Rattle.std.proofs.lemmas.Bool.{false≢true}
 use Rattle.std.proofs.lemmas.Option.{none-some, same_Some}
 use Rattle.std.proofs.Math.Path.{fun_ext}
 use Rattle.std.specs.Prelude.{slice_get}
 use Rattle.std.specs.List.{AllByRecursion}
-use Rattle.tree_keys.specs.Path.{key_path, side, same_path, IsData, IsPath}
+use Rattle.tree_keys.specs.Path as paths
+use Rattle.tree_keys.specs.Bits.{bits_of}
+use Rattle.tree_keys.specs.Path.{key_path, key_bits, depth, side, same_path, IsData, IsPath}
 use Rattle.tree_keys.proofs.PathLaws.{same_path-true}
 use Rattle.tree_keys.proofs.TreeLaws.{data-path, node-path}
 use Rattle.lamport_clocks.specs.declared.stamp.Stamp.{Stamp}
@@ -24,8 +26,8 @@ use Rattle.host_shard.specs.declared.link.Link.{Link}
 use Rattle.host_shard.specs.declared.content.HotRecord.{HotRecord}
 use Rattle.host_shard.specs.Tree.{Tree}
 use Rattle.host_shard.specs.Chain.{IsChain, aimed, aimed_on, last_value, closed_value, closed_records}
-use Rattle.host_shard.specs.Shard.{Shard, tree_of, rehashed}
-use Rattle.host_shard.specs.Content.{pending_hot}
+use Rattle.host_shard.specs.Shard.{wide_in, key_path_in, Shard, tree_of, rehashed}
+use Rattle.host_shard.specs.Content.{hot_path, pending_hot}
 use Rattle.host_shard.specs.Mirrors.{IsShard, IsKeyOf}
 use Rattle.host_shard.proofs.ShardLaws.{rehashed_is}
 use Rattle.host_shard.proofs.ChainLaws.{AreOf, frontier_kind, next_of}
@@ -130,8 +132,8 @@ lent_record digest tree at value (first ∷ above) link last k apart =
 
 -- But for the record that is lent the shard is what it is without it.
 pub lent_shard : (digest : Digest) (old new : Shard) (key : ℕ) (links : List Link)
-    → IsChain (tree_of old) (key_path false key) old.frontier old.value links → IsLent digest old links new
-    → shard_but new (key_path false key) ≡ shard_without digest old key links
+    → IsChain (tree_of old) (key_path_in old key) old.frontier old.value links → IsLent digest old links new
+    → shard_but new (key_path_in old key) ≡ shard_without digest old key links
 lent_shard digest old new key links chain lent =
     ap (λ (s : Shard). shard_but s path) lent.rehashed
     ∙ ap (λ (v : Value). record old { value = v; records = without_record (closed_records digest false old.records lent.above pv) path }) (sym (lent_value digest old.frontier old.value lent.above lent.link last))
@@ -142,7 +144,7 @@ lent_shard digest old new key links chain lent =
     }) (sym lent.parts)
   where
     path : List Bool
-    path = key_path false key
+    path = key_path_in old key
 
     whole : List Link
     whole = lent.above ++ lent.link ∷ []
@@ -241,20 +243,20 @@ lent_is longest digest old new key links digests fits whole chain lent =
         (λ value is. fits.kinds path value (ap (λ (b : Bool). if b then Some old.value else old.records path) apart ∙ is)) found other
 
 -- a hot record has a place in its shard
-pub back_is : (longest : ℕ) (shard : Shard) (found : HotRecord) → IsShard longest shard → IsKeyOf shard (key_path false found.key)
-    → IsOf longest (key_path false found.key) (values.Blob found.value) → IsShard longest (with_back shard found)
+pub back_is : (longest : ℕ) (shard : Shard) (found : HotRecord) → IsShard longest shard → IsKeyOf shard (hot_path found)
+    → IsOf longest (hot_path found) (values.Blob found.value) → IsShard longest (with_back shard found)
 back_is longest shard found fits own kind = record {
   below_root = fits.below_root;
   no_data = fits.no_data;
-  kinds = λ path value is. go path value (same_path path shard.frontier) refl (same_path path (key_path false found.key)) refl is;
+  kinds = λ path value is. go path value (same_path path shard.frontier) refl (same_path path (hot_path found)) refl is;
 }
   where
-    go : (path : List Bool) (value : Value) (a : Bool) → same_path path shard.frontier ≡ a → (b : Bool) → same_path path (key_path false found.key) ≡ b
+    go : (path : List Bool) (value : Value) (a : Bool) → same_path path shard.frontier ≡ a → (b : Bool) → same_path path (hot_path found) ≡ b
         → (if a then Some shard.value else if b then Some (values.Blob found.value) else shard.records path) ≡ Some value → IsOf longest path value
     go path value true at b here is = fits.kinds path value (ap (λ (b' : Bool). if b' then Some shard.value else shard.records path) at ∙ is)
     go path value false at true here is =
         subst (λ (v : Value). IsOf longest path v) (same_Some (values.Blob found.value) value is)
-        (subst (λ (p : List Bool). IsOf longest p (values.Blob found.value)) (sym (same_path-true path (key_path false found.key) here)) kind)
+        (subst (λ (p : List Bool). IsOf longest p (values.Blob found.value)) (sym (same_path-true path (hot_path found) here)) kind)
     go path value false at false here is = fits.kinds path value (ap (λ (b' : Bool). if b' then Some shard.value else shard.records path) at ∙ is)
 
 -- the shard without a record
@@ -277,15 +279,35 @@ but_is longest shard path fits = record {
 
 -- ---- a hot record that comes back
 
+-- what lies below a frontier is of its tree
+pub same_tree : (frontier bits : List Bool) (wide : Bool) → 0 < depth frontier → IsSome (side frontier (wide ∷ bits)) → wide ≡ paths.tree_of frontier
+same_tree [] bits wide deep below = absurd (omega arith)
+same_tree (true ∷ path) bits true deep below = refl
+same_tree (true ∷ path) bits false deep below = absurd (false≢true below)
+same_tree (false ∷ path) bits true deep below = absurd (false≢true below)
+same_tree (false ∷ path) bits false deep below = refl
+
+-- so a hot record whose path lies below the frontier has a key of the shard's tree
+pub own_tree : (longest : ℕ) (shard : Shard) (found : HotRecord) → IsShard longest shard → IsKeyOf shard (hot_path found) → found.wide ≡ wide_in shard
+own_tree longest shard found fits own = same_tree shard.frontier (bits_of (key_bits found.wide) found.key) found.wide fits.below_root own.below
+
+-- and the chain to that key is the chain to its path
+pub own_way : (longest : ℕ) (shard : Shard) (found : HotRecord) (along links : List Link) → IsShard longest shard → IsKeyOf shard (hot_path found) → along ≡ links
+    → IsChain (tree_of shard) (key_path_in shard found.key) shard.frontier shard.value links
+    → IsChain (tree_of shard) (hot_path found) shard.frontier shard.value along
+own_way longest shard found along links fits own same chain =
+    subst (λ (wide : Bool). IsChain (tree_of shard) (key_path wide found.key) shard.frontier shard.value along) (sym (own_tree longest shard found fits own))
+    (subst (λ (ls : List Link). IsChain (tree_of shard) (key_path_in shard found.key) shard.frontier shard.value ls) (sym same) chain)
+
 -- what the code works out of it
 pub returning_of : (digest : Digest) (found : HotRecord) (old now new : Shard) (along : List Link) (before after : List Command) (element : Element) (blob : Option (List ℕ))
-    → now ≡ with_back old found → IsChain (tree_of now) (key_path false found.key) now.frontier now.value along
+    → now ≡ with_back old found → IsChain (tree_of now) (hot_path found) now.frontier now.value along
     → after ≡ before ++ visit_but_last now.frontier along (come_back element) → element ≡ pending_hot found
     → new ≡ rehashed digest now along (values.Blob blob) → blob ≡ found.value
     → IsReturning digest found old before after new
 returning_of digest found old now new along before after element blob back way logged pending rehashes same = record {
   links = along;
-  way = subst (λ (s : Shard). IsChain (tree_of s) (key_path false found.key) s.frontier s.value along) back way;
+  way = subst (λ (s : Shard). IsChain (tree_of s) (hot_path found) s.frontier s.value along) back way;
   commands = logged
       ∙ ap (λ (e : Element). before ++ visit_but_last now.frontier along (come_back e)) pending
       ∙ ap (λ (s : Shard). before ++ visit_but_last s.frontier along (come_back (pending_hot found))) back;
@@ -295,14 +317,14 @@ returning_of digest found old now new along before after element blob back way l
 }
 
 pub returned_is : (digest : Digest) (found : HotRecord) (now new : Shard) (along : List Link) (element : Element) (blob : Option (List ℕ))
-    → GivesDigests digest → IsShard longest_blob now → IsKeyOf now (key_path false found.key)
-    → IsChain (tree_of now) (key_path false found.key) now.frontier now.value along
+    → GivesDigests digest → IsShard longest_blob now → IsKeyOf now (hot_path found)
+    → IsChain (tree_of now) (hot_path found) now.frontier now.value along
     → element ≡ pending_hot found → IsOf longest_blob element.path element.value
     → new ≡ rehashed digest now along (values.Blob blob) → blob ≡ found.value → IsShard longest_blob new
 returned_is digest found now new along element blob digests fits own way pending kind rehashes same =
     subst (IsShard longest_blob) (sym rehashes)
-    (rehashed_is longest_blob digest now (key_path false found.key) along (values.Blob blob) digests fits own
-    (subst (λ (b : Option (List ℕ)). IsOf longest_blob (key_path false found.key) (values.Blob b)) (sym same)
+    (rehashed_is longest_blob digest now (hot_path found) along (values.Blob blob) digests fits own
+    (subst (λ (b : Option (List ℕ)). IsOf longest_blob (hot_path found) (values.Blob b)) (sym same)
     (subst (λ (e : Element). IsOf longest_blob e.path e.value) pending kind))
     way)
 

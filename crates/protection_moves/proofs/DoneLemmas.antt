@@ -1,13 +1,14 @@
 -- Transfers one after another: one more in front of others, and others in a shard that lacks a record.
-use Rattle.std.proofs.Common.{◌≡◌, ◌⊎◌, ℕ, suc, ◌<◌, ◌≤◌, ◌^◌, Fits, w64, slice_index_or, IsTrue, Bool, true, false, List, [], ◌∷◌, ◌++◌, map, length, Option, Some, None, if◌then◌else◌, refl, sym, ◌∙◌, ap, subst, inl, inr, append_assoc, arith}
+use Rattle.std.proofs.Common.{◌≡◌, ◌⊎◌, ℕ, suc, ◌<◌, ◌≤◌, ◌^◌, IsTrue, Bool, true, false, List, [], ◌∷◌, ◌++◌, map, length, Option, Some, None, if◌then◌else◌, refl, sym, ◌∙◌, ap, subst, inl, inr, append_assoc, arith}
 use Rattle.std.proofs.lemmas.Bool.{false≢true}
 use Rattle.std.proofs.Math.Path.{fun_ext}
 use Rattle.std.specs.List.{AllByRecursion}
 use Rattle.tree_keys.specs.BitsLaws.{length-bits_of}
-use Rattle.tree_keys.specs.Path.{key_path, side, same_path, is_prefix, IsBelow}
+use Rattle.tree_keys.specs.Path as paths
+use Rattle.tree_keys.specs.Path.{key_bits, key_path, side, same_path, is_prefix, IsBelow}
 use Rattle.tree_keys.proofs.PathLaws.{same_path-self, same_path-true, same_path-apart}
 use Rattle.tree_keys.proofs.SideLaws.{is_prefix-self, prefix_cases}
-use Rattle.tree_keys.proofs.TreeLaws.{key_path-injective}
+use Rattle.tree_keys.proofs.TreeLaws.{key_path-data, key_path-injective}
 use Rattle.lamport_clocks.specs.declared.stamp.Stamp.{Stamp}
 use Rattle.lamport_clocks.specs.Clock.{is_open}
 use Rattle.lamport_clocks.specs.Reading.{Reading}
@@ -21,9 +22,9 @@ use Rattle.merkle_records.proofs.KindLaws.{length-side}
 use Rattle.host_shard.specs.declared.content.HotRecord.{HotRecord}
 use Rattle.host_shard.specs.declared.link.Link.{Link}
 use Rattle.host_shard.specs.Chain.{IsChain, next_link, known_link, fork_link, last_value, closed_value, closed_records}
-use Rattle.host_shard.specs.Content.{Content, vacant}
+use Rattle.host_shard.specs.Content.{hot_path, Content, vacant}
 use Rattle.host_shard.specs.Mirrors.{IsKeyOf}
-use Rattle.host_shard.specs.Shard.{Shard, tree_of, rehashed}
+use Rattle.host_shard.specs.Shard.{key_path_in, wide_in, Shard, tree_of, rehashed}
 use Rattle.host_shard.specs.Tree.{Tree, pointer_of}
 use Rattle.host_shard.proofs.ChainLaws.{common-right}
 use Rattle.host_plan.specs.Moments.{taking, giving}
@@ -144,7 +145,7 @@ module _ (digest : Digest) (worker : ℕ) where
 
   -- a key that becomes hot, and another record that isn't there
   without_but : (shard : Shard) (key : ℕ) (path : List Bool) (links : List Link)
-      → same_path (key_path false key) path ≡ false → AllByRecursion (λ (link : Link). same_path path link.path ≡ false) links
+      → same_path (key_path_in shard key) path ≡ false → AllByRecursion (λ (link : Link). same_path path link.path ≡ false) links
       → shard_without digest (shard_but shard path) key links ≡ shard_but (shard_without digest shard key links) path
   without_but shard key path links apart elsewhere =
       ap (λ (t : Tree). record shard { value = closed_value digest true shard.frontier shard.value links last; records = t }) (fun_ext each)
@@ -168,35 +169,35 @@ module _ (digest : Digest) (worker : ℕ) where
       at k false false there =
           closed_else (without_record shard.records path) shard.records links last k (ap (λ (b : Bool). if b then None else shard.records k) there)
 
-      each : (k : List Bool) → without_record (closed_records digest true (without_record shard.records path) links last) (key_path false key) k
-          ≡ without_record (without_record (closed_records digest true shard.records links last) (key_path false key)) path k
-      each k = at k (same_path k (key_path false key)) (same_path k path) refl
+      each : (k : List Bool) → without_record (closed_records digest true (without_record shard.records path) links last) (key_path_in shard key) k
+          ≡ without_record (without_record (closed_records digest true shard.records links last) (key_path_in shard key)) path k
+      each k = at k (same_path k (key_path_in shard key)) (same_path k path) refl
 
-  -- a transfer that makes another key hot than that of this path
-  abbrev pub IsElse : List Bool → Transfer → Type 0
-  IsElse path (demotes found) = ⊥
-  IsElse path (promotes key) = (same_path (key_path false key) path ≡ false) × (length path ≡ length (key_path false key))
+  -- a transfer that makes another key of a tree hot than that of this path
+  abbrev pub IsElse : Bool → List Bool → Transfer → Type 0
+  IsElse wide path (demotes found) = ⊥
+  IsElse wide path (promotes key) = (same_path (key_path wide key) path ≡ false) × (length path ≡ length (key_path wide key))
 
   above_same : (shard : Shard) (path key : List Bool) → ((p : List Bool) → is_prefix p key ≡ true → same_path p path ≡ false)
       → (p : List Bool) → is_prefix p key ≡ true → tree_of shard p ≡ tree_of (shard_but shard path) p
   above_same shard path key apart p front =
       ap (λ (o : Option Value). if same_path p shard.frontier then Some shard.value else o) (sym (ap (λ (b : Bool). if b then None else shard.records p) (apart p front)))
 
-  links_but : (shard : Shard) (path : List Bool) (transfer : Transfer) (links : List Link) → IsElse path transfer → AreLinks shard transfer links → AreLinks (shard_but shard path) transfer links
+  links_but : (shard : Shard) (path : List Bool) (transfer : Transfer) (links : List Link) → IsElse (wide_in shard) path transfer → AreLinks shard transfer links → AreLinks (shard_but shard path) transfer links
   links_but shard path (demotes found) links is way = absurd is
   links_but shard path (promotes key) links is way =
-      chain_same (tree_of shard) (tree_of (shard_but shard path)) (key_path false key) shard.frontier shard.value links
-      (above_same shard path (key_path false key) (apart_fronts path (key_path false key) is.1 is.0)) way
+      chain_same (tree_of shard) (tree_of (shard_but shard path)) (key_path_in shard key) shard.frontier shard.value links
+      (above_same shard path (key_path_in shard key) (apart_fronts path (key_path_in shard key) is.1 is.0)) way
 
-  done_but : (stage : Stage) (path : List Bool) (transfer : Transfer) (links : List Link) → IsElse path transfer → AreLinks stage.shard transfer links
+  done_but : (stage : Stage) (path : List Bool) (transfer : Transfer) (links : List Link) → IsElse (wide_in stage.shard) path transfer → AreLinks stage.shard transfer links
       → done_by digest worker (stage_but stage path) transfer links ≡ stage_but (done_by digest worker stage transfer links) path
   done_but stage path (demotes found) links is way = absurd is
   done_but stage path (promotes key) links is way =
       ap (λ (s : Shard). let now : Stage = record { shard = s; places = placed (promoted_record worker stage key links) stage.places; clock = giving stage.clock } in now)
       (without_but stage.shard key path links is.0
-      (links_apart (tree_of stage.shard) path (key_path false key) stage.shard.frontier stage.shard.value links (apart_fronts path (key_path false key) is.1 is.0) way))
+      (links_apart (tree_of stage.shard) path (key_path_in stage.shard key) stage.shard.frontier stage.shard.value links (apart_fronts path (key_path_in stage.shard key) is.1 is.0) way))
 
-  commands_but : (stage : Stage) (path : List Bool) (transfer : Transfer) (links : List Link) → IsElse path transfer
+  commands_but : (stage : Stage) (path : List Bool) (transfer : Transfer) (links : List Link) → IsElse (wide_in stage.shard) path transfer
       → commands_by (stage_but stage path) transfer links ≡ commands_by stage transfer links
   commands_but stage path (demotes found) links is = absurd is
   commands_but stage path (promotes key) links is = refl
@@ -207,13 +208,21 @@ module _ (digest : Digest) (worker : ℕ) where
     pub commands : commands_by_each digest worker (stage_but stage path) descents ≡ commands_by_each digest worker stage descents
     pub leaves : done_by_each digest worker (stage_but stage path) descents ≡ stage_but (done_by_each digest worker stage descents) path
 
-  descents_but : (stage : Stage) (path : List Bool) (descents : List Descent) → AllByRecursion (λ (descent : Descent). IsElse path descent.transfer) descents
+  -- a transfer leaves the frontier
+  else_behind : (stage : Stage) (transfer : Transfer) (links : List Link) (path : List Bool) (descents : List Descent)
+      → AllByRecursion (λ (descent : Descent). IsElse (wide_in stage.shard) path descent.transfer) descents
+      → AllByRecursion (λ (descent : Descent). IsElse (wide_in (done_by digest worker stage transfer links).shard) path descent.transfer) descents
+  else_behind stage (demotes found) links path descents all = all
+  else_behind stage (promotes key) links path descents all = all
+
+  descents_but : (stage : Stage) (path : List Bool) (descents : List Descent)
+      → AllByRecursion (λ (descent : Descent). IsElse (wide_in stage.shard) path descent.transfer) descents
       → AreDescents digest worker stage descents → AreDescentsBut stage path descents
   descents_but stage path [] is ways = record { ways = tt; commands = refl; leaves = refl }
   descents_but stage path (descent ∷ descents) is ways =
       let next : Stage = done_by digest worker stage descent.transfer descent.links in
       let same = sym (done_but stage path descent.transfer descent.links is.0 ways.0) in
-      let rest = descents_but next path descents is.1 ways.1 in
+      let rest = descents_but next path descents (else_behind stage descent.transfer descent.links path descents is.1) ways.1 in
       record {
         ways = (
           links_but stage.shard path descent.transfer descent.links is.0 ways.0,
@@ -225,16 +234,18 @@ module _ (digest : Digest) (worker : ℕ) where
         leaves = ap (λ (s : Stage). done_by_each digest worker s descents) (sym same) ∙ rest.leaves;
       }
 
-  transfers_else : (path : List Bool) (descents : List Descent) → AllByRecursion (IsElse path) (map (λ (descent : Descent). descent.transfer) descents) → AllByRecursion (λ (descent : Descent). IsElse path descent.transfer) descents
-  transfers_else path [] all = tt
-  transfers_else path (descent ∷ descents) all = (all.0, transfers_else path descents all.1)
+  transfers_else : (wide : Bool) (path : List Bool) (descents : List Descent) → AllByRecursion (IsElse wide path) (map (λ (descent : Descent). descent.transfer) descents)
+      → AllByRecursion (λ (descent : Descent). IsElse wide path descent.transfer) descents
+  transfers_else wide path [] all = tt
+  transfers_else wide path (descent ∷ descents) all = (all.0, transfers_else wide path descents all.1)
 
   -- Transfers that make other keys hot do the same where a record isn't there.
-  pub transfers_but : (old new : Stage) (path : List Bool) (transfers : List Transfer) (before after : List Command) (last : Command) → AllByRecursion (IsElse path) transfers
+  pub transfers_but : (old new : Stage) (path : List Bool) (transfers : List Transfer) (before after : List Command) (last : Command)
+      → AllByRecursion (IsElse (wide_in old.shard) path) transfers
       → AreDone digest worker old transfers before last after new
       → AreDone digest worker (stage_but old path) transfers before last after (stage_but new path)
   transfers_but old new path transfers before after last all run =
-      let but = descents_but old path run.descents (transfers_else path run.descents (subst (AllByRecursion (IsElse path)) (sym run.transfers) all)) run.ways in
+      let but = descents_but old path run.descents (transfers_else (wide_in old.shard) path run.descents (subst (AllByRecursion (IsElse (wide_in old.shard) path)) (sym run.transfers) all)) run.ways in
       record {
         descents = run.descents;
         transfers = run.transfers;
@@ -247,9 +258,9 @@ module _ (digest : Digest) (worker : ℕ) where
   pub transfers_hot : (shard mid_shard : Shard) (key : ℕ) (hot : HotRecord) (clock next : Reading) (stamp : Stamp) (transfers : List Transfer) (before mid after : List Command) (last : Command) (new : Stage)
       (touches : List Bool → ℕ) (places : List Content)
       → IsLending digest worker stamp key shard before hot mid mid_shard → next ≡ giving clock → stamp ≡ next.at
-      → AllByRecursion (IsElse (key_path false key)) transfers
+      → AllByRecursion (IsElse (wide_in mid_shard) (key_path_in shard key)) transfers
       → AreDone digest worker (stage_with mid_shard touches (placed hot places) next) transfers mid last after new
-      → AreDone digest worker (stage_with shard touches places clock) (promotes key ∷ transfers) before last after (stage_but new (key_path false key))
+      → AreDone digest worker (stage_with shard touches places clock) (promotes key ∷ transfers) before last after (stage_but new (key_path_in shard key))
   transfers_hot shard mid_shard key hot clock next stamp transfers before mid after last new touches places lending later at all rest =
       transfers_cons (stage_with shard touches places clock) (promotes key) links transfers before mid after last (stage_but new path) lending.way
       (lending.commands ∙ ap (λ (t : Stamp). before ++ visit_but_last shard.frontier links (become_hot t)) moment)
@@ -257,7 +268,7 @@ module _ (digest : Digest) (worker : ℕ) where
       (transfers_but (stage_with mid_shard touches (placed hot places) next) new path transfers mid after last all rest))
     where
       path : List Bool
-      path = key_path false key
+      path = key_path_in shard key
 
       links : List Link
       links = lending.links
@@ -266,44 +277,47 @@ module _ (digest : Digest) (worker : ℕ) where
       moment = at ∙ ap (λ (c : Reading). c.at) later
 
       became : hot ≡ promoted_record worker (stage_with shard touches places clock) key links
-      became = lending.record' ∙ ap (λ (t : Stamp). let now : HotRecord = record { key = key; value = data_of (last_value shard.value links); stamp = t; evictor = worker; touches = 0 } in now) moment
+      became = lending.record' ∙ ap (λ (t : Stamp). let now : HotRecord = record { wide = wide_in shard; key = key; value = data_of (last_value shard.value links); stamp = t; evictor = worker; touches = 0 } in now) moment
 
       same : stage_but (stage_with mid_shard touches (placed hot places) next) path ≡ done_by digest worker (stage_with shard touches places clock) (promotes key) links
       same = ap (λ (s : Shard). stage_with s touches (placed hot places) next) lending.shard
           ∙ ap (λ (h : HotRecord). stage_with (shard_without digest shard key links) touches (placed h places) next) became
           ∙ ap (λ (c : Reading). stage_with (shard_without digest shard key links) touches (placed (promoted_record worker (stage_with shard touches places clock) key links) places) c) later
 
--- keys above another are others
-pub else_all : (digest : Digest) (worker key : ℕ) (keys : List ℕ) → key < 2 ^ 64 → AllByRecursion (λ other. other < 2 ^ 64) keys → AllByRecursion (λ other. key < other) keys
-    → AllByRecursion (IsElse digest worker (key_path false key)) (map (λ (k : ℕ). promotes k) keys)
-else_all digest worker key [] fits all above = tt
-else_all digest worker key (other ∷ keys) fits all above = (
+-- keys of a tree above another are others
+pub else_all : (digest : Digest) (worker : ℕ) (wide : Bool) (key : ℕ) (keys : List ℕ) → key < 2 ^ key_bits wide
+    → AllByRecursion (λ other. other < 2 ^ key_bits wide) keys → AllByRecursion (λ other. key < other) keys
+    → AllByRecursion (IsElse digest worker wide (key_path wide key)) (map (λ (k : ℕ). promotes k) keys)
+else_all digest worker wide key [] fits all above = tt
+else_all digest worker wide key (other ∷ keys) fits all above = (
   (
-    same_path-apart (key_path false other) (key_path false key) (λ same. absurd (omega (arith, above.0, key_path-injective false other key all.0 fits same))),
-    ap (λ (n : ℕ). suc n) (length-bits_of 64 key ∙ sym (length-bits_of 64 other)),
+    same_path-apart (key_path wide other) (key_path wide key) (λ same. absurd (omega (arith, above.0, key_path-injective wide other key all.0 fits same))),
+    ap (λ (n : ℕ). suc n) (length-bits_of (key_bits wide) key ∙ sym (length-bits_of (key_bits wide) other)),
   ),
-  else_all digest worker key keys fits all.1 above.1,
+  else_all digest worker wide key keys fits all.1 above.1,
 )
 
--- numbers of 64 bits, one by one and all of them
-pub all_fit : (keys : List ℕ) → ((i : ℕ) → Fits w64 (slice_index_or keys i 0)) → AllByRecursion (λ key. key < 2 ^ 64) keys
-all_fit [] fits = tt
-all_fit (key ∷ keys) fits = (omega (arith, fits 0), all_fit keys (λ i. fits (suc i)))
-
 -- what is asked of the keys behind the first
-pub rest_own : (old new : Shard) (keys : List ℕ) → new.frontier ≡ old.frontier → AllByRecursion (λ key. IsKeyOf old (key_path false key)) keys
-    → AllByRecursion (λ key. IsKeyOf new (key_path false key)) keys
+pub rest_own : (old new : Shard) (keys : List ℕ) → new.frontier ≡ old.frontier → AllByRecursion (λ key. IsKeyOf old (key_path_in old key)) keys
+    → AllByRecursion (λ key. IsKeyOf new (key_path_in new key)) keys
 rest_own old new [] same own = tt
 rest_own old new (key ∷ keys) same own = (
-  record { whole = own.0.whole; below = subst (λ (f : List Bool). IsBelow f (key_path false key)) (sym same) own.0.below },
+  record {
+    whole = key_path-data (wide_in new) key;
+    below = subst (λ (f : List Bool). IsBelow f (key_path (paths.tree_of f) key)) (sym same) own.0.below;
+  },
   rest_own old new keys same own.1,
 )
 
-pub rest_own_back : (old new : Shard) (records : List HotRecord) → new.frontier ≡ old.frontier → AllByRecursion (λ found. IsKeyOf old (key_path false found.key)) records
-    → AllByRecursion (λ found. IsKeyOf new (key_path false found.key)) records
+pub rest_in_range : (old new : Shard) (keys : List ℕ) → new.frontier ≡ old.frontier → AllByRecursion (λ key. key < 2 ^ key_bits (wide_in old)) keys
+    → AllByRecursion (λ key. key < 2 ^ key_bits (wide_in new)) keys
+rest_in_range old new keys same fits = subst (λ (f : List Bool). AllByRecursion (λ key. key < 2 ^ key_bits (paths.tree_of f)) keys) (sym same) fits
+
+pub rest_own_back : (old new : Shard) (records : List HotRecord) → new.frontier ≡ old.frontier → AllByRecursion (λ found. IsKeyOf old (hot_path found)) records
+    → AllByRecursion (λ found. IsKeyOf new (hot_path found)) records
 rest_own_back old new [] same own = tt
 rest_own_back old new (found ∷ records) same own = (
-  record { whole = own.0.whole; below = subst (λ (f : List Bool). IsBelow f (key_path false found.key)) (sym same) own.0.below },
+  record { whole = own.0.whole; below = subst (λ (f : List Bool). IsBelow f (hot_path found)) (sym same) own.0.below },
   rest_own_back old new records same own.1,
 )
 
@@ -318,11 +332,11 @@ rest_within clock next keys rest key is later within =
 pub transfers_promoted : (digest : Digest) (worker : ℕ) (shard mid_shard rest_shard final : Shard) (key : ℕ) (rest keys : List ℕ) (hot : HotRecord) (others all : List HotRecord)
     (clock next : Reading) (stamp : Stamp) (before mid after : List Command)
     → keys ≡ key ∷ rest → IsLending digest worker stamp key shard before hot mid mid_shard → next ≡ giving clock → stamp ≡ next.at
-    → AllByRecursion (λ k. k < 2 ^ 64) keys → AreRising keys → mid_shard.frontier ≡ shard.frontier
+    → AllByRecursion (λ k. k < 2 ^ key_bits (wide_in shard)) keys → AreRising keys → mid_shard.frontier ≡ shard.frontier
     → ((touches : List Bool → ℕ) (places : List Content) → AreDone digest worker (stage_with mid_shard touches places next) (map (λ (k : ℕ). promotes k) rest) mid
     (EvictB mid_shard.frontier (giving (clock_by_each next (map (λ (k : ℕ). promotes k) rest))).at) after
     (stage_with rest_shard touches (placed_each others places) (clock_by_each next (map (λ (k : ℕ). promotes k) rest))))
-    → all ≡ hot ∷ others → ((touches : List Bool → ℕ) → record final { touches = touches } ≡ record (shard_but rest_shard (key_path false key)) { touches = touches })
+    → all ≡ hot ∷ others → ((touches : List Bool → ℕ) → record final { touches = touches } ≡ record (shard_but rest_shard (key_path_in shard key)) { touches = touches })
     → (touches : List Bool → ℕ) (places : List Content) → AreDone digest worker (stage_with shard touches places clock) (map (λ (k : ℕ). promotes k) keys) before
     (EvictB shard.frontier (giving (clock_by_each clock (map (λ (k : ℕ). promotes k) keys))).at) after
     (stage_with final touches (placed_each all places) (clock_by_each clock (map (λ (k : ℕ). promotes k) keys)))
@@ -332,23 +346,27 @@ transfers_promoted digest worker shard mid_shard rest_shard final key rest keys 
     (stage_with final touches (placed_each all places) (clock_by_each clock (map (λ (k : ℕ). promotes k) ks)))) (sym is)
     (subst (λ (new : Stage). AreDone digest worker (stage_with shard touches places clock) (promotes key ∷ transfers) before (EvictB shard.frontier (giving (clock_by_each (giving clock) transfers)).at) after new) new
     (subst (λ (last : Command). AreDone digest worker (stage_with shard touches places clock) (promotes key ∷ transfers) before last after
-    (stage_but digest worker (stage_with rest_shard touches (placed_each others (placed hot places)) (clock_by_each next transfers)) (key_path false key))) last
+    (stage_but digest worker (stage_with rest_shard touches (placed_each others (placed hot places)) (clock_by_each next transfers)) (key_path_in shard key))) last
     (transfers_hot digest worker shard mid_shard key hot clock next stamp transfers before mid after _ _ touches places lending later at
-    (else_all digest worker key rest fits.0 fits.1 above.0) (run touches (placed hot places)))))
+    others_else (run touches (placed hot places)))))
   where
     transfers : List Transfer
     transfers = map (λ (k : ℕ). promotes k) rest
 
-    fits : AllByRecursion (λ k. k < 2 ^ 64) (key ∷ rest)
-    fits = subst (AllByRecursion (λ k. k < 2 ^ 64)) is fit
+    fits : AllByRecursion (λ k. k < 2 ^ key_bits (wide_in shard)) (key ∷ rest)
+    fits = subst (AllByRecursion (λ k. k < 2 ^ key_bits (wide_in shard))) is fit
 
     above : AreRising (key ∷ rest)
     above = subst AreRising is rising
 
+    others_else : AllByRecursion (IsElse digest worker (wide_in mid_shard) (key_path_in shard key)) transfers
+    others_else = subst (λ (f : List Bool). AllByRecursion (IsElse digest worker (paths.tree_of f) (key_path_in shard key)) transfers) (sym same)
+        (else_all digest worker (wide_in shard) key rest fits.0 fits.1 above.0)
+
     last : EvictB mid_shard.frontier (giving (clock_by_each next transfers)).at ≡ EvictB shard.frontier (giving (clock_by_each (giving clock) transfers)).at
     last = ap (λ (f : List Bool). EvictB f (giving (clock_by_each next transfers)).at) same ∙ ap (λ (c : Reading). EvictB shard.frontier (giving (clock_by_each c transfers)).at) later
 
-    new : stage_but digest worker (stage_with rest_shard touches (placed_each others (placed hot places)) (clock_by_each next transfers)) (key_path false key)
+    new : stage_but digest worker (stage_with rest_shard touches (placed_each others (placed hot places)) (clock_by_each next transfers)) (key_path_in shard key)
         ≡ stage_with final touches (placed_each all places) (clock_by_each (giving clock) transfers)
     new = ap (λ (s : Shard). let now : Stage = record { shard = s; places = placed_each (hot ∷ others) places; clock = clock_by_each next transfers } in now) (sym (left touches))
         ∙ ap (λ (hs : List HotRecord). stage_with final touches (placed_each hs places) (clock_by_each next transfers)) (sym hots)

@@ -1,6 +1,6 @@
 -- A transfer along the links to its key, while the frontier of the shard stands in a cache.
-use Rattle.std.specs.Prelude.{ℕ, Bool, true, false, List, [], ◌∷◌, ◌++◌, Option, None, if◌then◌else◌}
-use Rattle.tree_keys.specs.Path.{key_path, same_path}
+use Rattle.std.specs.Prelude.{ℕ, Bool, true, List, [], ◌∷◌, ◌++◌, Option, None, if◌then◌else◌}
+use Rattle.tree_keys.specs.Path.{same_path}
 use Rattle.lamport_clocks.specs.declared.stamp.Stamp.{Stamp}
 use Rattle.record_text.specs.declared.element.Element.{Element}
 use Rattle.record_text.specs.declared.value.Value.{Value}
@@ -12,8 +12,8 @@ use Rattle.host_shard.specs.declared.link.Link.{Link}
 use Rattle.host_shard.specs.declared.content.HotRecord.{HotRecord}
 use Rattle.host_shard.specs.Tree.{Tree, with_record}
 use Rattle.host_shard.specs.Chain.{IsChain, last_value, closed_value, closed_records}
-use Rattle.host_shard.specs.Shard.{Shard, tree_of, rehashed}
-use Rattle.host_shard.specs.Content.{pending_hot, vacant}
+use Rattle.host_shard.specs.Shard.{key_path_in, wide_in, Shard, tree_of, rehashed}
+use Rattle.host_shard.specs.Content.{hot_path, pending_hot, vacant}
 use Rattle.host_plan.specs.Moments.{giving}
 use Rattle.protection_moves.specs.Stage.{Stage, replaced, placed}
 use Rattle.protection_moves.specs.Transfer.{Transfer, demotes, promotes, clock_by}
@@ -35,14 +35,14 @@ without_record tree path = λ k. if same_path k path then None else tree k
 -- the shard, with a record that comes back to it
 abbrev pub with_back : Shard → HotRecord → Shard
 with_back shard found =
-    record shard { records = with_record shard.records (key_path false found.key) (values.Blob found.value) }
+    record shard { records = with_record shard.records (hot_path found) (values.Blob found.value) }
 
 -- The links are the chain to the transfer's key. A record that comes back stands in the shard for that.
 abbrev pub AreLinks : Shard → Transfer → List Link → Type 0
 AreLinks shard (demotes found) links =
-    IsChain (tree_of (with_back shard found)) (key_path false found.key) shard.frontier shard.value links
+    IsChain (tree_of (with_back shard found)) (hot_path found) shard.frontier shard.value links
 AreLinks shard (promotes key) links =
-    IsChain (tree_of shard) (key_path false key) shard.frontier shard.value links
+    IsChain (tree_of shard) (key_path_in shard key) shard.frontier shard.value links
 
 -- ---- the commands
 
@@ -71,6 +71,7 @@ commands_by stage (promotes key) links = visit_but_last stage.shard.frontier lin
 -- the record that becomes hot
 abbrev pub promoted_record : ℕ → Stage → ℕ → List Link → HotRecord
 promoted_record worker stage key links = record {
+  wide = wide_in stage.shard;
   key = key;
   value = data_of (last_value stage.shard.value links);
   stamp = (giving stage.clock).at;
@@ -84,7 +85,7 @@ shard_without digest shard key links =
     let last = last_value shard.value links in
     record shard {
       value = closed_value digest true shard.frontier shard.value links last;
-      records = without_record (closed_records digest true shard.records links last) (key_path false key);
+      records = without_record (closed_records digest true shard.records links last) (key_path_in shard key);
     }
 
 -- The place of a record that came back becomes vacant, and one that becomes hot takes the lowest vacant place.

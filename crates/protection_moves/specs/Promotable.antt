@@ -1,9 +1,9 @@
 -- The keys that are promotable, read off the records one by one.
 use Rattle.std.specs.Prelude.{◌≡◌, ℕ, ◌<◌, ◌&&◌, ◌||◌, Bool, false, List, [], ◌∷◌, ◌++◌, take, Option, Some, None, is_none, nat_lt, if◌then◌else◌}
 use Rattle.std.specs.List.{AllByRecursion}
-use Rattle.tree_keys.specs.Path.{tree_of, is_data, key_path, key_of, same_bit, same_path, side}
+use Rattle.tree_keys.specs.Path.{tree_of, is_data, key_of, same_bit, same_path, side}
 use Rattle.host_shard.specs.declared.record.Record.{Record}
-use Rattle.host_shard.specs.Content.{Content, cold, hot, vacant}
+use Rattle.host_shard.specs.Content.{hot_path, Content, cold, hot, vacant}
 use Rattle.host_shard.specs.Records.{Listed}
 use Rattle.protection_moves.specs.Stage.{Stage}
 use Rattle.protection_moves.specs.Transfer.{ArePromotable}
@@ -12,7 +12,7 @@ use Rattle.protection_moves.specs.Transfer.{ArePromotable}
 abbrev pub is_hot : List Bool → List Content → Bool
 is_hot path [] = false
 is_hot path (cold shard ∷ places) = is_hot path places
-is_hot path (hot found ∷ places) = same_path (key_path false found.key) path || is_hot path places
+is_hot path (hot found ∷ places) = same_path (hot_path found) path || is_hot path places
 is_hot path (vacant ∷ places) = is_hot path places
 
 -- the key of a data path of this tree
@@ -24,7 +24,7 @@ abbrev pub promotable_key : ℕ → List Bool → List Content → List Bool →
 promotable_key least frontier places path kept =
     if nat_lt kept.touches least then None
     else if is_none (side frontier path) || is_hot path places then None
-    else key_in false path
+    else key_in (tree_of frontier) path
 
 abbrev pub listed_key : Option ℕ → List ℕ
 listed_key None = []

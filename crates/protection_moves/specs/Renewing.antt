@@ -11,6 +11,7 @@ use Rattle.protection_moves.specs.Stage.{replaced}
 -- a hot record once this worker took it in and handed it out again
 abbrev pub renewed_record : ℕ → Reading → HotRecord → HotRecord
 renewed_record worker clock found = record {
+  wide = found.wide;
   key = found.key;
   value = found.value;
   stamp = (renewing clock found.stamp).at;

@@ -1,11 +1,10 @@
 -- A shard with its hot places, as it stands before, within and after a move.
 use Rattle.std.specs.Prelude.{ℕ, suc, ◌==◌, Bool, false, not, List, [], ◌∷◌, map, filter, nat_lt, if◌then◌else◌}
-use Rattle.tree_keys.specs.Path.{key_path}
 use Rattle.lamport_clocks.specs.Reading.{Reading}
 use Rattle.stamp_order.specs.InOrder.{in_order}
 use Rattle.host_shard.specs.declared.content.HotRecord.{HotRecord}
 use Rattle.host_shard.specs.Shard.{Shard}
-use Rattle.host_shard.specs.Content.{Content, cold, hot, vacant}
+use Rattle.host_shard.specs.Content.{hot_path, Content, cold, hot, vacant}
 
 -- a shard, what its hot places hold, and the clock of the worker that moves it
 pub record Stage : Type 0 where
@@ -22,7 +21,7 @@ hot_records (vacant ∷ places) = hot_records places
 
 -- the paths of their keys
 abbrev pub hot_paths : List Content → List (List Bool)
-hot_paths places = map (λ found. key_path false found.key) (hot_records places)
+hot_paths places = map hot_path (hot_records places)
 
 -- how many hot places are vacant
 abbrev pub vacancies : List Content → ℕ

@@ -1,10 +1,11 @@
 -- Which keys become hot or cease to be at a close.
-use Rattle.std.specs.Prelude.{◌↔◌, ℕ, ◌+◌, ◌<◌, ◌≤◌, ◌^◌, false, List, [], ◌∷◌, ◌++◌, Option, Some, None, map, take, length, AllPairs}
+use Rattle.std.specs.Prelude.{◌↔◌, ℕ, ◌+◌, ◌<◌, ◌≤◌, ◌^◌, List, [], ◌∷◌, ◌++◌, Option, Some, None, map, take, length, AllPairs}
 use Rattle.std.specs.List.{IsAmong}
-use Rattle.tree_keys.specs.Path.{key_path, key_bits}
+use Rattle.tree_keys.specs.Path.{key_bits}
 use Rattle.lamport_clocks.specs.Reading.{Reading}
 use Rattle.host_shard.specs.declared.content.HotRecord.{HotRecord}
 use Rattle.host_shard.specs.Mirrors.{IsKeyOf}
+use Rattle.host_shard.specs.Shard.{key_path_in, wide_in}
 use Rattle.host_plan.specs.Moments.{taking, giving}
 use Rattle.protection_moves.specs.Stage.{Stage, hot_paths, vacancies, touched_in, untouched_in}
 use Rattle.protection_moves.specs.Renewing.{renewing_each}
@@ -16,10 +17,10 @@ pub data Transfer : Type 0 where
 
 -- a key of the shard that isn't hot was touched this often at least in the epoch that closes
 pub record IsTouchedOften (stage : Stage) (threshold key : ℕ) : Type 0 where
-  pub in_range : key < 2 ^ key_bits false
-  pub own : IsKeyOf stage.shard (key_path false key)
-  pub cold : IsAmong (hot_paths stage.places) (key_path false key) → ⊥
-  pub often : threshold ≤ stage.shard.touches (key_path false key)
+  pub in_range : key < 2 ^ key_bits (wide_in stage.shard)
+  pub own : IsKeyOf stage.shard (key_path_in stage.shard key)
+  pub cold : IsAmong (hot_paths stage.places) (key_path_in stage.shard key) → ⊥
+  pub often : threshold ≤ stage.shard.touches (key_path_in stage.shard key)
 
 -- where a threshold is given, the key is to become hot if there is room
 abbrev pub IsPromotable : Stage → Option ℕ → ℕ → Type 0

@@ -68,7 +68,7 @@ pub(crate) fn begun(clock: &Clock, records: &[HotRecord], stamp: Stamp) -> Optio
 }
 
 // The clock once these records came back, these keys became hot and the frontier was handed out, if that is not past the end.
-pub(crate) fn ended(clock: &Clock, back: &[HotRecord], keys: &[u64]) -> Option<Clock>
+pub(crate) fn ended(clock: &Clock, back: &[HotRecord], keys: &[u128]) -> Option<Clock>
     requires open { AllByRecursion (λ found. IsTrue (is_open clock.now found.stamp.epoch)) back.now }
     ensures ended { IfSome result (λ later. later
         ≡ giving (clock_by_each clock.now (map demotes back.now ++ map promotes keys.now))) }
@@ -86,7 +86,7 @@ pub(crate) fn ended(clock: &Clock, back: &[HotRecord], keys: &[u64]) -> Option<C
 }
 
 // The clock once these keys became hot and the frontier was handed out, if that is not past the end.
-fn handed_out(clock: &Clock, keys: &[u64]) -> Option<Clock>
+fn handed_out(clock: &Clock, keys: &[u128]) -> Option<Clock>
     ensures handed_out { IfSome result (λ later. later ≡ giving (clock_by_each clock.now (map promotes keys.now))) }
     ensures within { IfSome result (λ later. later.at.counter ≤ clock.now.end) }
     ensures past { IfNone result (clock.now.end < (giving (clock_by_each clock.now (map promotes keys.now))).at.counter) }

@@ -1,17 +1,17 @@
 //! Hot records that were not touched: each comes back to its shard.
-ghost use Rattle.std.specs.Prelude.{◌≡◌, ◌<◌, ◌≤◌, ℕ, false, List, Bool, ◌++◌, length, map, None, IfOk, OnOk, OnErr, IsTrue};
+ghost use Rattle.std.specs.Prelude.{◌≡◌, ◌<◌, ◌≤◌, ◌^◌, ℕ, List, Bool, ◌++◌, length, map, None, IfOk, OnOk, OnErr, IsTrue};
 ghost use Rattle.std.specs.List.{AllByRecursion};
-ghost use Rattle.tree_keys.specs.Path.{key_path};
 ghost use Rattle.record_text.specs.Longest.{longest_blob};
 ghost use Rattle.arrayvec.specs.ArrayVec.{array_vec_len};
+ghost use Rattle.tree_keys.specs.Path.{key_bits};
 ghost use Rattle.lamport_clocks.specs.Clock.{is_open};
 ghost use Rattle.record_text.specs.declared.value.Value.TheVariants as values;
 ghost use Rattle.record_text.specs.Value.{IsOf};
 ghost use Rattle.log_codec.specs.Command.{IsPathCommand};
 ghost use Rattle.log_codec.specs.declared.command.Command.TheVariants.{EvictB};
-ghost use Rattle.host_shard.specs.Content.{Content};
+ghost use Rattle.host_shard.specs.Content.{hot_path, Content};
 ghost use Rattle.host_shard.specs.Mirrors.{IsShard, IsKeyOf};
-ghost use Rattle.host_shard.specs.Shard.{Shard as ShownShard};
+ghost use Rattle.host_shard.specs.Shard.{wide_in, key_path_in, Shard as ShownShard};
 ghost use Rattle.host_shard.specs.Shown.{shown};
 ghost use Rattle.host_plan.specs.Moments.{giving};
 ghost use Rattle.protection_moves.specs.Transfer.{demotes, promotes, clock_by_each};
@@ -35,15 +35,14 @@ use log_codec::Command;
 use record_hash::Digests;
 use record_text::Value;
 use std::alloc::Global;
-use tree_keys::Path;
 
 // Gives a hot record a place among the records of its shard. For want of memory all is as before.
 fn put_back(shard: &mut Shard, found: &HotRecord) -> Result<(), Memory>
     ensures back { OnOk result (shown shard.new ≡ with_back (shown shard.old) found.now) }
-    ensures kind { OnOk result (IsOf longest_blob (key_path false found.now.key) (values.Blob found.now.value)) }
+    ensures kind { OnOk result (IsOf longest_blob (hot_path found.now) (values.Blob found.now.value)) }
     ensures as_before { OnErr result (shown shard.new ≡ shown shard.old) }
 {
-    let path = Path::of_key(found.key);
+    let path = found.path();
     shard.records.open(&path)?;
     shard.records.set(&path, Value::Blob(found.value.copy()));
     Ok(())
@@ -51,10 +50,10 @@ fn put_back(shard: &mut Shard, found: &HotRecord) -> Result<(), Memory>
 
 // Takes its place away again: its path has what it had.
 fn take_away(shard: &mut Shard, found: &HotRecord, was: &Option<Value>)
-    ensures as_before { (old : ShownShard) → shown shard.old ≡ with_back old found.now → was.now ≡ old.records (key_path false found.now.key)
-        → (was.now ≡ None → old.touches (key_path false found.now.key) ≡ 0) → shown shard.new ≡ old }
+    ensures as_before { (old : ShownShard) → shown shard.old ≡ with_back old found.now → was.now ≡ old.records (hot_path found.now)
+        → (was.now ≡ None → old.touches (hot_path found.now) ≡ 0) → shown shard.new ≡ old }
 {
-    restore_one(&mut shard.records, &Path::of_key(found.key), was);
+    restore_one(&mut shard.records, &found.path(), was);
 }
 
 // Rehashes a shard behind the chain to a hot record that comes back, which has a place among its records already.
@@ -66,7 +65,7 @@ fn rehash_back<D: Digests>(
     commands: &mut Vec<Command>,
 ) -> Result<Saved, Memory>
     requires fits { IsShard longest_blob (shown shard.old) }
-    requires own { IsKeyOf (shown shard.old) (key_path false found.now.key) }
+    requires own { IsKeyOf (shown shard.old) (hot_path found.now) }
     ensures back { IfOk result (λ saved. (old : ShownShard) → shown shard.old ≡ with_back old found.now
         → IsReturning (D.functions d.now).digest found.now old commands.old.items commands.new.items (shown shard.new)) }
     ensures saved { IfOk result (λ saved. IsSavedOf (shown shard.old) saved (shown shard.new)) }
@@ -94,12 +93,13 @@ pub(crate) fn demote_each<D: Digests>(
     worker: u16,
     clock: &Clock,
     back: &[HotRecord],
-    keys: &[u64],
+    keys: &[u128],
     commands: &mut Vec<Command>,
 ) -> Result<ArrayVec<HotRecord, HOT_PLACES>, Memory>
     requires fits { IsShard longest_blob (shown shard.old) }
-    requires own_back { AllByRecursion (λ found. IsKeyOf (shown shard.old) (key_path false found.key)) back.now }
-    requires own { AllByRecursion (λ key. IsKeyOf (shown shard.old) (key_path false key)) keys.now }
+    requires own_back { AllByRecursion (λ found. IsKeyOf (shown shard.old) (hot_path found)) back.now }
+    requires own { AllByRecursion (λ key. IsKeyOf (shown shard.old) (key_path_in (shown shard.old) key)) keys.now }
+    requires in_range { AllByRecursion (λ key. key < 2 ^ key_bits (wide_in (shown shard.old))) keys.now }
     requires rising { AreRising keys.now }
     requires few { length keys.now ≤ 4 }
     requires open { AllByRecursion (λ found. IsTrue (is_open clock.now found.stamp.epoch)) back.now }
@@ -123,7 +123,7 @@ pub(crate) fn demote_each<D: Digests>(
         Some(next) => next,
         None => unreachable!(),
     };
-    let was = kept_of(&shard.records, &Path::of_key(found.key));
+    let was = kept_of(&shard.records, &found.path());
     put_back(shard, found)?;
     let saved = match rehash_back(alloc, d, shard, found, commands) {
         Ok(saved) => saved,

@@ -90,7 +90,7 @@ fn put(records: &mut ArrayVec<HotRecord, HOT_PLACES>, new: HotRecord)
 }
 
 // Puts a record, or nothing, in the place of a key.
-pub(crate) fn replace(places: &mut [Content], key: u64, new: Option<&HotRecord>)
+pub(crate) fn replace(places: &mut [Content], key: u128, new: Option<&HotRecord>)
     ensures replaced { map shown_content places.new ≡ replaced key (content_of (option_copied new.entry)) (map shown_content places.old) }
 {
     for content in places.iter_mut() {
@@ -99,7 +99,7 @@ pub(crate) fn replace(places: &mut [Content], key: u64, new: Option<&HotRecord>)
 }
 
 // Puts a record, or nothing, in a place if that is the key's.
-fn replace_at(content: &mut Content, key: u64, new: Option<&HotRecord>)
+fn replace_at(content: &mut Content, key: u128, new: Option<&HotRecord>)
     ensures replaced { shown_content content.new ≡ replaced_at key (content_of (option_copied new.entry)) (shown_content content.old) }
 {
     if is_hot_at(content, key) {
@@ -167,7 +167,7 @@ pub(crate) fn place_each(places: &mut [Content], records: &[HotRecord])
 }
 
 // Whether a content is the record of this hot key.
-fn is_hot_at(content: &Content, key: u64) -> bool
+fn is_hot_at(content: &Content, key: u128) -> bool
     ensures value { result ≡ is_hot_at key (shown_content content.now) }
 {
     match content {

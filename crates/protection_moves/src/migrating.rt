@@ -1,12 +1,12 @@
 //! How one shard is moved at a close: `migrate`.
-ghost use Rattle.std.specs.Prelude.{◌≡◌, ◌↔◌, ◌<◌, ◌≤◌, ℕ, IfOk, IfSome, OnErr, IsTrue, Err, length, false, map};
+ghost use Rattle.std.specs.Prelude.{◌≡◌, ◌↔◌, ◌<◌, ◌≤◌, ℕ, IfOk, IfSome, OnErr, IsTrue, Err, length, map};
 ghost use Rattle.std.specs.List.{AllByRecursion};
-ghost use Rattle.tree_keys.specs.Path.{key_path};
 ghost use Rattle.lamport_clocks.specs.Clock.{is_open};
 ghost use Rattle.record_text.specs.Longest.{longest_blob};
 ghost use Rattle.log_codec.specs.Command.{IsPathCommand};
 ghost use Rattle.host_shard.specs.Mirrors.{IsShard, IsKeyOf};
 ghost use Rattle.host_shard.specs.Shown.{shown, shown_content};
+ghost use Rattle.host_shard.specs.Content.{hot_path};
 ghost use Rattle.protection_moves.specs.declared.fault.MoveFault.TheVariants.{ClockEnd};
 ghost use Rattle.protection_moves.specs.Stage.{hot_records};
 ghost use Rattle.protection_moves.specs.Move.{IsMove, IsPastEnd};
@@ -42,7 +42,7 @@ pub fn migrate<D: Digests>(
     requires places { length hot.old ≤ 4 }
     requires hot_open { AllByRecursion (λ found. IsTrue (is_open clock.old found.stamp.epoch))
         (hot_records (map shown_content hot.old)) }
-    requires hot_own { AllByRecursion (λ found. IsKeyOf (shown shard.old) (key_path false found.key))
+    requires hot_own { AllByRecursion (λ found. IsKeyOf (shown shard.old) (hot_path found))
         (hot_records (map shown_content hot.old)) }
     requires threshold { IfSome threshold (λ touches. 0 < touches) }
     ensures moved { IfOk result (λ commands. IsMove (D.functions d.now).digest worker threshold

@@ -1,11 +1,12 @@
 //! Which keys become hot: those that were touched often enough, in their order.
-ghost use Rattle.std.specs.Prelude.{◌≡◌, ◌<◌, ◌≤◌, length, false, map, IfSome, Some};
+ghost use Rattle.std.specs.Prelude.{◌≡◌, ◌<◌, ◌≤◌, ◌^◌, length, map, IfSome, Some};
 ghost use Rattle.std.specs.List.{AllByRecursion};
-ghost use Rattle.tree_keys.specs.Path.{key_path};
 ghost use Rattle.arrayvec.specs.ArrayVec.{array_vec_len};
+ghost use Rattle.tree_keys.specs.Path.{key_bits};
 ghost use Rattle.lamport_clocks.specs.Reading.{Reading};
 ghost use Rattle.host_shard.specs.Mirrors.{IsKeyOf};
 ghost use Rattle.host_shard.specs.Shown.{shown, shown_content};
+ghost use Rattle.host_shard.specs.Shard.{wide_in, key_path_in};
 ghost use Rattle.protection_moves.specs.Promotable.{key_in, promotable_key, is_hot, AreFirstPromotable, AreRising};
 ghost use Rattle.protection_moves.specs.Shown.{shown_stage};
 
@@ -23,21 +24,19 @@ fn is_hot(places: &[Content], path: &Path) -> bool
         None => return false,
     };
     match first {
-        Content::Hot(found) => Path::of_key(found.key).is_same(path) || is_hot(rest, path),
+        Content::Hot(found) => found.path().is_same(path) || is_hot(rest, path),
         _ => is_hot(rest, path),
     }
 }
 
-// The key of a data path of the tree whose keys have 64 bits.
-fn key_in(path: &Path) -> Option<u64>
-    ensures value { result ≡ key_in false path.now }
+// The key of a data path of this tree.
+fn key_in(wide: bool, path: &Path) -> Option<u128>
+    ensures value { result ≡ key_in wide path.now }
 {
-    if path.is_wide() {
-        return None;
-    }
-    match path.key() {
-        Some(key) => Some(key as u64),
-        None => None,
+    if path.is_wide() == wide {
+        path.key()
+    } else {
+        None
     }
 }
 
@@ -48,7 +47,7 @@ fn promotable_key(
     least: u32,
     path: &Path,
     kept: &Record,
-) -> Option<u64>
+) -> Option<u128>
     ensures value { result ≡ promotable_key least shard.now.frontier (map shown_content places.now) path.now kept.now }
 {
     if kept.touches < u64::from(least) {
@@ -57,7 +56,7 @@ fn promotable_key(
     if shard.frontier.side(path).is_none() || is_hot(places, path) {
         return None;
     }
-    key_in(path)
+    key_in(shard.frontier.is_wide(), path)
 }
 
 // The first keys that were touched so often, at most so many. It goes through the records until there is no room.
@@ -66,11 +65,12 @@ fn touched_often(
     places: &[Content],
     least: u32,
     room: usize,
-) -> ArrayVec<u64, HOT_PLACES>
+) -> ArrayVec<u128, HOT_PLACES>
     requires some { 0 < least }
     requires few { room ≤ 4 }
     ensures first { (clock : Reading) → AreFirstPromotable (shown_stage shard.now places.now clock) (Some least) room result.items }
-    ensures own { AllByRecursion (λ key. IsKeyOf (shown shard.now) (key_path false key)) result.items }
+    ensures own { AllByRecursion (λ key. IsKeyOf (shown shard.now) (key_path_in (shown shard.now) key)) result.items }
+    ensures in_range { AllByRecursion (λ key. key < 2 ^ key_bits (wide_in (shown shard.now))) result.items }
     ensures rising { AreRising result.items }
 {
     let mut keys = ArrayVec::new();
@@ -91,11 +91,12 @@ pub(crate) fn promotable_keys(
     places: &[Content],
     threshold: Option<u32>,
     room: usize,
-) -> ArrayVec<u64, HOT_PLACES>
+) -> ArrayVec<u128, HOT_PLACES>
     requires some { IfSome threshold (λ least. 0 < least) }
     requires few { room ≤ 4 }
     ensures first { (clock : Reading) → AreFirstPromotable (shown_stage shard.now places.now clock) threshold room result.items }
-    ensures own { AllByRecursion (λ key. IsKeyOf (shown shard.now) (key_path false key)) result.items }
+    ensures own { AllByRecursion (λ key. IsKeyOf (shown shard.now) (key_path_in (shown shard.now) key)) result.items }
+    ensures in_range { AllByRecursion (λ key. key < 2 ^ key_bits (wide_in (shown shard.now))) result.items }
     ensures rising { AreRising result.items }
 {
     match threshold {

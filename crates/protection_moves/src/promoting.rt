@@ -1,14 +1,15 @@
 //! Keys that become hot: the record of each leaves its shard.
-ghost use Rattle.std.specs.Prelude.{◌≡◌, ◌<◌, ◌≤◌, ℕ, false, List, [], ◌∷◌, Bool, ◌++◌, length, map, IfOk, OnOk, OnErr};
+ghost use Rattle.std.specs.Prelude.{◌≡◌, ◌<◌, ◌≤◌, ◌^◌, ℕ, List, [], ◌∷◌, Bool, ◌++◌, length, map, IfOk, OnOk, OnErr};
 ghost use Rattle.std.specs.List.{AllByRecursion};
-ghost use Rattle.tree_keys.specs.Path.{key_path};
 ghost use Rattle.record_text.specs.Longest.{longest_blob};
 ghost use Rattle.arrayvec.specs.ArrayVec.{array_vec_len};
+ghost use Rattle.tree_keys.specs.Path.{key_bits};
 ghost use Rattle.log_codec.specs.Command.{IsPathCommand};
 ghost use Rattle.log_codec.specs.declared.command.Command.TheVariants.{EvictB};
 ghost use Rattle.host_shard.specs.Content.{Content};
 ghost use Rattle.host_shard.specs.Mirrors.{IsShard, IsKeyOf};
 ghost use Rattle.host_shard.specs.Shown.{shown};
+ghost use Rattle.host_shard.specs.Shard.{wide_in, key_path_in};
 ghost use Rattle.host_plan.specs.Moments.{giving};
 ghost use Rattle.protection_moves.specs.Transfer.{promotes, clock_by_each};
 ghost use Rattle.protection_moves.specs.Lending.{IsLending};
@@ -102,11 +103,11 @@ fn promote<D: Digests>(
     shard: &mut Shard,
     worker: u16,
     stamp: Stamp,
-    key: u64,
+    key: u128,
     commands: &mut Vec<Command>,
 ) -> Result<Promotion, Memory>
     requires fits { IsShard longest_blob (shown shard.old) }
-    requires own { IsKeyOf (shown shard.old) (key_path false key) }
+    requires own { IsKeyOf (shown shard.old) (key_path_in (shown shard.old) key) }
     ensures lending { IfOk result (λ promotion. IsLending (D.functions d.now).digest worker stamp key (shown shard.old) commands.old.items
         promotion.hot commands.new.items (shown shard.new)) }
     ensures saved { IfOk result (λ promotion. IsSavedOf (shown shard.old) promotion.saved (shown shard.new)) }
@@ -120,15 +121,16 @@ fn promote<D: Digests>(
     let along = links.as_slice();
     let saved = save(alloc, shard, along)?;
     let value = data_of(last_value(&shard.value, along));
-    log_descent(commands, &shard.frontier, along, &Turn::BecomesHot(stamp))?;
-    lend(d, shard, along)?;
     let hot = HotRecord {
+        wide: shard.frontier.is_wide(),
         key,
         value,
         stamp,
         evictor: worker,
         touches: 0,
     };
+    log_descent(commands, &shard.frontier, along, &Turn::BecomesHot(stamp))?;
+    lend(d, shard, along)?;
     Ok(Promotion { hot, saved })
 }
 
@@ -140,11 +142,12 @@ pub(crate) fn promote_each<D: Digests>(
     shard: &mut Shard,
     worker: u16,
     clock: &Clock,
-    keys: &[u64],
+    keys: &[u128],
     commands: &mut Vec<Command>,
 ) -> Result<ArrayVec<HotRecord, HOT_PLACES>, Memory>
     requires fits { IsShard longest_blob (shown shard.old) }
-    requires own { AllByRecursion (λ key. IsKeyOf (shown shard.old) (key_path false key)) keys.now }
+    requires own { AllByRecursion (λ key. IsKeyOf (shown shard.old) (key_path_in (shown shard.old) key)) keys.now }
+    requires in_range { AllByRecursion (λ key. key < 2 ^ key_bits (wide_in (shown shard.old))) keys.now }
     requires rising { AreRising keys.now }
     requires few { length keys.now ≤ 4 }
     requires within { (giving (clock_by_each clock.now (map promotes keys.now))).at.counter ≤ clock.now.end }
@@ -167,10 +170,11 @@ pub(crate) fn promote_each<D: Digests>(
         Some(parts) => parts,
         None => return handed_out(commands, shard.frontier, next.at()),
     };
+    let path = shard.path_of(*key);
     let Promotion { hot, saved } = promote(alloc, d, shard, worker, next.at(), *key, commands)?;
     match promote_each(alloc, d, shard, worker, &next, rest, commands) {
         Ok(mut others) => {
-            shard.records.remove(&Path::of_key(*key));
+            shard.records.remove(&path);
             others.insert(0, hot);
             Ok(others)
         }

@@ -126,6 +126,7 @@ pub(crate) fn renew_places(
         match renewed(clock, first.stamp) {
             Some(next) => {
                 let new = HotRecord {
+                    wide: first.wide,
                     key: first.key,
                     value: first.value.copy(),
                     stamp: next.at(),

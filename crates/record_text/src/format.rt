@@ -5,16 +5,16 @@ ghost use Rattle.record_text.specs.Longest.{longest_of};
 
 use lamport_clocks::Header;
 
-/// The tree of a bundle with this header: that whose keys have 64 bits.
-pub fn wide_of(_header: &Header) -> bool
-    ensures value { result ≡ wide_of _header.now }
+/// The tree of a bundle with this header: whether its keys have 128 bits.
+pub fn wide_of(header: &Header) -> bool
+    ensures value { result ≡ wide_of header.now }
 {
-    false
+    header.bits == 128
 }
 
 /// The most bytes of a data value in a bundle with this header.
-pub fn longest_of(_header: &Header) -> u8
-    ensures value { result ≡ longest_of _header.now }
+pub fn longest_of(header: &Header) -> u8
+    ensures value { result ≡ longest_of header.now }
 {
-    64
+    if header.version < 3 { 64 } else { 255 }
 }

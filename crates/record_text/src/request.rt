@@ -8,14 +8,14 @@ use crate::value::Blob;
 pub struct Request {
     /// Whether it is a put.
     pub put: bool,
-    pub key: u64,
+    pub key: u128,
     /// What is put.
     pub value: Blob,
 }
 
 impl Request {
     /// A get or a put of a key, with what is put.
-    pub const fn new(put: bool, key: u64, value: Blob) -> Self
+    pub const fn new(put: bool, key: u128, value: Blob) -> Self
         ensures value { result ≡ record { put = put; key = key; value = value } }
     {
         Request { put, key, value }

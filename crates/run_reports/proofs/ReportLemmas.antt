@@ -1,8 +1,9 @@
 -- What a check makes of the logs of the shipped host.
-use Rattle.std.proofs.Common.{◌≡◌, ℕ, zero, suc, ◌+◌, ◌<◌, ◌≤◌, ◌^◌, ◌==◌, false, List, [], ◌∷◌, ◌++◌, map, length, get_or, take, Some, None, sym, ◌∙◌, ap, subst, arith, Bool}
+use Rattle.std.proofs.Common.{◌≡◌, ℕ, zero, suc, ◌+◌, ◌<◌, ◌≤◌, ◌^◌, ◌==◌, true, false, List, [], ◌∷◌, ◌++◌, map, length, get_or, take, Some, None, sym, ◌∙◌, ap, subst, arith, Bool}
 use Rattle.std.specs.List.{AllByRecursion}
 use Rattle.std.proofs.lemmas.Bool.{cond_both}
 use Rattle.std.proofs.lemmas.Grind.{flat_map-append}
+use Rattle.tree_keys.specs.Path.{key_bits}
 use Rattle.lamport_clocks.specs.Header.{IsHeader}
 use Rattle.record_hash.specs.Functions.{DigestFunctions}
 use Rattle.record_text.specs.declared.exhibit.Exhibit.TheVariants.{Clean}
@@ -49,12 +50,17 @@ use Rattle.run_reports.proofs.CommandLemmas.{IsKind, IsGood, accepted_spelled}
 use Rattle.run_reports.proofs.TextLemmas.{all_of_kind, AreReadBack, all_read_back, histories_read_back, none_among, end_done}
 use Rattle.run_reports.proofs.RestLemmas.{LeftAtRest, logs_rest, shipped_is_bare}
 
+-- keys of either tree have bits
+some_bits : (wide : Bool) → 0 < key_bits wide
+some_bits true = omega arith
+some_bits false = omega arith
+
 module _ {C R : Type 0} (host : Host C R) where
   -- a verifier begins with nothing, or with the root
   opening_good : (number : ℕ) → host.header.first < 2 ^ 32 → IsHeader host.header → IsGood (longest_of host.header) (opening number host.header)
   opening_good number first is = record {
     kinds = cond_both (number == 0) (root_entry (wide_of host.header) ∷ []) [] (AllByRecursion (IsKind (longest_of host.header)))
-        (λ here. ((omega arith, tt, tt), tt)) (λ here. tt);
+        (λ here. ((some_bits (wide_of host.header), tt, tt), tt)) (λ here. tt);
     narrow = opening_narrow number host.header first (omega (arith, is.end));
   }
 

@@ -1,4 +1,4 @@
--- Logs whose commands have texts are read back, in either version, and none of them is refused.
+-- Logs whose commands have texts are read back, in any version, and none of them is refused.
 use Rattle.std.proofs.Common.{◌≡◌, ℕ, zero, suc, ◌+◌, Bool, true, false, List, [], ◌∷◌, map, length, replicate, min, Option, None, refl, sym, ◌∙◌, ap, nat_lt, if◌then◌else◌, arith}
 use Rattle.record_text.specs.Longest.{longest_of}
 use Rattle.record_text.specs.Format.{LogFormat, format_of}

@@ -1,4 +1,4 @@
-//! What a check makes of the bytes of the shipped host's logs, in either version and behind whatever events. The functions
+//! What a check makes of the bytes of the shipped host's logs, in any version and behind whatever events. The functions
 //! do nothing: their contracts are the laws.
 ghost use Rattle.std.specs.Prelude.{◌≡◌, ℕ, suc, ◌<◌, ◌≤◌, false, List, [], length, map, take, replicate, get_or, Some, None, ◌^◌};
 ghost use Rattle.record_hash.specs.Functions.{DigestFunctions};

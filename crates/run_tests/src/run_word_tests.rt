@@ -16,7 +16,10 @@ fastver run --key 00000000000000000000000000000000 --verifiers 1 --shards 3 --lo
 fastver run --key 000000000000000000000000000000 --verifiers 1 --shards 2 --logs x
 fastver run --key 00000000000000000000000000000000 --verifiers 65 --shards 2 --logs x
 fastver run --key 00000000000000000000000000000000 --verifiers 1 --shards 2 --logs x --counter 16777216
-fastver run --key 00000000000000000000000000000000 --verifiers 1 --shards 2 --logs x --format 3
+fastver run --key 00000000000000000000000000000000 --verifiers 1 --shards 2 --logs x --format 4
+fastver run --key 00000000000000000000000000000000 --verifiers 1 --shards 2 --logs x --bits 64
+fastver run --key 00000000000000000000000000000000 --verifiers 1 --shards 2 --logs x --format 2 --bits 128
+fastver run --key 00000000000000000000000000000000 --verifiers 1 --shards 2 --logs x --format 3 --bits 65
 ";
 
 // The words of a line are refused.
@@ -30,7 +33,7 @@ fn assert_refused<R: Threads + Wait + Sync + Abort>(rt: &R, alloc: Global, line:
 
 #[test]
 fn words_are_refused_before_anything_is_read(rt: HostRuntime) {
-    same(&rt, "lines", 0, &REFUSED.lines().count(), &9);
+    same(&rt, "lines", 0, &REFUSED.lines().count(), &12);
     for line in REFUSED.lines() {
         assert_refused(&rt, rt.alloc(), line);
     }

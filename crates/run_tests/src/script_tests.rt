@@ -157,9 +157,32 @@ fn assert_line(rt: &impl Abort, label: &str, status: &Status, line: &str) {
     same(rt, label, 0, &status.line().as_slice(), &line.as_bytes());
 }
 
+// Bad scripts for bundles of version 3, each behind the number of shards and further words.
+const BAD_OF_VERSION_3: &str = "\
+== 2 --format 3 --bits 64 --logs x
+0 put 340282366920938463463374607431768211455 6162
+0 get 5
+-> 6
+bad script line 1 Key
+== 2 --format 3 --logs x
+0 get 5
+0 get 18446744073709551616
+-> 6
+bad script line 2 Key
+== 2 --format 3 --bits 128 --logs x
+0 put 340282366920938463463374607431768211456 6162
+-> 6
+bad script line 1 Key
+";
+
 // A bad script is told by its line, and nothing is written.
-fn assert_bad<R: Threads + Wait + Sync + Abort>(rt: &R, alloc: Global, case: &Case<'_>) {
-    let line = line_of(rt, alloc, "2 --logs x");
+fn assert_bad<R: Threads + Wait + Sync + Abort>(
+    rt: &R,
+    alloc: Global,
+    words: &str,
+    case: &Case<'_>,
+) {
+    let line = line_of(rt, alloc, words);
     let (objects, status) = served(rt, alloc, &line, case.rows, 10);
     assert_written(rt, case.label, 0, &objects, &status, b"", case.status);
     assert_line(rt, case.label, &status, case.report.trim());
@@ -169,7 +192,10 @@ fn assert_bad<R: Threads + Wait + Sync + Abort>(rt: &R, alloc: Global, case: &Ca
 #[test]
 fn bad_scripts_are_refused_before_anything_is_written(rt: HostRuntime) {
     for case in &cases_in(&rt, rt.alloc(), BAD, 7) {
-        assert_bad(&rt, rt.alloc(), case);
+        assert_bad(&rt, rt.alloc(), "2 --logs x", case);
+    }
+    for case in &cases_in(&rt, rt.alloc(), BAD_OF_VERSION_3, 3) {
+        assert_bad(&rt, rt.alloc(), case.label, case);
     }
 }
 
@@ -183,16 +209,29 @@ fn long_put(rt: &impl Abort, alloc: Global, bytes: usize) -> String {
     script
 }
 
-#[test]
-fn a_value_has_64_bytes_at_most(rt: HostRuntime) {
-    let line = line_of(&rt, rt.alloc(), "2");
-    let longest = long_put(&rt, rt.alloc(), 64);
-    let (objects, status) = served(&rt, rt.alloc(), &line, &longest, 10);
-    assert_ended(&rt, "64 bytes", 0, &status, &Status::Done { epochs: 1 });
+// A run with these words takes a value of so many bytes, and none that is longer.
+fn assert_longest<R: Threads + Wait + Sync + Abort>(
+    rt: &R,
+    alloc: Global,
+    words: &str,
+    bytes: usize,
+) {
+    let line = line_of(rt, alloc, words);
+    let longest = long_put(rt, alloc, bytes);
+    let (objects, status) = served(rt, alloc, &line, &longest, 10);
+    assert_ended(rt, words, bytes, &status, &Status::Done { epochs: 1 });
     let length = objects.out.bytes().len();
-    same(&rt, "64 bytes", 0, &length, &(20 + 13 + 128 + 1 + 7));
-    let longer = long_put(&rt, rt.alloc(), 65);
-    let (objects, status) = served(&rt, rt.alloc(), &line, &longer, 10);
-    assert_line(&rt, "65 bytes", &status, "bad script line 1 Hex");
-    objects.assert_wrote(&rt, "65 bytes", 0, b"");
+    same(rt, words, bytes, &length, &(20 + 13 + 2 * bytes + 1 + 7));
+    let longer = long_put(rt, alloc, bytes + 1);
+    let (objects, status) = served(rt, alloc, &line, &longer, 10);
+    assert_line(rt, words, &status, "bad script line 1 Hex");
+    objects.assert_wrote(rt, words, bytes + 1, b"");
+}
+
+#[test]
+fn a_value_is_as_long_as_the_version_allows(rt: HostRuntime) {
+    assert_longest(&rt, rt.alloc(), "2", 64);
+    assert_longest(&rt, rt.alloc(), "2 --format 2", 64);
+    assert_longest(&rt, rt.alloc(), "2 --format 3", 255);
+    assert_longest(&rt, rt.alloc(), "2 --format 3 --bits 128", 255);
 }

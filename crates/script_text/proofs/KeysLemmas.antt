@@ -1,5 +1,5 @@
 -- Keys of a load tell their workers apart: what a key's number is multiplied with has an inverse.
-use Rattle.std.proofs.Common.{◌≡◌, ℕ, ◌+◌, ◌*◌, ◌/◌, ◌%◌, ◌^◌, ◌<◌, ◌≤◌, refl, ap, sym, ◌∙◌, arith}
+use Rattle.std.proofs.Common.{◌≡◌, ℕ, ◌+◌, ◌*◌, ◌/◌, ◌%◌, ◌^◌, ◌<◌, ◌≤◌, ap, sym, ◌∙◌, arith}
 use Rattle.std.proofs.Math.Nat.{mul-add-mod_self_left, mul_comm, mul-le-mul_right, mod-lt, mod-eq_of_lt}
 use Rattle.script_text.specs.declared.shape.Shape.{Shape}
 use Rattle.script_text.specs.Generator.{key_for}

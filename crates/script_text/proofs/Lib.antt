@@ -1,6 +1,7 @@
 -- `SplittingLaws` is what the crates above cite.
 pub mod SplittingLaws
 mod WordLemmas
+mod DecimalLemmas
 mod ScriptLemmas
 mod GeneratorLemmas
 mod KeysLemmas

@@ -5,30 +5,31 @@ use Rattle.std.proofs.lemmas.Bool.{eqb-true}
 use Rattle.std.proofs.lemmas.Bool.Decides.{nat_tests}
 use Rattle.std.proofs.lemmas.List.{append-nil}
 use Rattle.base_words.specs.Steps.{and_then}
+use Rattle.lamport_clocks.specs.declared.header.Header.{Header}
 use Rattle.record_text.specs.declared.cause.Cause.{Cause}
 use Rattle.record_text.specs.declared.cause.Cause.TheVariants.{Shape}
 use Rattle.script_text.specs.declared.task.Task.{Task}
 use Rattle.script_text.specs.declared.task.Line.{Line}
 use Rattle.script_text.specs.declared.task.Line.TheVariants as said
 use Rattle.script_text.specs.Lines.{lines_of, words_of, words_behind}
-use Rattle.script_text.specs.Script.{BadLine, at_line, line_says, lines_say, words_say, with_line, phases_of, script_of, then_line}
+use Rattle.script_text.specs.Script.{BadLine, longest_line, at_line, line_says, lines_say, words_say, with_line, phases_of, script_of, then_line}
 use Rattle.script_text.proofs.SplittingLaws.{words_of-some}
 
 -- ---- a line
 
 -- a line that is not too long says what its words do
-pub line_says-short : (verifiers : ℕ) (line : List ℕ) → length line ≤ 256 → line_says verifiers line ≡ words_say verifiers (words_of line)
+pub line_says-short : (header : Header) (line : List ℕ) → length line ≤ longest_line header → line_says header line ≡ words_say header (words_of line)
 unfolding line_says
-line_says-short verifiers line short = grind (arith, nat_tests)
+line_says-short header line short = grind (arith, nat_tests)
 
 -- five words and more are none of the forms
-pub words_say-more : (verifiers : ℕ) (a b c d : List ℕ) (behind : Option (List ℕ)) → is_some behind ≡ true
-    → words_say verifiers (a ∷ b ∷ c ∷ d ∷ words_behind behind) ≡ Err Shape
+pub words_say-more : (header : Header) (a b c d : List ℕ) (behind : Option (List ℕ)) → is_some behind ≡ true
+    → words_say header (a ∷ b ∷ c ∷ d ∷ words_behind behind) ≡ Err Shape
 unfolding words_say
-words_say-more verifiers a b c d None there = cc
-words_say-more verifiers a b c d (Some line) there =
+words_say-more header a b c d None there = cc
+words_say-more header a b c d (Some line) there =
     let some = words_of-some line in
-    ap (λ words. words_say verifiers (a ∷ b ∷ c ∷ d ∷ words)) some.2
+    ap (λ words. words_say header (a ∷ b ∷ c ∷ d ∷ words)) some.2
 
 -- words one behind another
 pub words_of-four : (line a b c d : List ℕ) (behind1 behind2 behind3 behind4 : Option (List ℕ)) (line1 line2 line3 : List ℕ)
@@ -85,32 +86,32 @@ phases_of-then (line ∷ lines) last =
 -- ---- reading
 
 -- So many lines were read, and these phases are of them; what is left of the bytes says the rest.
-pub record HasRead (verifiers : ℕ) (bytes : List ℕ) (phases : List (List Task)) (number : ℕ) (rest : List ℕ) : Type 0 where
+pub record HasRead (header : Header) (bytes : List ℕ) (phases : List (List Task)) (number : ℕ) (rest : List ℕ) : Type 0 where
   pub lines : List Line
   pub are : phases ≡ phases_of lines
-  pub left : lines_say verifiers 1 (lines_of bytes) ≡ and_then (lines_say verifiers (number + 1) (lines_of rest)) (λ more. Ok (lines ++ more))
+  pub left : lines_say header 1 (lines_of bytes) ≡ and_then (lines_say header (number + 1) (lines_of rest)) (λ more. Ok (lines ++ more))
 
 -- before the first line
-pub read-nothing : (verifiers : ℕ) (bytes : List ℕ) → HasRead verifiers bytes ([] ∷ []) 0 bytes
+pub read-nothing : (header : Header) (bytes : List ℕ) → HasRead header bytes ([] ∷ []) 0 bytes
 unfolding phases_of
-read-nothing verifiers bytes = record { lines = []; are = refl; left = go (lines_say verifiers 1 (lines_of bytes)) } where
+read-nothing header bytes = record { lines = []; are = refl; left = go (lines_say header 1 (lines_of bytes)) } where
   go : (said : Result (List Line) BadLine) → said ≡ and_then said (λ more. Ok ([] ++ more))
   go (Ok lines) = refl
   go (Err bad) = refl
 
 -- one more line
-pub read-line : (verifiers : ℕ) (bytes : List ℕ) (phases : List (List Task)) (number : ℕ) (rest line behind : List ℕ) (last : Line)
-    → HasRead verifiers bytes phases number rest → lines_of rest ≡ line ∷ lines_of behind → line_says verifiers line ≡ Ok last
-    → HasRead verifiers bytes (then_line phases last) (number + 1) behind
+pub read-line : (header : Header) (bytes : List ℕ) (phases : List (List Task)) (number : ℕ) (rest line behind : List ℕ) (last : Line)
+    → HasRead header bytes phases number rest → lines_of rest ≡ line ∷ lines_of behind → line_says header line ≡ Ok last
+    → HasRead header bytes (then_line phases last) (number + 1) behind
 unfolding lines_say
-read-line verifiers bytes phases number rest line behind last before is says =
+read-line header bytes phases number rest line behind last before is says =
     record {
       lines = before.lines ++ last ∷ [];
       are = ap (λ ps. then_line ps last) before.are ∙ sym (phases_of-then before.lines last);
       left = before.left
-          ∙ ap (λ lines. and_then (lines_say verifiers (number + 1) lines) (λ more. Ok (before.lines ++ more))) is
-          ∙ ap (λ first. and_then (and_then (at_line (number + 1) first) (λ said. and_then (lines_say verifiers (number + 1 + 1) (lines_of behind)) (λ more. Ok (said ∷ more)))) (λ more. Ok (before.lines ++ more))) says
-          ∙ go (lines_say verifiers (number + 1 + 1) (lines_of behind));
+          ∙ ap (λ lines. and_then (lines_say header (number + 1) lines) (λ more. Ok (before.lines ++ more))) is
+          ∙ ap (λ first. and_then (and_then (at_line (number + 1) first) (λ said. and_then (lines_say header (number + 1 + 1) (lines_of behind)) (λ more. Ok (said ∷ more)))) (λ more. Ok (before.lines ++ more))) says
+          ∙ go (lines_say header (number + 1 + 1) (lines_of behind));
     } where
       go : (said : Result (List Line) BadLine)
           → and_then (and_then said (λ more. Ok (last ∷ more))) (λ more. Ok (before.lines ++ more)) ≡ and_then said (λ more. Ok ((before.lines ++ last ∷ []) ++ more))
@@ -118,22 +119,22 @@ read-line verifiers bytes phases number rest line behind last before is says =
       go (Err bad) = refl
 
 -- a line that is refused
-pub read-refused : (verifiers : ℕ) (bytes : List ℕ) (phases : List (List Task)) (number : ℕ) (rest line behind : List ℕ) (cause : Cause)
-    → HasRead verifiers bytes phases number rest → lines_of rest ≡ line ∷ lines_of behind → line_says verifiers line ≡ Err cause
-    → script_of verifiers bytes ≡ Err (record { line = number + 1; cause = cause })
+pub read-refused : (header : Header) (bytes : List ℕ) (phases : List (List Task)) (number : ℕ) (rest line behind : List ℕ) (cause : Cause)
+    → HasRead header bytes phases number rest → lines_of rest ≡ line ∷ lines_of behind → line_says header line ≡ Err cause
+    → script_of header bytes ≡ Err (record { line = number + 1; cause = cause })
 unfolding lines_say
-read-refused verifiers bytes phases number rest line behind cause before is says =
+read-refused header bytes phases number rest line behind cause before is says =
     ap (λ said. and_then said (λ lines. Ok (phases_of lines)))
     (before.left
-    ∙ ap (λ lines. and_then (lines_say verifiers (number + 1) lines) (λ more. Ok (before.lines ++ more))) is
-    ∙ ap (λ first. and_then (and_then (at_line (number + 1) first) (λ said. and_then (lines_say verifiers (number + 1 + 1) (lines_of behind)) (λ more. Ok (said ∷ more)))) (λ more. Ok (before.lines ++ more))) says)
+    ∙ ap (λ lines. and_then (lines_say header (number + 1) lines) (λ more. Ok (before.lines ++ more))) is
+    ∙ ap (λ first. and_then (and_then (at_line (number + 1) first) (λ said. and_then (lines_say header (number + 1 + 1) (lines_of behind)) (λ more. Ok (said ∷ more)))) (λ more. Ok (before.lines ++ more))) says)
 
 -- all lines
-pub read-all : (verifiers : ℕ) (bytes : List ℕ) (phases : List (List Task)) (number : ℕ) (rest : List ℕ) → (length rest == 0) ≡ true
-    → HasRead verifiers bytes phases number rest → script_of verifiers bytes ≡ Ok phases
+pub read-all : (header : Header) (bytes : List ℕ) (phases : List (List Task)) (number : ℕ) (rest : List ℕ) → (length rest == 0) ≡ true
+    → HasRead header bytes phases number rest → script_of header bytes ≡ Ok phases
 unfolding lines_say lines_of
-read-all verifiers bytes phases number (byte ∷ rest) none before = absurd (omega (arith, eqb-true (length (byte ∷ rest)) 0 none))
-read-all verifiers bytes phases number [] none before =
+read-all header bytes phases number (byte ∷ rest) none before = absurd (omega (arith, eqb-true (length (byte ∷ rest)) 0 none))
+read-all header bytes phases number [] none before =
     ap (λ said. and_then said (λ lines. Ok (phases_of lines))) before.left
     ∙ ap (λ lines. Ok (phases_of lines)) (append-nil before.lines)
     ∙ ap Ok (sym before.are)

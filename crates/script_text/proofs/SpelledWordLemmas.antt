@@ -7,7 +7,6 @@ use Rattle.std.specs.Str.{all_ascii_digits, bytes_eq}
 use Rattle.std.specs.Str.Parse.{digits_value}
 use Rattle.std.proofs.lemmas.Bool.{and_parts, cases_lt, eqb-true, or_cases}
 use Rattle.std.proofs.lemmas.Bool.Decides.{nat_tests}
-use Rattle.std.proofs.lemmas.Fmt.{decimal-digits_value}
 use Rattle.std.proofs.lemmas.Slice.Eq.{bytes_eq-Decides}
 use Rattle.hex.specs.Hex.{IsBytes, decode_of, decode_pairs, encode_lower, encode_with, hex_digit_value, lower_digits, pair_value}
 use Rattle.hex.specs.declared.error.FromHexError.{FromHexError}
@@ -15,6 +14,7 @@ use Rattle.hex.proofs.HexLemmas.{decode_of-even, decode_of-ok}
 use Rattle.hex.proofs.Pairs.{cons_byte, decode_pairs-ok_pair}
 use Rattle.script_text.specs.Words.{begins_well, number_in, below, is_lower_digit, is_value, value_in}
 use Rattle.script_text.specs.Text.{value_word}
+use Rattle.script_text.proofs.DecimalLemmas.{decimal-digits_value_wide}
 use Rattle.script_text.proofs.WrittenWordLemmas.{own}
 
 -- ---- numbers
@@ -40,14 +40,14 @@ well-alone (digit ∷ []) well zero_first = refl
 well-alone (digit ∷ next ∷ digits) well zero_first = grind (arith, nat_tests)
 
 -- a number is spelled in decimal
-pub number_in-spelled : (number : ℕ) (word : List ℕ) → number_in word ≡ Some number → number < 2 ^ 64 → word ≡ decimal number
+pub number_in-spelled : (number : ℕ) (word : List ℕ) → number_in word ≡ Some number → number < 10 ^ 64 → word ≡ decimal number
 unfolding number_in
 number_in-spelled number word is small = go (begins_well word && all_ascii_digits word) refl is where
   go : (test : Bool) → (begins_well word && all_ascii_digits word) ≡ test → (if test then Some (digits_value 10 word) else None) ≡ Some number → word ≡ decimal number
   go true tested same =
       let parts = and_parts (begins_well word) (all_ascii_digits word) tested in
       let value : digits_value 10 word ≡ number = cc in
-      sym (decimal-digits_value own word parts.1 (well-some word parts.0) (well-alone word parts.0) (omega arith)) ∙ ap decimal value
+      sym (decimal-digits_value_wide own word parts.1 (well-some word parts.0) (well-alone word parts.0) (omega arith)) ∙ ap decimal value
   go false tested same = cc
 
 -- ---- data values
@@ -127,16 +127,16 @@ lower-encoded i (a ∷ b ∷ rest) bytes lower is =
     go high low high_fits low_fits is_a is_b others (Err fault) found same = cc
 
 -- a data value is spelled by its word
-pub value_in-spelled : (word bytes : List ℕ) → value_in word ≡ Some bytes → (word ≡ value_word bytes) × (length bytes ≤ 64) × IsBytes bytes
+pub value_in-spelled : (longest : ℕ) (word bytes : List ℕ) → value_in longest word ≡ Some bytes → (word ≡ value_word bytes) × (length bytes ≤ longest) × IsBytes bytes
 unfolding value_in
-value_in-spelled word bytes is = point (bytes_eq word (codes ".")) refl is where
-  digits : (bytes : List ℕ) → is_value word ≡ true → decode_of word ≡ Ok bytes → (word ≡ value_word bytes) × (length bytes ≤ 64) × IsBytes bytes
+value_in-spelled longest word bytes is = point (bytes_eq word (codes ".")) refl is where
+  digits : (bytes : List ℕ) → is_value longest word ≡ true → decode_of word ≡ Ok bytes → (word ≡ value_word bytes) × (length bytes ≤ longest) × IsBytes bytes
   digits bytes value decoded =
-      let parts = and_parts (nat_le 2 (length word) && nat_le (length word) 128) (list_all is_lower_digit word) value in
-      let range = and_parts (nat_le 2 (length word)) (nat_le (length word) 128) parts.0 in
+      let parts = and_parts (nat_le 2 (length word) && nat_le (length word) (2 * longest)) (list_all is_lower_digit word) value in
+      let range = and_parts (nat_le 2 (length word)) (nat_le (length word) (2 * longest)) parts.0 in
       let facts = decode_of-ok word bytes decoded in
       let some : 2 ≤ length word = grind (arith, nat_tests) in
-      let few : length word ≤ 128 = grind (arith, nat_tests) in
+      let few : length word ≤ 2 * longest = grind (arith, nat_tests) in
       let spelled = lower-encoded 0 word bytes parts.1 (sym (decode_of-even word facts.0) ∙ decoded) in
       (sym (with_digits bytes (omega (arith, facts.2)) ∙ spelled), omega (arith, facts.2), facts.3)
     where
@@ -144,19 +144,19 @@ value_in-spelled word bytes is = point (bytes_eq word (codes ".")) refl is where
       with_digits [] some = absurd (omega arith)
       with_digits (byte ∷ bytes) some = refl
 
-  decoded_of : (found : Result (List ℕ) FromHexError) → decode_of word ≡ found → is_value word ≡ true → result_ok found ≡ Some bytes → (word ≡ value_word bytes) × (length bytes ≤ 64) × IsBytes bytes
+  decoded_of : (found : Result (List ℕ) FromHexError) → decode_of word ≡ found → is_value longest word ≡ true → result_ok found ≡ Some bytes → (word ≡ value_word bytes) × (length bytes ≤ longest) × IsBytes bytes
   decoded_of (Ok found) decoded value same =
       let all : found ≡ bytes = cc in
       digits bytes value (decoded ∙ ap Ok all)
   decoded_of (Err fault) decoded value same = cc
 
-  other : (test : Bool) → is_value word ≡ test → (if test then result_ok (decode_of word) else None) ≡ Some bytes → (word ≡ value_word bytes) × (length bytes ≤ 64) × IsBytes bytes
+  other : (test : Bool) → is_value longest word ≡ test → (if test then result_ok (decode_of word) else None) ≡ Some bytes → (word ≡ value_word bytes) × (length bytes ≤ longest) × IsBytes bytes
   other true value same = decoded_of (decode_of word) refl value same
   other false value same = cc
 
   point : (test : Bool) → bytes_eq word (codes ".") ≡ test
-      → (if test then Some [] else (if is_value word then result_ok (decode_of word) else None)) ≡ Some bytes → (word ≡ value_word bytes) × (length bytes ≤ 64) × IsBytes bytes
+      → (if test then Some [] else (if is_value longest word then result_ok (decode_of word) else None)) ≡ Some bytes → (word ≡ value_word bytes) × (length bytes ≤ longest) × IsBytes bytes
   point true is_point same =
       let none : bytes ≡ [] = cc in
       rw none ((bytes_eq-Decides word (codes ".")).0 is_point, omega arith, λ place. lit< tt)
-  point false is_point same = other (is_value word) refl same
+  point false is_point same = other (is_value longest word) refl same

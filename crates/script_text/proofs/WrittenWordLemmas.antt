@@ -1,5 +1,5 @@
 -- What is written as a word is read of it, and has no blank and no line feed in it.
-use Rattle.std.proofs.Common.{◌≡◌, ℕ, zero, suc, ◌*◌, ◌/◌, ◌%◌, ◌<◌, ◌≤◌, ◌^◌, ◌==◌, ◌&&◌, Bool, true, false, List, [], ◌∷◌, length, get_or, slice_index, Some, Ok, codes, inl, inr, lit<, lit≤, refl, ap, arith}
+use Rattle.std.proofs.Common.{◌≡◌, ℕ, zero, suc, ◌*◌, ◌/◌, ◌%◌, ◌<◌, ◌≤◌, ◌^◌, ◌==◌, ◌&&◌, Bool, true, false, List, [], ◌∷◌, length, get_or, slice_index, Some, Ok, codes, inl, inr, lit<, refl, ap, arith}
 use Rattle.std.specs.Prelude.{decimal}
 use Rattle.std.specs.Char.{is_ascii_digit}
 use Rattle.std.specs.List.{list_all}
@@ -7,13 +7,14 @@ use Rattle.std.specs.Str.{all_ascii_digits, bytes_eq}
 use Rattle.std.specs.Str.Parse.{digits_value}
 use Rattle.std.proofs.lemmas.Bool.{and_parts, cases_lt}
 use Rattle.std.proofs.lemmas.Bool.Decides.{nat_tests}
-use Rattle.std.proofs.lemmas.Fmt.{decimal_digit, decimal_nonempty, digits_decimal, digits_value-decimal, first_decimal, length-decimal-le}
+use Rattle.std.proofs.lemmas.Fmt.{decimal_digit}
 use Rattle.std.proofs.lemmas.List.Elements.{All-nil, All-cons}
 use Rattle.std.proofs.lemmas.Str.Parse.{IsNumeralModel, numerals_by_value, tells_all_ascii_digits}
 use Rattle.hex.specs.Hex.{IsBytes, decode_of, encode_lower, encode_with, lower_digits}
 use Rattle.hex.proofs.HexLemmas.{decode_of-encode_lower, length-encode_with}
 use Rattle.script_text.specs.Words.{begins_well, number_in, below, is_lower_digit, is_value, value_in}
 use Rattle.script_text.specs.Text.{value_word}
+use Rattle.script_text.proofs.DecimalLemmas.{decimal_nonempty_wide, digits_decimal_wide, digits_value-decimal_wide, first_decimal_wide}
 use Rattle.script_text.proofs.SplittingLaws.{IsOther, IsWithout}
 
 -- std's words for the digits of a number, and for its value
@@ -32,8 +33,8 @@ digits-without byte (digit ∷ digits) low all =
     other : (digit : ℕ) → is_ascii_digit digit ≡ true → (digit == byte) ≡ false
     other digit h = grind (arith, nat_tests)
 
-pub decimal-without : (byte number : ℕ) → byte < 48 → number < 2 ^ 64 → IsWithout byte (decimal number)
-decimal-without byte number low small = digits-without byte (decimal number) low (digits_decimal own number small)
+pub decimal-without : (byte number : ℕ) → byte < 48 → number < 10 ^ 64 → IsWithout byte (decimal number)
+decimal-without byte number low small = digits-without byte (decimal number) low (digits_decimal_wide own number small)
 
 -- a number begins well
 begins-nonzero : (digits : List ℕ) → 0 < length digits → 48 < get_or digits 0 0 → begins_well digits ≡ true
@@ -41,17 +42,17 @@ begins-nonzero [] some above = absurd (omega arith)
 begins-nonzero (digit ∷ []) some above = refl
 begins-nonzero (digit ∷ next ∷ digits) some above = grind (arith, nat_tests)
 
-begins-decimal : (number : ℕ) → number < 2 ^ 64 → begins_well (decimal number) ≡ true
+begins-decimal : (number : ℕ) → number < 10 ^ 64 → begins_well (decimal number) ≡ true
 begins-decimal zero small = ap begins_well (decimal_digit 0 (lit< tt))
 begins-decimal (suc number) small =
-    begins-nonzero (decimal (suc number)) (decimal_nonempty (suc number) small) (first_decimal (suc number) (omega arith) small)
+    begins-nonzero (decimal (suc number)) (decimal_nonempty_wide (suc number) small) (first_decimal_wide (suc number) (omega arith) small)
 
 -- a number is read of its digits
-pub number_in-decimal : (number : ℕ) → number < 2 ^ 64 → number_in (decimal number) ≡ Some number
+pub number_in-decimal : (number : ℕ) → number < 10 ^ 64 → number_in (decimal number) ≡ Some number
 unfolding number_in
-number_in-decimal number small = rw (begins-decimal number small, digits_decimal own number small, digits_value-decimal own number small) refl
+number_in-decimal number small = rw (begins-decimal number small, digits_decimal_wide own number small, digits_value-decimal_wide own number small) refl
 
-pub below-decimal : (limit number : ℕ) → number < limit → number < 2 ^ 64 → below limit (number_in (decimal number)) ≡ Some number
+pub below-decimal : (limit number : ℕ) → number < limit → number < 10 ^ 64 → below limit (number_in (decimal number)) ≡ Some number
 below-decimal limit number small fits = rw (number_in-decimal number fits) (grind (arith, nat_tests))
 
 -- ---- data values
@@ -109,32 +110,29 @@ lower-no_point digit digits lower = rw (other digit lower) refl
     other digit h = grind (arith, nat_tests)
 
 -- bytes are read of their digits
-value_in-digits : (word bytes : List ℕ) → bytes_eq word (codes ".") ≡ false → is_value word ≡ true → decode_of word ≡ Ok bytes → value_in word ≡ Some bytes
+value_in-digits : (longest : ℕ) (word bytes : List ℕ) → bytes_eq word (codes ".") ≡ false → is_value longest word ≡ true → decode_of word ≡ Ok bytes → value_in longest word ≡ Some bytes
 unfolding value_in
-value_in-digits word bytes no_point value decoded = rw (no_point, value, decoded) refl
+value_in-digits longest word bytes no_point value decoded = rw (no_point, value, decoded) refl
 
-is_value-digits : (word : List ℕ) → 2 ≤ length word → length word ≤ 128 → list_all is_lower_digit word ≡ true → is_value word ≡ true
-is_value-digits word some few lower = rw lower (grind (arith, nat_tests))
+is_value-digits : (longest : ℕ) (word : List ℕ) → 2 ≤ length word → length word ≤ 2 * longest → list_all is_lower_digit word ≡ true → is_value longest word ≡ true
+is_value-digits longest word some few lower = rw lower (grind (arith, nat_tests))
 
 encoded-no_point : (byte : ℕ) (bytes : List ℕ) → byte < 256 → bytes_eq (encode_lower (byte ∷ bytes)) (codes ".") ≡ false
 unfolding encode_with
 encoded-no_point byte bytes small = lower-no_point (slice_index lower_digits (byte / 16)) (slice_index lower_digits (byte % 16) ∷ encode_with lower_digits bytes) (table-lower (byte / 16) (omega arith))
 
 -- a data value is read of its word
-pub value_in-word : (bytes : List ℕ) → length bytes ≤ 64 → IsBytes bytes → value_in (value_word bytes) ≡ Some bytes
+pub value_in-word : (longest : ℕ) (bytes : List ℕ) → length bytes ≤ longest → IsBytes bytes → value_in longest (value_word bytes) ≡ Some bytes
 unfolding value_in
-value_in-word [] few small = refl
-value_in-word (byte ∷ bytes) few small =
+value_in-word longest [] few small = refl
+value_in-word longest (byte ∷ bytes) few small =
     let word = encode_lower (byte ∷ bytes) in
     let size : length word ≡ 2 * length (byte ∷ bytes) = length-encode_with lower_digits (byte ∷ bytes) in
     let lower : list_all is_lower_digit word ≡ true = encoded-lower (byte ∷ bytes) small in
-    let value : is_value word ≡ true = is_value-digits word (omega arith) (omega arith) lower in
-    value_in-digits word (byte ∷ bytes) (encoded-no_point byte bytes (small 0)) value (decode_of-encode_lower (byte ∷ bytes) small)
+    let value : is_value longest word ≡ true = is_value-digits longest word (omega arith) (omega arith) lower in
+    value_in-digits longest word (byte ∷ bytes) (encoded-no_point byte bytes (small 0)) value (decode_of-encode_lower (byte ∷ bytes) small)
 
 -- how long a word is
-pub length-value_word-le : (bytes : List ℕ) → length bytes ≤ 64 → length (value_word bytes) ≤ 128
-length-value_word-le [] few = lit≤ tt
-length-value_word-le (byte ∷ bytes) few = omega (arith, length-encode_with lower_digits (byte ∷ bytes))
-
-pub length-decimal-le-20 : (number : ℕ) → number < 2 ^ 64 → length (decimal number) ≤ 20
-length-decimal-le-20 number small = length-decimal-le 20 number (lit< tt) (omega arith) small
+pub length-value_word-le : (longest : ℕ) (bytes : List ℕ) → 1 ≤ longest → length bytes ≤ longest → length (value_word bytes) ≤ 2 * longest
+length-value_word-le longest [] some few = omega arith
+length-value_word-le longest (byte ∷ bytes) some few = omega (arith, length-encode_with lower_digits (byte ∷ bytes))

@@ -4,8 +4,11 @@ use Rattle.std.specs.List.{onto_first}
 use Rattle.std.specs.Option.{option_map}
 use Rattle.std.specs.Str.{bytes_eq}
 use Rattle.base_words.specs.Steps.{need, and_then}
+use Rattle.lamport_clocks.specs.declared.header.Header.{Header}
 use Rattle.record_text.specs.declared.cause.Cause.{Cause}
 use Rattle.record_text.specs.declared.cause.Cause.TheVariants.{Shape, Worker, Key, Hex}
+use Rattle.record_text.specs.Longest.{longest_of}
+use Rattle.record_text.specs.Tree.{wide_of}
 use Rattle.script_text.specs.declared.fault.ScriptFault.{ScriptFault}
 use Rattle.script_text.specs.declared.fault.ScriptFault.TheVariants.{BadScript, Memory}
 use Rattle.script_text.specs.declared.task.Task.{Task}
@@ -16,33 +19,33 @@ use Rattle.script_text.specs.Words.{worker_in, key_in, value_in}
 
 -- ---- one line
 
--- the most bytes of a line, without its end
-abbrev pub longest_line : ℕ
-longest_line = 256
+-- the most bytes of a line, without its end: 256 in versions 1 and 2, and 640 in version 3
+abbrev pub longest_line : Header → ℕ
+longest_line header = if nat_lt header.version 3 then 256 else 640
 
 -- a get or a put of a worker, of a key and with a value, tested in this order
-unfoldable pub task_in : ℕ → List ℕ → List ℕ → Bool → Option (Option (List ℕ)) → Result Line Cause
-task_in verifiers worker key put value =
-    need (worker_in verifiers worker) Worker (λ w.
-    need (key_in key) Key (λ k.
+unfoldable pub task_in : Header → List ℕ → List ℕ → Bool → Option (Option (List ℕ)) → Result Line Cause
+task_in header worker key put value =
+    need (worker_in header.verifiers worker) Worker (λ w.
+    need (key_in (wide_of header) key) Key (λ k.
     need value Hex (λ v.
     Ok (said.Task (record { worker = w; request = record { put = put; key = k; value = v } })))))
 
 -- the forms of a line, by the number of its words and the second of them
-unfoldable pub words_say : ℕ → List (List ℕ) → Result Line Cause
-words_say verifiers (word ∷ []) = if bytes_eq word (codes "epoch") then Ok said.Epoch else Err Shape
-words_say verifiers (worker ∷ verb ∷ key ∷ []) =
-    if bytes_eq verb (codes "get") then task_in verifiers worker key false (Some None)
-    else if bytes_eq verb (codes "del") then task_in verifiers worker key true (Some None)
+unfoldable pub words_say : Header → List (List ℕ) → Result Line Cause
+words_say header (word ∷ []) = if bytes_eq word (codes "epoch") then Ok said.Epoch else Err Shape
+words_say header (worker ∷ verb ∷ key ∷ []) =
+    if bytes_eq verb (codes "get") then task_in header worker key false (Some None)
+    else if bytes_eq verb (codes "del") then task_in header worker key true (Some None)
     else Err Shape
-words_say verifiers (worker ∷ verb ∷ key ∷ value ∷ []) =
-    if bytes_eq verb (codes "put") then task_in verifiers worker key true (option_map Some (value_in value))
+words_say header (worker ∷ verb ∷ key ∷ value ∷ []) =
+    if bytes_eq verb (codes "put") then task_in header worker key true (option_map Some (value_in (longest_of header) value))
     else Err Shape
-words_say verifiers words = Err Shape
+words_say header words = Err Shape
 
--- What a line says to so many workers, or the first cause for which it is refused.
-unfoldable pub line_says : ℕ → List ℕ → Result Line Cause
-line_says verifiers line = if nat_lt longest_line (length line) then Err Shape else words_say verifiers (words_of line)
+-- What a line says in a script for this header, or the first cause for which it is refused.
+unfoldable pub line_says : Header → List ℕ → Result Line Cause
+line_says header line = if nat_lt (longest_line header) (length line) then Err Shape else words_say header (words_of line)
 
 -- ---- all lines
 
@@ -57,11 +60,11 @@ at_line number (Ok value) = Ok value
 at_line number (Err cause) = Err (record { line = number; cause = cause })
 
 -- what lines say, the first of which has this number, or the first of them that is refused
-unfoldable pub lines_say : ℕ → ℕ → List (List ℕ) → Result (List Line) BadLine
-lines_say verifiers number [] = Ok []
-lines_say verifiers number (line ∷ lines) =
-    and_then (at_line number (line_says verifiers line)) (λ first.
-    and_then (lines_say verifiers (number + 1) lines) (λ more.
+unfoldable pub lines_say : Header → ℕ → List (List ℕ) → Result (List Line) BadLine
+lines_say header number [] = Ok []
+lines_say header number (line ∷ lines) =
+    and_then (at_line number (line_says header line)) (λ first.
+    and_then (lines_say header (number + 1) lines) (λ more.
     Ok (first ∷ more)))
 
 -- a line in front of phases: a task is the first of the first phase, and the close of an epoch ends a phase before it
@@ -74,9 +77,9 @@ unfoldable pub phases_of : List Line → List (List Task)
 phases_of [] = [] ∷ []
 phases_of (line ∷ lines) = with_line line (phases_of lines)
 
--- What bytes mean as a script for so many workers: its phases, or the first line outside the grammar, counted from 1.
-abbrev pub script_of : ℕ → List ℕ → Result (List (List Task)) BadLine
-script_of verifiers bytes = and_then (lines_say verifiers 1 (lines_of bytes)) (λ lines. Ok (phases_of lines))
+-- What bytes mean as a script for this header: its phases, or the first line outside the grammar, counted from 1.
+abbrev pub script_of : Header → List ℕ → Result (List (List Task)) BadLine
+script_of header bytes = and_then (lines_say header 1 (lines_of bytes)) (λ lines. Ok (phases_of lines))
 
 -- ---- the same line by line
 

@@ -4,6 +4,10 @@ use Rattle.std.specs.Fmt.{decimal}
 use Rattle.std.specs.List.{flat_map, AllByRecursion}
 use Rattle.std.specs.Option.{ForSome}
 use Rattle.hex.specs.Hex.{encode_lower, IsBytes}
+use Rattle.tree_keys.specs.Path.{key_bits}
+use Rattle.lamport_clocks.specs.declared.header.Header.{Header}
+use Rattle.record_text.specs.Longest.{longest_of}
+use Rattle.record_text.specs.Tree.{wide_of}
 use Rattle.script_text.specs.declared.task.Task.{Task}
 
 -- the bytes of a data value as a word: a point for none of them, else two digits each
@@ -38,17 +42,18 @@ unfoldable pub script_text : List (List Task) → List ℕ
 script_text [] = []
 script_text (phase ∷ phases) = phase_text phase ++ behind_text phases
 
--- what a line can ask of so many workers: one of them, a key of 64 bits, at most 64 bytes, and of a get no value
-pub record IsTask (verifiers : ℕ) (task : Task) : Type 0 where
-  pub worker : task.worker < verifiers
-  pub key : task.request.key < 2 ^ 64
-  pub size : ForSome task.request.value (λ bytes. length bytes ≤ 64)
+-- what a line can ask in a script for this header: one of its workers, a key of its tree, no longer a value than it allows,
+-- and of a get no value
+pub record IsTask (header : Header) (task : Task) : Type 0 where
+  pub worker : task.worker < header.verifiers
+  pub key : task.request.key < 2 ^ key_bits (wide_of header)
+  pub size : ForSome task.request.value (λ bytes. length bytes ≤ longest_of header)
   pub bytes : ForSome task.request.value IsBytes
   pub get : task.request.put ≡ false → task.request.value ≡ None
 
 -- each task of each phase is one that a line can ask
-abbrev pub AreTasks : ℕ → List (List Task) → Type 0
-AreTasks verifiers phases = AllByRecursion (λ phase. AllByRecursion (IsTask verifiers) phase) phases
+abbrev pub AreTasks : Header → List (List Task) → Type 0
+AreTasks header phases = AllByRecursion (λ phase. AllByRecursion (IsTask header) phase) phases
 
 -- bytes are the script of these phases, but that the last line may lack its end
 abbrev pub IsScriptOf : List (List Task) → List ℕ → Type 0

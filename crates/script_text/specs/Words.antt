@@ -1,10 +1,11 @@
 -- What a word of a line means: a number, or a data value.
-use Rattle.std.specs.Prelude.{ℕ, ◌^◌, ◌==◌, ◌&&◌, ◌||◌, not, nat_le, nat_lt, Bool, true, false, List, [], ◌∷◌, length, Option, Some, None, codes, if◌then◌else◌}
+use Rattle.std.specs.Prelude.{ℕ, ◌*◌, ◌^◌, ◌==◌, ◌&&◌, ◌||◌, not, nat_le, nat_lt, Bool, true, false, List, [], ◌∷◌, length, Option, Some, None, codes, if◌then◌else◌}
 use Rattle.std.specs.List.{list_all}
 use Rattle.std.specs.Result.{result_ok}
 use Rattle.std.specs.Str.{all_ascii_digits, bytes_eq}
 use Rattle.std.specs.Str.Parse.{digits_value}
 use Rattle.hex.specs.Hex.{decode_of}
+use Rattle.tree_keys.specs.Path.{key_bits}
 
 -- a first digit, which is no zero where others follow it
 abbrev pub begins_well : List ℕ → Bool
@@ -25,21 +26,21 @@ below limit (Some number) = if nat_lt number limit then Some number else None
 abbrev pub worker_in : ℕ → List ℕ → Option ℕ
 worker_in verifiers word = below verifiers (number_in word)
 
--- a key: a number of 64 bits
-abbrev pub key_in : List ℕ → Option ℕ
-key_in word = below (2 ^ 64) (number_in word)
+-- a key of this tree: a number of as many bits
+abbrev pub key_in : Bool → List ℕ → Option ℕ
+key_in wide word = below (2 ^ key_bits wide) (number_in word)
 
 -- a hexadecimal digit in lower case: `0` to `9` or `a` to `f`
 abbrev pub is_lower_digit : ℕ → Bool
 is_lower_digit digit = nat_le 48 digit && nat_le digit 57 || nat_le 97 digit && nat_le digit 102
 
--- 2 to 128 hexadecimal digits in lower case
-abbrev pub is_value : List ℕ → Bool
-is_value word = nat_le 2 (length word) && nat_le (length word) 128 && list_all is_lower_digit word
+-- hexadecimal digits in lower case: 2 of them at least, and at most two for each of so many bytes
+abbrev pub is_value : ℕ → List ℕ → Bool
+is_value longest word = nat_le 2 (length word) && nat_le (length word) (2 * longest) && list_all is_lower_digit word
 
--- the bytes of a data value: none of them for a point, else those that an even number of digits spells
-unfoldable pub value_in : List ℕ → Option (List ℕ)
-value_in word =
+-- the bytes of a data value, at most so many: none of them for a point, else those that an even number of digits spells
+unfoldable pub value_in : ℕ → List ℕ → Option (List ℕ)
+value_in longest word =
     if bytes_eq word (codes ".") then Some []
-    else if is_value word then result_ok (decode_of word)
+    else if is_value longest word then result_ok (decode_of word)
     else None

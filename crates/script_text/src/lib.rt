@@ -1,6 +1,7 @@
 //! Scripts: what the workers of a host are asked, line by line, and where its epochs close.
 //!
-//! What bytes mean as a script is defined in `specs/Script.antt`, over the lines and words of `specs/Lines.antt` and
+//! Which workers, keys and values a script may name, and how long a line may be, is by the bundle's header. What bytes
+//! mean as a script is defined in `specs/Script.antt`, over the lines and words of `specs/Lines.antt` and
 //! `specs/Words.antt`. The crate stands on `record_text` for requests and for the causes of a refused line, and on the
 //! kit's `hex` and `memchr`. Begin with `Requests` in `requests.rt`, which reads a script. `generator.rt` makes a script
 //! of a seed, in place of one that is read.

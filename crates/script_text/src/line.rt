@@ -1,21 +1,19 @@
 //! Reads a line of a script.
 ghost use Rattle.std.specs.Prelude.{◌≡◌, ◌∷◌, []};
-ghost use Rattle.script_text.specs.Script.{task_in, words_say, line_says};
+ghost use Rattle.script_text.specs.Script.{longest_line, task_in, words_say, line_says};
 
 use crate::splitting::split_word;
 use crate::task::{Line, Task};
 use crate::words;
-use record_text::{Blob, Cause, Request};
+use lamport_clocks::Header;
+use record_text::{Blob, Cause, Request, longest_of, wide_of};
 
-// The most bytes of a line, without its end.
-const LONGEST_LINE: usize = 256;
-
-/// What a line says to so many workers, or the first cause for which it is refused.
+/// What a line says in a script for this header, or the first cause for which it is refused.
 #[tactic(auto, unfolding(crate::specs::Script::line_says, crate::specs::Script::words_say))]
-pub(crate) fn read_line(line: &[u8], verifiers: u16) -> Result<Line, Cause>
-    ensures value { result ≡ line_says verifiers line.now }
+pub(crate) fn read_line(line: &[u8], header: &Header) -> Result<Line, Cause>
+    ensures value { result ≡ line_says header.now line.now }
 {
-    if line.len() > LONGEST_LINE {
+    if line.len() > longest_line(header) {
         return Err(Cause::Shape);
     }
     let (worker, behind) = split_word(line);
@@ -32,7 +30,7 @@ pub(crate) fn read_line(line: &[u8], verifiers: u16) -> Result<Line, Cause>
     };
     let (key, behind) = split_word(behind);
     let Some(behind) = behind else {
-        return read_short(verifiers, worker, verb, key);
+        return read_short(header, worker, verb, key);
     };
     let (value, behind) = split_word(behind);
     if behind.is_some() {
@@ -41,20 +39,28 @@ pub(crate) fn read_line(line: &[u8], verifiers: u16) -> Result<Line, Cause>
     if verb != b"put".as_slice() {
         return Err(Cause::Shape);
     }
-    read_task(verifiers, worker, key, true, words::value(value))
+    let value = words::value(value, longest_of(header));
+    read_task(header, worker, key, true, value)
+}
+
+// The most bytes of a line, without its end.
+fn longest_line(header: &Header) -> usize
+    ensures value { result ≡ longest_line header.now }
+{
+    if header.version < 3 { 256 } else { 640 }
 }
 
 // A line of three words: a get, or a put of none.
 #[tactic(auto, unfolding(crate::specs::Script::words_say))]
-fn read_short(verifiers: u16, worker: &[u8], verb: &[u8], key: &[u8]) -> Result<Line, Cause>
+fn read_short(header: &Header, worker: &[u8], verb: &[u8], key: &[u8]) -> Result<Line, Cause>
     ensures value { result
-        ≡ words_say verifiers (worker.now ∷ verb.now ∷ key.now ∷ []) }
+        ≡ words_say header.now (worker.now ∷ verb.now ∷ key.now ∷ []) }
 {
     if verb == b"get".as_slice() {
-        return read_task(verifiers, worker, key, false, Some(Blob::none()));
+        return read_task(header, worker, key, false, Some(Blob::none()));
     }
     if verb == b"del".as_slice() {
-        return read_task(verifiers, worker, key, true, Some(Blob::none()));
+        return read_task(header, worker, key, true, Some(Blob::none()));
     }
     Err(Cause::Shape)
 }
@@ -62,18 +68,18 @@ fn read_short(verifiers: u16, worker: &[u8], verb: &[u8], key: &[u8]) -> Result<
 // A get or a put, by its words and what its value is, if it is one.
 #[tactic(auto, unfolding(crate::specs::Script::task_in))]
 fn read_task(
-    verifiers: u16,
+    header: &Header,
     worker: &[u8],
     key: &[u8],
     put: bool,
     value: Option<Blob>,
 ) -> Result<Line, Cause>
-    ensures value { result ≡ task_in verifiers worker.now key.now put value }
+    ensures value { result ≡ task_in header.now worker.now key.now put value }
 {
-    let Some(worker) = words::worker(worker, verifiers) else {
+    let Some(worker) = words::worker(worker, header.verifiers) else {
         return Err(Cause::Worker);
     };
-    let Some(key) = words::key(key) else {
+    let Some(key) = words::key(key, wide_of(header)) else {
         return Err(Cause::Key);
     };
     let Some(value) = value else {

@@ -8,6 +8,7 @@ use crate::line::read_line;
 use crate::splitting::split_line;
 use crate::task::{Line, Task};
 use base_words::Memory;
+use lamport_clocks::Header;
 use std::alloc::Global;
 use std::marker::Model;
 use std::mem;
@@ -40,12 +41,12 @@ impl Requests {
         }
     }
 
-    /// What a script asks of so many workers, or the first line of it that is outside the grammar.
-    pub fn read(alloc: Global, bytes: &[u8], verifiers: u16) -> Result<Self, ScriptFault>
+    /// What a script for this header asks, or the first line of it that is outside the grammar.
+    pub fn read(alloc: Global, bytes: &[u8], header: &Header) -> Result<Self, ScriptFault>
         // What is read is what the bytes mean.
-        ensures script { IfOk result (λ phases. script_of verifiers bytes.now ≡ Ok phases) }
+        ensures script { IfOk result (λ phases. script_of header.now bytes.now ≡ Ok phases) }
         // A line that is named is the first outside the grammar, and its cause the first that it has.
-        ensures refused { IfErr result (λ fault. IsFaultOf (script_of verifiers bytes.now) fault) }
+        ensures refused { IfErr result (λ fault. IsFaultOf (script_of header.now bytes.now) fault) }
     {
         let mut requests = Requests::new(alloc);
         let mut rest = bytes;
@@ -53,7 +54,7 @@ impl Requests {
         while !rest.is_empty() {
             let (line, behind) = split_line(rest);
             number += 1;
-            match read_line(line, verifiers) {
+            match read_line(line, header) {
                 Ok(line) => requests.push(line)?,
                 Err(cause) => {
                     return Err(ScriptFault::BadScript {

@@ -39,7 +39,7 @@ fn write_phase(phase: &[Task], text: &mut Vec<u8>) -> Result<(), Memory>
 fn write_task(task: &Task, text: &mut Vec<u8>) -> Result<(), Memory>
     ensures appended { OnOk result (text.new.items ≡ text.old.items ++ task_text task.now) }
 {
-    write_decimal(u64::from(task.worker), text)?;
+    write_decimal(u128::from(task.worker), text)?;
     write_request(&task.request, text)?;
     text.push(b'\n')?;
     Ok(())
@@ -65,7 +65,7 @@ fn write_request(request: &Request, text: &mut Vec<u8>) -> Result<(), Memory>
 }
 
 // Adds a number in decimal.
-fn write_decimal(number: u64, text: &mut Vec<u8>) -> Result<(), Memory>
+fn write_decimal(number: u128, text: &mut Vec<u8>) -> Result<(), Memory>
     ensures appended { OnOk result (text.new.items ≡ text.old.items ++ decimal number) }
 {
     let mut buffer = itoa::Buffer::new();

@@ -72,7 +72,7 @@ log_text-by_slot : (commands : List SlotCommand) → log_text (map BySlot comman
 log_text-by_slot [] = refl
 log_text-by_slot (command ∷ commands) = ap (λ (more : List ℕ). slot_command_text command ++ more) (log_text-by_slot commands)
 
--- A log of version 2 that is written is read as its commands by slots.
+-- A log that names slots is read as the commands by slots that were written.
 pub read_written : (header : Header) (number : ℕ) (commands : List Command) → IsHeader header → names_paths header ≡ false
     → CanRewriteFrom (opening_paths number header) commands
     → AllByRecursion (IsCommandIn (format_of header).wide) commands → AllByRecursion (IsPathCommand (format_of header).longest) commands

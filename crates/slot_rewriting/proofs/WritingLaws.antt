@@ -179,7 +179,7 @@ by_slot_behind paths (command ∷ commands) can =
     ap (λ (b : Bool). writer_behind (BySlot (if b then paths_after paths command else paths)) commands) (tests_rewriting paths command can.0)
     ∙ by_slot_behind (paths_after paths command) commands can.1
 
--- A log of version 2 whose commands can be rewritten has their texts by slots.
+-- A log that names slots, and whose commands can be rewritten, has their texts by slots.
 pub written_by_slot : (header : Header) (number : ℕ) (commands : List Command) → names_paths header ≡ false
     → CanRewriteFrom (opening_paths number header) commands
     → written_log header number commands ≡ flat_map slot_command_text (rewritten_from (opening_paths number header) commands)

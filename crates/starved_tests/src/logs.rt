@@ -36,6 +36,7 @@ fn header() -> Header
         cache: 128,
         first: 0,
         end: END,
+        bits: 64,
     }
 }
 

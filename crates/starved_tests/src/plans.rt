@@ -23,7 +23,7 @@ evictB /0 0.6
 ";
 
 // The puts before it, where there are 14 records then: a node of the tree that keeps them has room for 15.
-const MANY: [(u64, u8); 8] = [
+const MANY: [(u128, u8); 8] = [
     (0, b'a'),
     (2, b'b'),
     (4, b'c'),
@@ -64,7 +64,7 @@ pub fn split(alloc: Global) -> Result<Outcome, Fault> {
 // A put behind others, which is logged in these rows and leaves the clock at this counter.
 fn put_behind(
     alloc: Global,
-    puts: &[(u64, u8)],
+    puts: &[(u128, u8)],
     rows: &str,
     counter: u32,
 ) -> Result<Outcome, Fault> {

@@ -1,11 +1,11 @@
 //! A shard with its hot places and its worker's clock, which requests and closes go through.
-ghost use Rattle.std.specs.Prelude.{◌≡◌, ◌≤◌, IfOk, IsTrue, length, false, map};
+ghost use Rattle.std.specs.Prelude.{◌≡◌, ◌≤◌, IfOk, IsTrue, length, map};
 ghost use Rattle.std.specs.List.{AllByRecursion};
-ghost use Rattle.tree_keys.specs.Path.{key_path};
 ghost use Rattle.lamport_clocks.specs.Clock.{is_open};
 ghost use Rattle.record_text.specs.Longest.{longest_blob};
 ghost use Rattle.host_shard.specs.Mirrors.{IsShard, IsKeyOf};
 ghost use Rattle.host_shard.specs.Shown.{shown, shown_content};
+ghost use Rattle.host_shard.specs.Content.{hot_path};
 ghost use Rattle.host_plan.specs.Plan.{Owns, IsOpenAt};
 ghost use Rattle.protection_moves.specs.Stage.{hot_records};
 ghost use Rattle.starved_tests.specs.Fit.{IsFit};
@@ -34,7 +34,7 @@ pub struct Seat {
 
 impl Seat {
     /// The shard as a setup of two leaves it, and then these puts, each of one byte.
-    pub fn after(alloc: Global, puts: &[(u64, u8)]) -> Result<Seat, Fault>
+    pub fn after(alloc: Global, puts: &[(u128, u8)]) -> Result<Seat, Fault>
         ensures fit { IfOk result (λ seat. IsFit (shown_content seat.cold)) }
     {
         let mut seat = Seat {
@@ -54,7 +54,7 @@ impl Seat {
     }
 
     // These puts, behind the setup.
-    fn put_all(&mut self, alloc: Global, puts: &[(u64, u8)]) -> Result<(), Fault>
+    fn put_all(&mut self, alloc: Global, puts: &[(u128, u8)]) -> Result<(), Fault>
         requires fit { IsFit (shown_content self.old.cold) }
         ensures fit { IsFit (shown_content self.new.cold) }
     {
@@ -67,7 +67,7 @@ impl Seat {
     }
 
     /// Puts a key. After a fault all is as before.
-    pub fn put(&mut self, alloc: Global, key: u64, byte: u8) -> Result<Plan, Fault>
+    pub fn put(&mut self, alloc: Global, key: u128, byte: u8) -> Result<Plan, Fault>
         requires fit { IsFit (shown_content self.old.cold) }
         ensures fit { IsFit (shown_content self.new.cold) }
     {
@@ -144,7 +144,7 @@ fn fresh(alloc: Global) -> Content
 }
 
 /// The put of a key, of one byte.
-pub fn put_of(key: u64, byte: u8) -> Result<Request, Fault>
+pub fn put_of(key: u128, byte: u8) -> Result<Request, Fault>
     ensures key { IfOk result (λ request. request.key ≡ key) }
 {
     let value = Blob::of_bytes(&[byte]).ok_or(Fault::Amiss("no value"))?;
@@ -152,12 +152,12 @@ pub fn put_of(key: u64, byte: u8) -> Result<Request, Fault>
 }
 
 /// Whether a content is the one in which a request for a key is served.
-pub fn owns(content: &Content, key: u64) -> bool
+pub fn owns(content: &Content, key: u128) -> bool
     ensures own { IsTrue result → IsFit (shown_content content.now)
         → Owns longest_blob (shown_content content.now) key }
 {
     match content {
-        Content::Cold(shard) => Path::of_key(key).is_below(&shard.frontier),
+        Content::Cold(shard) => shard.path_of(key).is_below(&shard.frontier),
         Content::Hot(found) => found.key == key,
         Content::Vacant => false,
     }
@@ -200,7 +200,7 @@ fn takes_all(clock: &Clock, places: &[Content]) -> bool
 
 // Whether each record in these places is of a key of the shard.
 fn owns_all(shard: &Shard, places: &[Content]) -> bool
-    ensures own { IsTrue result → AllByRecursion (λ found. IsKeyOf (shown shard.now) (key_path false found.key))
+    ensures own { IsTrue result → AllByRecursion (λ found. IsKeyOf (shown shard.now) (hot_path found))
         (hot_records (map shown_content places.now)) }
 {
     let (first, rest) = match places.split_first() {
@@ -208,9 +208,7 @@ fn owns_all(shard: &Shard, places: &[Content]) -> bool
         None => return true,
     };
     match first {
-        Content::Hot(found) => {
-            Path::of_key(found.key).is_below(&shard.frontier) && owns_all(shard, rest)
-        }
+        Content::Hot(found) => { found.path().is_below(&shard.frontier) && owns_all(shard, rest) }
         Content::Cold(_) => owns_all(shard, rest),
         Content::Vacant => owns_all(shard, rest),
     }

@@ -13,12 +13,12 @@ use Rattle.host_table.specs.declared.views.View.TheVariants.{Spent, Working, Kee
 use Rattle.host_table.specs.Plays.{held_in}
 use Rattle.host_table.specs.Rule.{KnowsHeld, IsKept}
 use Rattle.host_table.specs.Terms.{Terms, place_count}
-use Rattle.table_order.specs.Mirroring.{MirrorsAtMaking, HasKeysInRange, IsAtHome, IsInHand, MirrorsAt, AreEvictsOf}
+use Rattle.table_order.specs.Mirroring.{MirrorsAtMaking, HasRequestsInRange, IsAtHome, IsInHand, MirrorsAt, AreEvictsOf}
 use Rattle.table_order.proofs.MirrorLemmas.{led}
 use Rattle.table_order.proofs.EvictLemmas.{list_evicts}
 
 module _ (terms : Terms) (s : State code.Content View) (kept : IsKept terms s) where
-  module _ (made : MirrorsAtMaking terms) (small : HasKeysInRange terms kept.scene) where
+  module _ (made : MirrorsAtMaking terms) (small : HasRequestsInRange terms kept.scene) where
     -- the content that a place has now
     now_mirrors : (place : ℕ) → place < place_count terms → MirrorsAt terms place (kept.scene.now place)
     now_mirrors place there = led terms made place there (kept.scene.now place) (kept.scene.past place) (kept.places place there).leads (small place there)

@@ -1,61 +1,67 @@
 -- A table that is made of a world's places is made of contents that mirror.
-use Rattle.std.proofs.Common.{◌≡◌, ◌⊎◌, ℕ, zero, suc, ◌+◌, ◌*◌, ◌/◌, ◌%◌, ◌^◌, ◌<◌, ◌≤◌, List, ◌∷◌, length, take, drop, get_or, inl, inr, refl, sym, ◌∙◌, ap, subst, arith}
-use Rattle.std.proofs.lemmas.Bool.{cases_lt}
-use Rattle.std.proofs.lemmas.List.{ext_get_or, get_or-drop, get_or-take, get_or_past, length-map, length-take, length-drop}
+use Rattle.std.proofs.Common.{◌≡◌, ◌⊎◌, ℕ, zero, suc, ◌+◌, ◌*◌, ◌/◌, ◌%◌, ◌^◌, ◌<◌, ◌≤◌, Bool, List, ◌∷◌, length, take, drop, get_or, inl, inr, refl, sym, ◌∙◌, ap, subst, arith}
+use Rattle.std.proofs.lemmas.List.{ext_get_or, get_or-drop, get_or-take, length-map, length-take, length-drop}
 use Rattle.std.proofs.Math.ListN.{get_or-map}
+use Rattle.tree_keys.specs.Path.{key_bits}
+use Rattle.lamport_clocks.specs.declared.header.Header.{Header}
 use Rattle.record_hash.specs.Functions.{DigestFunctions}
 use Rattle.record_text.specs.Value.{IsBlob}
-use Rattle.record_text.specs.Longest.{longest_blob, longest_of}
+use Rattle.record_text.specs.Longest.{longest_of}
+use Rattle.record_text.specs.Tree.{wide_of}
 use Rattle.merkle_records.specs.Merkle.{Digest, GivesDigests}
 use Rattle.script_text.specs.declared.task.Task.{Task}
 use Rattle.host_core.specs.World.{World, shard_at}
 use Rattle.host_order.specs.Serving.{content_at}
 use Rattle.host_shard.specs.declared.content.Content as code
-use Rattle.host_shard.specs.declared.content.Content.TheVariants.{Hot, Vacant}
-use Rattle.host_shard.specs.declared.content.HotRecord.{HotRecord}
+use Rattle.host_shard.specs.declared.content.Content.TheVariants.{Vacant}
 use Rattle.host_shard.specs.Content.{Content, cold, hot, vacant}
 use Rattle.host_shard.specs.Shown.{shown_content}
+use Rattle.host_shard.specs.Shard.{wide_in}
+use Rattle.host_shard.specs.Mirrors.{HasKeyOf}
 use Rattle.host_laws.specs.Mirroring.{ContentMirrors}
 use Rattle.protection_moves.specs.Stage.{hot_records, hot_paths}
 use Rattle.move_laws.proofs.PlaceLaws.{one_of-all}
 use Rattle.host_table.specs.Terms.{Terms, place_count, first_at, IsMaking}
 use Rattle.host_world.specs.declared.settings.Settings.{Settings}
 use Rattle.host_world.specs.Orderly.{IsOrderly}
-use Rattle.host_world.specs.Seated.{IsHotPlace, SeatsMirror}
+use Rattle.host_world.specs.Seated.{IsHotPlace, SeatsMirror, wide_among}
 use Rattle.host_world.specs.ShippedHost.{shipped_host}
-use Rattle.host_world.proofs.LongerLaws.{longest_fits, seats_longer}
 use Rattle.host_world.proofs.PlaceLaws.{hot_there, place_there}
-use Rattle.table_order.specs.Mirroring.{shard_at_making, hot_keys_at, MirrorsAtMaking}
+use Rattle.table_order.specs.Mirroring.{shard_at_making, hot_keys_at, IsOfTree, MirrorsAtMaking}
 use Rattle.table_order.specs.Phases.{AreTermsOf}
 use Rattle.table_order.proofs.PlaceLemmas.{place_back, five_seats, shard_there}
 
 -- ---- one shard
 
-module _ (digest : Digest) (seats : List Content) (mirrors : SeatsMirror longest_blob digest seats) where
-  hot_place : (k : ℕ) (content : Content) → get_or mirrors.places k vacant ≡ content → ContentMirrors longest_blob digest (hot_paths mirrors.places) content
+module _ (longest : ℕ) (digest : Digest) (seats : List Content) (mirrors : SeatsMirror longest digest seats) where
+  hot_place : (k : ℕ) (content : Content) → get_or mirrors.places k vacant ≡ content → ContentMirrors longest digest (hot_paths mirrors.places) content
   hot_place k (cold shard) is = absurd (subst IsHotPlace is (place_there mirrors.places k mirrors.hot_alone))
-  hot_place k (hot found) is = one_of-all (λ r. IsBlob longest_blob r.value) (hot_records mirrors.places) found mirrors.blobs (hot_there mirrors.places k found is)
+  hot_place k (hot found) is = one_of-all (λ r. IsBlob longest r.value) (hot_records mirrors.places) found mirrors.blobs (hot_there mirrors.places k found is)
   hot_place k vacant is = tt
 
-  seat_of_shard : (seat : ℕ) → ContentMirrors longest_blob digest (hot_paths mirrors.places) (get_or (cold mirrors.shard ∷ mirrors.places) seat vacant)
+  seat_of_shard : (seat : ℕ) → ContentMirrors longest digest (hot_paths mirrors.places) (get_or (cold mirrors.shard ∷ mirrors.places) seat vacant)
   seat_of_shard zero = mirrors.mirrored
   seat_of_shard (suc k) = hot_place k (get_or mirrors.places k vacant) refl
 
   -- each seat's content mirrors
-  seat_mirrors : (seat : ℕ) → ContentMirrors longest_blob digest (hot_paths seats) (get_or seats seat vacant)
+  seat_mirrors : (seat : ℕ) → ContentMirrors longest digest (hot_paths seats) (get_or seats seat vacant)
   seat_mirrors seat =
-      subst (λ (xs : List Content). ContentMirrors longest_blob digest (hot_paths xs) (get_or xs seat vacant)) (sym mirrors.is) (seat_of_shard seat)
+      subst (λ (xs : List Content). ContentMirrors longest digest (hot_paths xs) (get_or xs seat vacant)) (sym mirrors.is) (seat_of_shard seat)
 
-  small_seat : (seat : ℕ) (found : HotRecord) → get_or (cold mirrors.shard ∷ mirrors.places) seat vacant ≡ hot found → found.key < 2 ^ 64
-  small_seat zero found is = absurd (no_hot is)
+  -- and is of the tree of the shard
+  seat_of_tree : (seat : ℕ) → IsOfTree (wide_in mirrors.shard) (get_or (cold mirrors.shard ∷ mirrors.places) seat vacant)
+  seat_of_tree zero = refl
+  seat_of_tree (suc k) = go (get_or mirrors.places k vacant) refl
     where
-      no_hot : cold mirrors.shard ≡ hot found → ⊥
-      no_hot same = cc
-  small_seat (suc k) found is = one_of-all (λ r. r.key < 2 ^ 64) (hot_records mirrors.places) found mirrors.in_range (hot_there mirrors.places k found is)
+      go : (content : Content) → get_or mirrors.places k vacant ≡ content → IsOfTree (wide_in mirrors.shard) content
+      go (cold shard) is = absurd (subst IsHotPlace is (place_there mirrors.places k mirrors.hot_alone))
+      go (hot found) is =
+          let has = one_of-all (HasKeyOf mirrors.shard) (hot_records mirrors.places) found mirrors.in_range (hot_there mirrors.places k found is) in
+          (has.tree, subst (λ (wide : Bool). found.key < 2 ^ key_bits wide) has.tree has.range)
+      go vacant is = tt
 
-  -- and hot keys are in range
-  seat_small : (seat : ℕ) (found : HotRecord) → get_or seats seat vacant ≡ hot found → found.key < 2 ^ 64
-  seat_small seat found is = small_seat seat found (ap (λ (xs : List Content). get_or xs seat vacant) (sym mirrors.is) ∙ is)
+  seat_tree : (seat : ℕ) → IsOfTree (wide_among seats) (get_or seats seat vacant)
+  seat_tree seat = subst (λ (xs : List Content). IsOfTree (wide_among xs) (get_or xs seat vacant)) (sym mirrors.is) (seat_of_tree seat)
 
 -- ---- the table
 
@@ -68,9 +74,8 @@ module _ (functions : DigestFunctions) (settings : Settings) (script : List (Lis
     in_shard : place / 5 < length world.shards
     in_shard = shard_there functions settings script world orderly terms made place there
 
-    abbrev mirrored : SeatsMirror longest_blob functions.digest seats
-    mirrored =
-        seats_longer (longest_of settings.header) longest_blob (longest_fits settings.header) functions.digest seats (orderly.shards (place / 5) in_shard).mirrors
+    abbrev mirrored : SeatsMirror (longest_of settings.header) functions.digest seats
+    mirrored = (orderly.shards (place / 5) in_shard).mirrors
 
     -- a place of the same shard
     numbered : (seat : ℕ) → seat < 5 → shown_content (first_at terms (place / 5 * 5 + seat)) ≡ get_or seats seat vacant
@@ -100,18 +105,20 @@ module _ (functions : DigestFunctions) (settings : Settings) (script : List (Lis
             ∙ ap shown_content (get_or-take 5 (drop (place / 5 * 5) terms.contents) i Vacant few ∙ get_or-drop (place / 5 * 5) terms.contents i Vacant)
             ∙ numbered i few
 
-    place_mirrors : ContentMirrors longest_blob terms.digest (hot_keys_at terms place) (shown_content (first_at terms place))
+    place_mirrors : ContentMirrors (longest_of terms.header) terms.digest (hot_keys_at terms place) (shown_content (first_at terms place))
     place_mirrors =
-        subst (λ (digest : Digest). ContentMirrors longest_blob digest (hot_keys_at terms place) (shown_content (first_at terms place))) (sym made.digest)
-        (subst (λ (content : Content). ContentMirrors longest_blob functions.digest (hot_keys_at terms place) content) (sym own)
-        (subst (λ (xs : List Content). ContentMirrors longest_blob functions.digest (hot_paths xs) (get_or seats (place % 5) vacant)) (sym same_shard)
-        (seat_mirrors functions.digest seats mirrored (place % 5))))
+        subst (λ (header : Header). ContentMirrors (longest_of header) terms.digest (hot_keys_at terms place) (shown_content (first_at terms place))) (sym made.header)
+        (subst (λ (digest : Digest). ContentMirrors (longest_of settings.header) digest (hot_keys_at terms place) (shown_content (first_at terms place))) (sym made.digest)
+        (subst (λ (content : Content). ContentMirrors (longest_of settings.header) functions.digest (hot_keys_at terms place) content) (sym own)
+        (subst (λ (xs : List Content). ContentMirrors (longest_of settings.header) functions.digest (hot_paths xs) (get_or seats (place % 5) vacant)) (sym same_shard)
+        (seat_mirrors (longest_of settings.header) functions.digest seats mirrored (place % 5)))))
 
-    place_small : (kept : HotRecord) → first_at terms place ≡ Hot kept → kept.key < 2 ^ 64
-    place_small kept is = seat_small functions.digest seats mirrored (place % 5) kept (sym own ∙ ap shown_content is)
-
-  no_vacant : (kept : HotRecord) → Vacant ≡ Hot kept → ⊥
-  no_vacant kept is = cc
+    place_tree : IsOfTree (wide_of terms.header) (shown_content (first_at terms place))
+    place_tree =
+        subst (λ (header : Header). IsOfTree (wide_of header) (shown_content (first_at terms place))) (sym made.header)
+        (subst (λ (content : Content). IsOfTree (wide_of settings.header) content) (sym own)
+        (subst (λ (wide : Bool). IsOfTree wide (get_or seats (place % 5) vacant)) (orderly.shards (place / 5) in_shard).tree
+        (seat_tree (longest_of settings.header) functions.digest seats mirrored (place % 5))))
 
   -- The table is made of contents that mirror.
   pub making_mirrors : GivesDigests functions.digest → IsMaking terms.header terms.workers terms.contents → MirrorsAtMaking terms
@@ -119,9 +126,5 @@ module _ (functions : DigestFunctions) (settings : Settings) (script : List (Lis
     digests = subst GivesDigests (sym made.digest) digests;
     making = making;
     mirrors = place_mirrors;
-    in_range = λ place kept is. go place kept is (cases_lt place (place_count terms));
+    of_tree = place_tree;
   }
-    where
-      go : (place : ℕ) (kept : HotRecord) → first_at terms place ≡ Hot kept → (place < place_count terms) ⊎ (place_count terms ≤ place) → kept.key < 2 ^ 64
-      go place kept is (inl there) = place_small place there kept is
-      go place kept is (inr past) = absurd (no_vacant kept (sym (get_or_past terms.contents place Vacant past) ∙ is))

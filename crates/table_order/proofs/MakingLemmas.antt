@@ -10,6 +10,7 @@ use Rattle.lamport_clocks.specs.declared.header.Header.{Header}
 use Rattle.record_hash.specs.Functions.{DigestFunctions}
 use Rattle.record_text.specs.declared.element.Element.{Element}
 use Rattle.record_text.specs.declared.request.Request.{Request}
+use Rattle.record_text.specs.Tree.{wide_of}
 use Rattle.merkle_records.specs.Merkle.{GivesDigests}
 use Rattle.script_text.specs.declared.task.Task.{Task}
 use Rattle.soundness.specs.Certified.{all_events}
@@ -143,7 +144,7 @@ module _ (functions : DigestFunctions) (settings : Settings) (script : List (Lis
         arith,
         length-map world.shards (λ (seats : Seats Content). frontier_in seats.contents),
         ap (λ (paths : List (List Bool)). length paths) (frontiers_behind functions settings script digests world behind),
-        some_paths (frontier_bits settings.shards) (root_of false),
+        some_paths (frontier_bits settings.shards) (root_of (wide_of settings.header)),
       )
 
   some_seats : (s : ℕ) → s < length world.shards → 0 < length (shard_at world s).contents

@@ -1,15 +1,17 @@
 -- The past of a place: each service there is what the shipped host does, since the content that it finds mirrors.
 use Rattle.std.proofs.Common.{◌≡◌, ◌⊎◌, ℕ, ◌^◌, ◌/◌, ◌%◌, ◌<◌, ◌≤◌, Bool, false, List, [], ◌∷◌, length, refl, sym, ◌∙◌, ap, subst, inl, inr}
-use Rattle.std.specs.List.{AllByRecursion}
+use Rattle.std.specs.List.{AllByRecursion, IsAmong}
 use Rattle.std.proofs.lemmas.Bool.{cases_lt}
+use Rattle.lamport_clocks.specs.declared.header.Header.{Header}
 use Rattle.lamport_clocks.specs.Reading.{Reading}
 use Rattle.record_hash.specs.Functions.{DigestFunctions}
 use Rattle.record_text.specs.declared.request.Request.{Request}
 use Rattle.record_text.specs.Value.{IsBlob}
 use Rattle.record_text.specs.Longest.{longest_of}
+use Rattle.record_text.specs.Tree.{wide_of}
 use Rattle.merkle_records.specs.Merkle.{Digest, GivesDigests}
 use Rattle.script_text.specs.declared.task.Task.{Task}
-use Rattle.tree_keys.specs.Path.{IsBelow, key_path}
+use Rattle.tree_keys.specs.Path.{key_bits, tree_of, IsData, IsBelow, key_path}
 use Rattle.host_core.specs.World.{World, worker_at, shard_at}
 use Rattle.host_order.specs.Serving.{IsPlaceChain, content_behind, IsHad}
 use Rattle.host_order.specs.Told.{IsServed}
@@ -81,19 +83,24 @@ still (hot found) = refl
 still vacant = tt
 
 -- it owns the same keys, if it mirrors
-pub owns_still : (longest : ℕ) (digest : Digest) (hot_keys : List (List Bool)) (old new : Content) (key : ℕ) → IsStill old new
-    → ContentMirrors longest digest hot_keys new → Owns longest old key → Owns longest new key
-owns_still longest digest hot_keys (cold old) (cold new) key same mirrors own =
-    (mirrors.fits, record { whole = own.1.whole; below = subst (λ (path : List Bool). IsBelow path (key_path false key)) (sym same) own.1.below })
-owns_still longest digest hot_keys (cold old) (hot new) key same mirrors own = absurd same
-owns_still longest digest hot_keys (cold old) vacant key same mirrors own = absurd same
-owns_still longest digest hot_keys (hot old) (cold new) key same mirrors own = absurd same
-owns_still longest digest hot_keys (hot old) (hot new) key same mirrors own = same ∙ own
-owns_still longest digest hot_keys (hot old) vacant key same mirrors own = absurd same
-owns_still longest digest hot_keys vacant new key same mirrors own = absurd own
+pub owns_still : (longest more : ℕ) (digest : Digest) (hot_keys : List (List Bool)) (old new : Content) (key : ℕ) → IsStill old new
+    → ContentMirrors longest digest hot_keys new → Owns more old key → Owns longest new key
+owns_still longest more digest hot_keys (cold old) (cold new) key same mirrors own = (
+  mirrors.fits,
+  record {
+    whole = subst (λ (path : List Bool). IsData (key_path (tree_of path) key)) (sym same) own.1.whole;
+    below = subst (λ (path : List Bool). IsBelow path (key_path (tree_of path) key)) (sym same) own.1.below;
+  },
+)
+owns_still longest more digest hot_keys (cold old) (hot new) key same mirrors own = absurd same
+owns_still longest more digest hot_keys (cold old) vacant key same mirrors own = absurd same
+owns_still longest more digest hot_keys (hot old) (cold new) key same mirrors own = absurd same
+owns_still longest more digest hot_keys (hot old) (hot new) key same mirrors own = same ∙ own
+owns_still longest more digest hot_keys (hot old) vacant key same mirrors own = absurd same
+owns_still longest more digest hot_keys vacant new key same mirrors own = absurd own
 
 pub cold_still : (hot_keys : List (List Bool)) (old new : Content) (key : ℕ) → IsStill old new → IsCold hot_keys old key → IsCold hot_keys new key
-cold_still hot_keys (cold old) (cold new) key same apart = apart
+cold_still hot_keys (cold old) (cold new) key same apart = subst (λ (path : List Bool). IsAmong hot_keys (key_path (tree_of path) key) → ⊥) (sym same) apart
 cold_still hot_keys (cold old) (hot new) key same apart = tt
 cold_still hot_keys (cold old) vacant key same apart = tt
 cold_still hot_keys (hot old) (cold new) key same apart = absurd same
@@ -118,10 +125,10 @@ still_after absent digest worker vacant vacant links request clock same = same
 
 -- ---- the services of a place
 
--- the key has no more than 64 bits, and the value no more than so many bytes
-pub record IsSmall (longest : ℕ) (service : Service) : Type 0 where
-  pub key : service.request.key < 2 ^ 64
-  pub value : IsBlob longest service.request.value
+-- the key has no more bits, and the value no more bytes, than those of a bundle with this header
+pub record IsSmall (header : Header) (service : Service) : Type 0 where
+  pub key : service.request.key < 2 ^ key_bits (wide_of header)
+  pub value : IsBlob (longest_of header) service.request.value
 
 module _ (functions : DigestFunctions) (settings : Settings) (script : List (List Task)) (world : World Content)
     (orderly : IsOrderly functions settings script world) (terms : Terms) (made : AreTermsOf (shipped_host functions settings script) settings.absent world terms)
@@ -159,17 +166,19 @@ module _ (functions : DigestFunctions) (settings : Settings) (script : List (Lis
     first = shown_content (first_at terms place)
 
     -- the first content of the place can serve the service's request
-    first_serves : (service : Service) → service.place ≡ place → told.IsServed terms service → IsSmall (longest_of settings.header) service → SeatServes (longest_of settings.header) functions.digest hot_keys first service.request
+    first_serves : (service : Service) → service.place ≡ place → told.IsServed terms service → IsSmall settings.header service → SeatServes (longest_of settings.header) functions.digest hot_keys first service.request
     first_serves service at served small =
         let is_at : IsPlaceOf terms place service.request.key = subst (λ (n : ℕ). IsPlaceOf terms n service.request.key) at served.at in
         subst (λ (c : Content). SeatServes (longest_of settings.header) functions.digest hot_keys c service.request) (made.contents place there)
         (seat_serves (longest_of settings.header) functions.digest (shard_at world (place / 5)).contents
         (orderly.shards (place / 5) (shard_there functions settings script world orderly terms made place there)).mirrors
-        (place % 5) service.request small.key
+        (place % 5) service.request
+        (subst (λ (wide : Bool). service.request.key < 2 ^ key_bits wide)
+        (sym (orderly.shards (place / 5) (shard_there functions settings script world orderly terms made place there)).tree) small.key)
         (owns_there functions settings script world orderly terms made place there service.request is_at small.value))
 
     from_mirrored : (x y : code.Content) (services : List Service) → IsStill first (shown_content x) → ContentMirrors (longest_of settings.header) functions.digest hot_keys (shown_content x)
-        → told.Leads terms place x services y → AllByRecursion (IsSmall (longest_of settings.header)) services
+        → told.Leads terms place x services y → AllByRecursion (IsSmall settings.header) services
         → AllByRecursion (λ service. IsServed (shipped_host functions settings script) world (serving_of service)) services
     from_mirrored x y [] same mirrors leads small = tt
     from_mirrored x y (service ∷ services) same mirrors leads small =
@@ -191,7 +200,7 @@ module _ (functions : DigestFunctions) (settings : Settings) (script : List (Lis
         mirrors_before = subst (ContentMirrors (longest_of settings.header) functions.digest hot_keys) (sym leads.1) mirrors
 
         own : Owns (longest_of settings.header) before service.request.key
-        own = owns_still (longest_of settings.header) functions.digest hot_keys first before service.request.key same_before mirrors_before serves.own
+        own = owns_still (longest_of settings.header) (longest_of settings.header) functions.digest hot_keys first before service.request.key same_before mirrors_before serves.own
 
         apart : IsCold hot_keys before service.request.key
         apart = cold_still hot_keys first before service.request.key same_before serves.cold_there
@@ -207,7 +216,7 @@ module _ (functions : DigestFunctions) (settings : Settings) (script : List (Lis
             digests small.0.value mirrors_before own apart plan
 
     -- Each service of the place's past is what the host does.
-    pub past_served : (y : code.Content) (services : List Service) → told.Leads terms place (first_at terms place) services y → AllByRecursion (IsSmall (longest_of settings.header)) services
+    pub past_served : (y : code.Content) (services : List Service) → told.Leads terms place (first_at terms place) services y → AllByRecursion (IsSmall settings.header) services
         → AllByRecursion (λ service. IsServed (shipped_host functions settings script) world (serving_of service)) services
     past_served y [] leads small = tt
     past_served y (service ∷ services) leads small =

@@ -3,7 +3,7 @@ use Rattle.std.proofs.Common.{◌≡◌, ℕ, suc, ◌+◌, ◌*◌, ◌/◌, �
 use Rattle.std.specs.Prelude.{◌==◌}
 use Rattle.std.specs.List.{list_any}
 use Rattle.std.proofs.lemmas.Bool.{false≢true, and_from, eqb-true}
-use Rattle.tree_keys.specs.Path.{side, is_prefix, IsBelow, key_path}
+use Rattle.tree_keys.specs.Path.{side, is_prefix, IsBelow}
 use Rattle.tree_keys.proofs.SideLaws.{prefix_of_side}
 use Rattle.record_hash.specs.Functions.{DigestFunctions}
 use Rattle.record_text.specs.declared.request.Request.{Request}
@@ -17,7 +17,7 @@ use Rattle.host_order.specs.Serving.{content_at}
 use Rattle.host_shard.specs.declared.content.Content as code
 use Rattle.host_shard.specs.declared.content.Content.TheVariants.{Cold, Hot, Vacant}
 use Rattle.host_shard.specs.declared.content.HotRecord.{HotRecord}
-use Rattle.host_shard.specs.Shard.{Shard}
+use Rattle.host_shard.specs.Shard.{key_path_in, Shard}
 use Rattle.host_shard.specs.Content.{Content, cold, hot, vacant}
 use Rattle.host_shard.specs.Shown.{shown_content}
 use Rattle.host_plan.specs.Plan.{Owns}
@@ -118,8 +118,8 @@ module _ (functions : DigestFunctions) (settings : Settings) (script : List (Lis
       where
         go : (c : Content) → here ≡ c → Owns longest_blob c request.key → serves_key seats request.key c ≡ true
         go (cold shard) is own =
-            and_from (is_prefix shard.frontier (key_path false request.key)) (not (list_any (is_hot_at request.key) seats))
-            (prefix_below shard.frontier (key_path false request.key) own.1.below)
+            and_from (is_prefix shard.frontier (key_path_in shard request.key)) (not (list_any (is_hot_at request.key) seats))
+            (prefix_below shard.frontier (key_path_in shard request.key) own.1.below)
             (ap (λ (b : Bool). not b) (cold_seats shard is))
         go (hot found) is own = eq-eqb found.key request.key own
         go vacant is own = absurd own

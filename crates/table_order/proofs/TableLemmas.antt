@@ -71,8 +71,8 @@ module _ (functions : DigestFunctions) (settings : Settings) (script : List (Lis
 
   -- ---- the services
 
-  rows_small : AllByRecursion (IsSmall (longest_of settings.header)) (services_in rows)
-  rows_small = all-flat (IsSmall (longest_of settings.header)) (λ (row : Row). row.list) new_row rows
+  rows_small : AllByRecursion (IsSmall settings.header) (services_in rows)
+  rows_small = all-flat (IsSmall settings.header) (λ (row : Row). row.list) new_row rows
       (λ i there. next_small functions settings script is.behind.keys is.behind.values world.phase i (worker_at host world i).served (row_at rows i).list
       (is.turns i (omega (arith, there, rows_are))).next)
 
@@ -80,8 +80,8 @@ module _ (functions : DigestFunctions) (settings : Settings) (script : List (Lis
   pasts_done = all-joined IsDone phase.past 0 (place_count terms) (λ place from below.
       let there : place < place_count terms = omega (arith, below) in
       past_served functions settings script world orderly terms is.made is.digests does running place there (get_or after place Vacant) (phase.past place) (phase.leads place there)
-      (all-numbered (IsSmall (longest_of settings.header)) phase.past 0 (place_count terms) place from below
-      (all-moved (IsSmall (longest_of settings.header)) (services_in rows) (joined_from 0 (place_count terms) phase.past) phase.same rows_small)))
+      (all-numbered (IsSmall settings.header) phase.past 0 (place_count terms) place from below
+      (all-moved (IsSmall settings.header) (services_in rows) (joined_from 0 (place_count terms) phase.past) phase.same rows_small)))
 
   rows_done : AllByRecursion IsDone (services_in rows)
   rows_done = all-moved IsDone (joined_from 0 (place_count terms) phase.past) (services_in rows)

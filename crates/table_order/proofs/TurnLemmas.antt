@@ -2,12 +2,14 @@
 use Rattle.std.proofs.Common.{◌≡◌, ◌≢◌, ℕ, suc, ◌+◌, ◌^◌, ◌<◌, List, [], ◌∷◌, ◌++◌, length, slice_get, Option, Some, None, refl, sym, subst, arith}
 use Rattle.std.specs.List.{AllByRecursion}
 use Rattle.std.specs.Option.{ForSome}
+use Rattle.tree_keys.specs.Path.{key_bits}
 use Rattle.stamp_order.proofs.InOrderLaws.{every-append}
 use Rattle.lamport_clocks.specs.Reading.{Reading}
 use Rattle.record_hash.specs.Functions.{DigestFunctions}
 use Rattle.record_text.specs.declared.request.Request.{Request}
 use Rattle.record_text.specs.Value.{IsBlob}
 use Rattle.record_text.specs.Longest.{longest_of}
+use Rattle.record_text.specs.Tree.{wide_of}
 use Rattle.script_text.specs.declared.task.Task.{Task}
 use Rattle.host_core.specs.Host.{Host, asked}
 use Rattle.host_shard.specs.Content.{Content}
@@ -63,14 +65,14 @@ next_value functions settings script values phase worker served request next =
     all-got (λ (ask : ℕ × Request). IsBlob (longest_of settings.header) ask.1.value) (asked (shipped_host functions settings script) worker) served (phase, request)
     (in_phases (λ request. IsBlob (longest_of settings.header) request.value) worker 0 script values) next
 
--- Of what the script asks each key has no more than 64 bits, and each value is short.
-pub next_small : (functions : DigestFunctions) (settings : Settings) (script : List (List Task)) → AreInRange script → HaveShortValues settings.header script → (phase worker served : ℕ) (services : List Service)
-    → AreNext (shipped_host functions settings script) phase worker served services → AllByRecursion (IsSmall (longest_of settings.header)) services
+-- Of what the script asks each key is in range, and each value is short.
+pub next_small : (functions : DigestFunctions) (settings : Settings) (script : List (List Task)) → AreInRange settings.header script → HaveShortValues settings.header script → (phase worker served : ℕ) (services : List Service)
+    → AreNext (shipped_host functions settings script) phase worker served services → AllByRecursion (IsSmall settings.header) services
 next_small functions settings script keys values phase worker served [] next = tt
 next_small functions settings script keys values phase worker served (service ∷ services) next = (
   record {
-    key = all-got (λ (ask : ℕ × Request). ask.1.key < 2 ^ 64) (asked (shipped_host functions settings script) worker) served (phase, service.request)
-        (in_phases (λ request. request.key < 2 ^ 64) worker 0 script keys) next.0;
+    key = all-got (λ (ask : ℕ × Request). ask.1.key < 2 ^ key_bits (wide_of settings.header)) (asked (shipped_host functions settings script) worker) served (phase, service.request)
+        (in_phases (λ request. request.key < 2 ^ key_bits (wide_of settings.header)) worker 0 script keys) next.0;
     value = next_value functions settings script values phase worker served service.request next.0;
   },
   next_small functions settings script keys values phase worker (suc served) services next.1,

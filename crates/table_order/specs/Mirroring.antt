@@ -3,15 +3,17 @@ use Rattle.std.specs.Prelude.{◌≡◌, ℕ, ◌*◌, ◌/◌, ◌^◌, ◌<◌
 use Rattle.std.specs.List.{flat_map, AllByRecursion}
 use mathlib.Core.Option.{some}
 use lib.ListN.{get_elem?}
-use Rattle.record_text.specs.Longest.{longest_blob}
+use Rattle.tree_keys.specs.Path.{key_bits}
+use Rattle.record_text.specs.Tree.{wide_of}
+use Rattle.record_text.specs.Longest.{longest_of}
+use Rattle.record_text.specs.Value.{IsBlob}
 use Rattle.atomic_table.specs.Table.{State}
 use Rattle.record_text.specs.declared.element.Element.{Element}
 use Rattle.merkle_records.specs.Merkle.{GivesDigests}
 use Rattle.soundness.specs.Timed.{IsRising}
 use Rattle.host_shard.specs.declared.content.Content as code
-use Rattle.host_shard.specs.declared.content.Content.TheVariants.{Hot}
-use Rattle.host_shard.specs.declared.content.HotRecord.{HotRecord}
-use Rattle.host_shard.specs.Content.{Content, pending}
+use Rattle.host_shard.specs.Shard.{wide_in}
+use Rattle.host_shard.specs.Content.{Content, cold, hot, vacant, pending}
 use Rattle.host_shard.specs.Shown.{shown_content}
 use Rattle.protection_moves.specs.Stage.{hot_paths}
 use Rattle.host_laws.specs.Mirroring.{ContentMirrors}
@@ -35,24 +37,31 @@ shard_at_making terms place = map shown_content (take places_each (drop (place /
 abbrev pub hot_keys_at : Terms → ℕ → List (List Bool)
 hot_keys_at terms place = hot_paths (shard_at_making terms place)
 
--- The table is made of contents that mirror, each with the keys hot that have a hot record in its shard, and the hot keys have
--- 64 bits. Its numbers are as a making asks, and digests have 32 bytes.
+-- the content is of this tree: its frontier, or the key of its hot record
+abbrev pub IsOfTree : Bool → Content → Type 0
+IsOfTree wide (cold shard) = wide_in shard ≡ wide
+IsOfTree wide (hot record') = (record'.wide ≡ wide) × (record'.key < 2 ^ key_bits wide)
+IsOfTree wide vacant = Unit {0}
+
+-- The table is made of contents that mirror, each with the keys hot that have a hot record in its shard, and all are of the
+-- header's tree. Its numbers are as a making asks, and digests have 32 bytes.
 pub record MirrorsAtMaking (terms : Terms) : Type 0 where
   pub digests : GivesDigests terms.digest
   pub making : IsMaking terms.header terms.workers terms.contents
   pub mirrors : (place : ℕ) → place < place_count terms
-      → ContentMirrors longest_blob terms.digest (hot_keys_at terms place) (shown_content (first_at terms place))
-  pub in_range : (place : ℕ) (kept : HotRecord) → first_at terms place ≡ Hot kept → kept.key < 2 ^ 64
+      → ContentMirrors (longest_of terms.header) terms.digest (hot_keys_at terms place) (shown_content (first_at terms place))
+  pub of_tree : (place : ℕ) → place < place_count terms → IsOfTree (wide_of terms.header) (shown_content (first_at terms place))
 
 -- ---- between two steps
 
--- the keys that are asked for have 64 bits
-abbrev pub AreInRange : List Service → Type 0
-AreInRange services = AllByRecursion (λ service. service.request.key < 2 ^ 64) services
+-- the keys that are asked for have no more bits, and the values no more bytes, than those of a bundle with the table's header
+abbrev pub AreInRange : Terms → List Service → Type 0
+AreInRange terms services = AllByRecursion
+    (λ service. (service.request.key < 2 ^ key_bits (wide_of terms.header)) × IsBlob (longest_of terms.header) service.request.value) services
 
 -- the same of the histories of all places
-abbrev pub HasKeysInRange : Terms → Scene → Type 0
-HasKeysInRange terms scene = (place : ℕ) → place < place_count terms → AreInRange (scene.past place)
+abbrev pub HasRequestsInRange : Terms → Scene → Type 0
+HasRequestsInRange terms scene = (place : ℕ) → place < place_count terms → AreInRange terms (scene.past place)
 
 -- this content is at home in its place's cell, whose word is 0
 abbrev pub IsAtHome : State code.Content View → ℕ → code.Content → Type 0
@@ -66,7 +75,7 @@ IsInHand s place content =
 -- The content mirrors as at the making, with the same keys hot. The element with which it waits, if it does, is by a verifier
 -- of the bundle, of the phase's epoch, and its counter does not pass the end.
 pub record MirrorsAt (terms : Terms) (place : ℕ) (content : code.Content) : Type 0 where
-  pub mirrors : ContentMirrors longest_blob terms.digest (hot_keys_at terms place) (shown_content content)
+  pub mirrors : ContentMirrors (longest_of terms.header) terms.digest (hot_keys_at terms place) (shown_content content)
   pub stamped : IsStamped terms.header (phase_epoch terms) (shown_content content)
 
 -- ---- a worker

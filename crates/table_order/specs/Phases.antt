@@ -22,9 +22,10 @@ use Rattle.host_world.specs.Behind.{IsBehindSetup}
 use Rattle.host_world.specs.Places.{places_each, place_of}
 use Rattle.host_world.specs.ShippedHost.{shipped_host}
 
--- The table was made of the world: of its places in the order of their numbers, and for its workers, with the host's
--- digests, and is told as the host is whether a get of a key that has no record makes none.
+-- The table was made of the world: of its places in the order of their numbers, and for its workers, with the host's header
+-- and digests, and is told as the host is whether a get of a key that has no record makes none.
 pub record AreTermsOf (host : Host Content Request) (absent : Bool) (world : World Content) (terms : Terms) : Type 0 where
+  pub header : terms.header ≡ host.header
   pub digest : terms.digest ≡ host.functions.digest
   pub absent_is : terms.absent ≡ absent
   pub workers : terms.workers ≡ length world.workers

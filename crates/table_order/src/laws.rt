@@ -29,7 +29,7 @@ ghost use Rattle.host_world.specs.Places.{place_of};
 ghost use Rattle.host_world.specs.ShippedHost.{shipped_host};
 ghost use Rattle.table_order.specs.Servings.{serving_of, lists_of, pasts_of, stops_of};
 ghost use Rattle.table_order.specs.Phases.{AreTermsOf, IsTableOf};
-ghost use Rattle.table_order.specs.Mirroring.{MirrorsAtMaking, AreInRange, HasKeysInRange, IsAtHome, IsInHand, IsDesk, MirrorsAt, AreEvictsOf};
+ghost use Rattle.table_order.specs.Mirroring.{MirrorsAtMaking, AreInRange, HasRequestsInRange, IsAtHome, IsInHand, IsDesk, MirrorsAt, AreEvictsOf};
 
 use host_fits::{
     plans_are_what_the_host_does, the_shipped_host_is_steady, the_shipped_host_keeps_its_promise,
@@ -125,15 +125,16 @@ pub fn a_making_of_a_world_mirrors()
 /// Between any two steps of a table that is made of contents that mirror, each content mirrors with the same keys hot, and
 /// waits with an element that a verifier of the bundle stamped in the phase's epoch, within the counters' end: what is at home,
 /// what a worker's view has in hand, and so what a try takes, whose history leads to it. What a worker's view lists evicted
-/// elements of its own, with rising stamps. It is asked that the keys of requests have 64 bits.
+/// elements of its own, with rising stamps. It is asked that the keys of requests have
+/// no more bits, and their values no more bytes, than the header says.
 pub fn contents_of_a_table_mirror()
     ensures home { (terms : Terms) (s : State code.Content View) (kept : IsKept terms s) (place : ℕ) (content : code.Content)
-        → MirrorsAtMaking terms → HasKeysInRange terms kept.scene → place < place_count terms → IsAtHome s place content
+        → MirrorsAtMaking terms → HasRequestsInRange terms kept.scene → place < place_count terms → IsAtHome s place content
         → MirrorsAt terms place content }
     ensures in_hand { (terms : Terms) (s : State code.Content View) (kept : IsKept terms s) (place : ℕ) (content : code.Content)
-        → MirrorsAtMaking terms → HasKeysInRange terms kept.scene → IsInHand s place content → MirrorsAt terms place content }
+        → MirrorsAtMaking terms → HasRequestsInRange terms kept.scene → IsInHand s place content → MirrorsAt terms place content }
     ensures led { (terms : Terms) (place : ℕ) (past : List Service) (content : code.Content)
-        → MirrorsAtMaking terms → place < place_count terms → AreInRange past
+        → MirrorsAtMaking terms → place < place_count terms → AreInRange terms past
         → Leads terms place (first_at terms place) past content → MirrorsAt terms place content }
     ensures rising { (terms : Terms) (s : State code.Content View) (desk : Desk)
         → terms.workers ≤ terms.header.verifiers → IsKept terms s → IsDesk s desk → AreEvictsOf terms desk.number desk.list }

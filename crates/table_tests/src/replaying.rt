@@ -1,5 +1,5 @@
 //! What workers served, served again one after another.
-ghost use Rattle.std.specs.Prelude.{◌≡◌, ◌<◌, IsTrue, length};
+ghost use Rattle.std.specs.Prelude.{◌≡◌, IsTrue, length};
 ghost use Rattle.host_shard.specs.Shown.{shown_content};
 ghost use Rattle.host_plan.specs.Plan.{IsOpenAt};
 ghost use Rattle.table_tests.specs.Ready.{AreOwners, OwnsBelow};
@@ -77,7 +77,7 @@ fn serve_again<D: Digests>(
     ensures owns { OwnsBelow frontier.now (shown_content content.new) }
 {
     let mut clock = served.clock;
-    if !Path::of_key(served.request.key).is_below(frontier) {
+    if !Path::of_number(frontier.is_wide(), served.request.key).is_below(frontier) {
         panic!(rt; "a key of another shard");
     }
     if !is_in_epoch(content, &clock) {

@@ -113,7 +113,7 @@ impl Turn {
         ensures works { Works (terms D.functions records.now) (table records.now) self.old self.new }
     {
         let request = request_of(place, bits, round);
-        if !Path::of_key(request.key).is_below(frontier) {
+        if !Path::of_number(frontier.is_wide(), request.key).is_below(frontier) {
             return;
         }
         let clock = self.clock;

@@ -105,6 +105,35 @@ fn a_source_is_read_up_to_its_end_or_to_a_stop(rt: HostRuntime) {
     }
 }
 
+// A header and a byte behind it, which are read one by one up to this limit; then what comes, and how many bytes are left.
+const HEADERS: &str = "
+46564233 0002 00000004 00000000 00ffffff 80 ff | 1000 | head 2, bad 19 | 0
+46564233 0002 00000004 00000000 00ffffff 80 ff | 19 | head 2, limit | 0
+46564233 0002 00000004 00000000 00ffffff 80 ff | 18 | limit | 1
+46564233 0002 00000004 00000000 00ffffff 41 ff | 1000 | bad 0 | 1
+46564233 0000 00000004 00000000 00ffffff 40 ff | 19 | bad 0 | 1
+46564233 0000 00000004 00000000 00ffffff 40 ff | 18 | limit | 1
+46564233 0000 00000004 00000000 00ffffff | 1000 | bad 0 | 0
+46564232 0000 00000004 00000000 00ffffff ff | 18 | bad 0 | 1
+46564333 0002 00000004 00000000 00ffffff ff | 18 | bad 0 | 1
+";
+
+// What a row says comes of its bytes.
+fn assert_header(rt: &impl Abort, alloc: Global, row: &str) {
+    let bytes = bytes_of(rt, alloc, field(rt, row, 0));
+    let mut source = MemorySource::new(alloc, &bytes, 1, &[]).expect(rt, "memory");
+    let words = words_of(rt, alloc, number(rt, row, 1), &mut source);
+    same(rt, row, &words.as_str(), &field(rt, row, 2));
+    same(rt, row, &source.left().len(), &number(rt, row, 3));
+}
+
+#[test]
+fn no_more_is_read_than_the_header_has(rt: HostRuntime) {
+    for row in HEADERS.trim().lines() {
+        assert_header(&rt, rt.alloc(), row);
+    }
+}
+
 // What is bad behind the first frame, and where.
 const BAD: &str = "
 0002 00000001 01 | head 2, 1:010203, bad 27

@@ -162,7 +162,7 @@ fn a_cut_is_where_the_header_or_frame_begins(rt: HostRuntime) {
     }
 }
 
-// The header in place of that of the bundle with one key, and why it is bad.
+// The header in place of that of the bundle with one key, and why it is bad. All of its bytes are taken.
 const BAD_HEADERS: &str = "
 46564231 0000 00000004 00000000 00000001 | no verifier
 46564231 0041 00000004 00000000 00000001 | 65 verifiers
@@ -171,10 +171,22 @@ const BAD_HEADERS: &str = "
 46564231 0001 00000004 00000000 00000000 | an end of 0
 46564231 0001 00000004 00000000 01000000 | an end of 16,777,216
 46564230 0001 00000004 00000000 00000001 | version 0
-46564233 0001 00000004 00000000 00000001 | version 3
+46564234 0001 00000004 00000000 00000001 | version 4
 4656422f 0001 00000004 00000000 00000001 | no digit
 46564201 0001 00000004 00000000 00000001 | a version that is no digit
 46564331 0001 00000004 00000000 00000001 | another prefix
+46564333 0001 00000004 00000000 00000001 | another prefix, of 18 bytes before any digit
+46564233 0001 00000004 00000000 00000001 41 | keys of 65 bits
+46564233 0001 00000004 00000000 00000001 00 | keys of no bits
+46564233 0001 00000004 00000000 00000001 3f | keys of 63 bits
+46564233 0001 00000004 00000000 00000001 7f | keys of 127 bits
+46564233 0001 00000004 00000000 00000001 81 | keys of 129 bits
+46564233 0000 00000004 00000000 00000001 80 | no verifier, in version 3
+46564233 0041 00000004 00000000 00000001 40 | 65 verifiers, in version 3
+46564233 0001 00000003 00000000 00000001 40 | a cache of 3, in version 3
+46564233 0001 00010001 00000000 00000001 80 | a cache of 65,537, in version 3
+46564233 0001 00000004 00000000 00000000 80 | an end of 0, in version 3
+46564233 0001 00000004 00000000 01000000 40 | an end of 16,777,216, in version 3
 ";
 
 // An answer that is bad at this offset, once so many bytes were taken.
@@ -188,11 +200,15 @@ fn bad(taken: usize, offset: u64) -> Fed {
 // The bundle with the header of a row is bad.
 fn assert_bad_header(rt: &impl Abort, alloc: Global, row: &str) {
     let mut bundle = bytes_of(rt, alloc, field(rt, row, 0));
+    let taken = bundle.len();
     let bytes = bytes_of(rt, alloc, ONE_KEY);
     let rest = part(rt, &bytes, 18, 116);
     bundle.extend_from_slice(rest).expect(rt, "memory");
     let found = answers(rt, alloc, &bundle);
-    same(rt, row, &found, &(bad(18, 0), bad(0, 0), Some(0)));
+    same(rt, row, &found, &(bad(taken, 0), bad(0, 0), Some(0)));
+    let by_bytes = read(rt, alloc, &bundle, 1);
+    same(rt, row, &by_bytes.header, &None);
+    same(rt, row, &by_bytes.bad, &Some(0));
 }
 
 #[test]
@@ -202,11 +218,14 @@ fn headers_out_of_range_are_bad(rt: HostRuntime) {
     }
 }
 
-// A header, its four numbers, and its version.
+// A header, its four numbers, its version, and the bits of a key.
 const GOOD_HEADERS: &str = "
-46564231 0001 00000004 00000000 00000001 | 1 | 4 | 0 | 1 | 1
-46564231 0040 00010000 ffffffff 00ffffff | 64 | 65536 | 4294967295 | 16777215 | 1
-46564232 0001 00000004 00000000 00000001 | 1 | 4 | 0 | 1 | 2
+46564231 0001 00000004 00000000 00000001 | 1 | 4 | 0 | 1 | 1 | 64
+46564231 0040 00010000 ffffffff 00ffffff | 64 | 65536 | 4294967295 | 16777215 | 1 | 64
+46564232 0001 00000004 00000000 00000001 | 1 | 4 | 0 | 1 | 2 | 64
+46564233 0001 00000004 00000000 00000001 40 | 1 | 4 | 0 | 1 | 3 | 64
+46564233 0001 00000004 00000000 00000001 80 | 1 | 4 | 0 | 1 | 3 | 128
+46564233 0040 00010000 ffffffff 00ffffff 80 | 64 | 65536 | 4294967295 | 16777215 | 3 | 128
 ";
 
 // The header of a row.
@@ -217,6 +236,22 @@ fn header_of(rt: &impl Abort, row: &str) -> Header {
         cache: number(rt, row, 2),
         first: number(rt, row, 3),
         end: number(rt, row, 4),
+        bits: number(rt, row, 6),
+    }
+}
+
+// The header of a row is read from these bytes, at once and one by one, and is cut where any is left out.
+fn assert_good_header(rt: &impl Abort, alloc: Global, row: &str, text: &[u8]) {
+    let (fed, _, bad) = answers(rt, alloc, text);
+    let header = header_of(rt, row);
+    same(rt, row, &fed.found, &Found::Head(header));
+    same(rt, row, &fed.taken, &text.len());
+    same(rt, row, &bad, &None);
+    assert_read(rt, &read(rt, alloc, text, 1), header, 0);
+    for size in 0..text.len() {
+        let short = read(rt, alloc, part(rt, text, 0, size), 1);
+        same(rt, row, &short.header, &None);
+        same(rt, row, &short.bad, &Some(0));
     }
 }
 
@@ -224,10 +259,67 @@ fn header_of(rt: &impl Abort, row: &str) -> Header {
 fn headers_at_the_ends_of_the_ranges_are_good(rt: HostRuntime) {
     for row in GOOD_HEADERS.trim().lines() {
         let text = bytes_of(&rt, rt.alloc(), field(&rt, row, 0));
-        let (fed, _, bad) = answers(&rt, rt.alloc(), &text);
-        let header = header_of(&rt, row);
-        same(&rt, row, &fed.found, &Found::Head(header));
-        same(&rt, row, &bad, &None);
+        assert_good_header(&rt, rt.alloc(), row, &text);
+    }
+}
+
+#[test]
+fn headers_are_written(rt: HostRuntime) {
+    for row in GOOD_HEADERS.trim().lines() {
+        let mut sink = MemorySink::new(rt.alloc(), 30, 10, &[]).expect(&rt, "memory");
+        let answer = write_header(&header_of(&rt, row), &mut sink);
+        same(&rt, row, &answer, &Ok(()));
+        let text = bytes_of(&rt, rt.alloc(), field(&rt, row, 0));
+        same_bytes(&rt, row, sink.bytes(), &text);
+    }
+}
+
+// A header of version 3 with keys of 128 bits, and two frames.
+const LONG_KEYS: &str = "
+46564233 0001 00000100 00000007 00ffffff 80
+0000 00000003 010203
+0000 00000001 08
+";
+
+// The bundle of version 3 in pieces of a size.
+fn assert_long_keys(rt: &impl Abort, alloc: Global, bytes: &[u8], size: usize)
+    requires some { 0 < size }
+{
+    let header = Header {
+        version: 3,
+        verifiers: 1,
+        cache: 256,
+        first: 7,
+        end: 16_777_215,
+        bits: 128,
+    };
+    let bundle = read(rt, alloc, bytes, size);
+    assert_read(rt, &bundle, header, 2);
+    assert_frame(rt, &bundle, 0, b"\x01\x02\x03");
+    assert_frame(rt, &bundle, 1, b"\x08");
+}
+
+#[test]
+fn a_bundle_of_version_3_is_read_however_it_is_cut(rt: HostRuntime) {
+    let bytes = bytes_of(&rt, rt.alloc(), LONG_KEYS);
+    same(&rt, "bytes.len()", &bytes.len(), &35);
+    assert_long_keys(&rt, rt.alloc(), &bytes, 35);
+    assert_long_keys(&rt, rt.alloc(), &bytes, 4);
+    assert_long_keys(&rt, rt.alloc(), &bytes, 1);
+}
+
+#[test]
+fn a_bundle_of_version_3_is_cut_behind_19_bytes(rt: HostRuntime) {
+    let bytes = bytes_of(&rt, rt.alloc(), LONG_KEYS);
+    for size in 0..36 {
+        let short = read(&rt, rt.alloc(), part(&rt, &bytes, 0, size), 1);
+        let wanted = match size {
+            0..=18 => Some(0),
+            19 | 28 | 35 => None,
+            20..=27 => Some(19),
+            _ => Some(28),
+        };
+        same(&rt, "short.bad", &short.bad, &wanted);
     }
 }
 

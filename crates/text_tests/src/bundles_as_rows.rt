@@ -40,6 +40,18 @@ fn bundles_are_written(rt: HostRuntime) {
     same_bytes(&rt, "bundle", &bytes, &wanted);
 }
 
+// A header of version 3, and its bytes.
+const LONG_KEYS: &str = "bits 128 verifiers 2\nversion 3 cache 256\nbytes 08\n";
+
+const LONG_KEYS_BYTES: &str = "46564233 0002 00000100 00000000 00ffffff 80 0000 00000001 08";
+
+#[test]
+fn bundles_of_version_3_are_written(rt: HostRuntime) {
+    let bytes = bundle_of(rt.alloc(), LONG_KEYS).expect(&rt, "memory");
+    let wanted = bytes_of(&rt, rt.alloc(), LONG_KEYS_BYTES);
+    same_bytes(&rt, "bundle", &bytes, &wanted);
+}
+
 // Each form of a row of a log, with its bytes.
 const COMMANDS: &str = "\
 addM 5 none root: 01 400000000000000005 00 000000000000000000
@@ -60,6 +72,10 @@ evictB s65535 258.1: 04 ffff 00000102 00000001
 evictBM s4 s5 0.1: 05 0004 0005 00000000 00000001
 get s1 .: 06 0001 0100
 put s1 6162: 07 0001 01026162
+get w5 .: 06 8000000000000000000000000000000005 0100
+evictM w340282366920938463463374607431768211455/125 w/01: 02 7dfffffffffffffffffffffffffffffff8 0240000000000000000000000000000000
+addB wroot initial 0.1 v0: 03 0000000000000000000000000000000000 0000 00000000 00000001 0000
+addM s1 w258 0a s0: 01 0001 8000000000000000000000000000000102 01010a 0000
 ";
 
 // A row has its bytes.
@@ -71,7 +87,7 @@ fn assert_row(rt: &impl Abort, alloc: Global, line: &str) {
 
 #[test]
 fn rows_have_their_bytes(rt: HostRuntime) {
-    same(&rt, "rows", &COMMANDS.lines().count(), &18);
+    same(&rt, "rows", &COMMANDS.lines().count(), &22);
     for line in COMMANDS.lines() {
         assert_row(&rt, rt.alloc(), line);
     }
@@ -100,6 +116,9 @@ addM -5 none root
 addM 18446744073709551616 none root
 addM /2 empty root
 addM 5/65 none root
+addM w5/129 none wroot
+addM w340282366920938463463374607431768211456 none wroot
+addM 5w none root
 get 5 616
 get 5 -,5
 get 5 5:c,-
@@ -113,7 +132,7 @@ log x
 frames 0
 frames 65537
 verifiers
-version 1 verifiers 1 cache 4 first 0 end 1 end 1
+version 1 verifiers 1 cache 4 first 0 end 1 bits 64 end 1
 addM s1 5 none root
 evictM s65536 s0
 get s1 root

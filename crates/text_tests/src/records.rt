@@ -1,5 +1,7 @@
 //! Texts of paths, values and elements that were worked out by hand.
-use crate::rows::{bytes_of, data_value, field, path_below, path_of, same, same_bytes, stamp};
+use crate::rows::{
+    bytes_of, data_value, field, number, path_below, path_of, same, same_bytes, stamp,
+};
 use arrayvec::ArrayVec;
 use lamport_clocks::Header;
 use record_text::{
@@ -17,6 +19,15 @@ const TRUNCATED: TextFault = TextFault::Truncated;
 // The header of a bundle whose keys have 64 bits, and its values at most 64 bytes.
 fn header() -> Header {
     Header::by_path(1, 4, 0, 16_777_215)
+}
+
+// The same of another version, whose keys have so many bits.
+fn header_of(version: u8, bits: u8) -> Header {
+    Header {
+        version,
+        bits,
+        ..header()
+    }
 }
 
 // The text of a path.
@@ -68,15 +79,26 @@ root | 00 00000000000000000000000000000000
 01 | 02 40000000000000000000000000000000
 ";
 
-// A path of that tree has this text, and is read from it and from no front of it.
+// A path of that tree has this text, and is read from it and from no front of it where a bundle has such keys.
 fn assert_wide_path(rt: &impl Abort, path: Path, text: &[u8], row: &str) {
     same_bytes(rt, row, path_text(&path).as_slice(), text);
     same(rt, row, &Reader::new(text).path(true), &Ok(path));
+    let header = header_of(3, 128);
+    same(rt, row, &read_path(&header, text), &Ok((path, 17)));
     for len in 0..text.len() {
-        let front = Reader::new(&text[..len]).path(true);
+        let front = read_path(&header, &text[..len]);
         same(rt, row, &front, &Err(TRUNCATED));
     }
 }
+
+// Keys of 128 bits, in decimal digits, and the texts of their paths.
+const WIDE_KEYS: &str = "
+0 | 80 00000000000000000000000000000000
+1 | 80 00000000000000000000000000000001
+258 | 80 00000000000000000000000000000102
+18446744073709551616 | 80 00000000000000010000000000000000
+340282366920938463463374607431768211455 | 80 ffffffffffffffffffffffffffffffff
+";
 
 #[test]
 fn paths_of_wide_keys_have_seventeen_bytes(rt: HostRuntime) {
@@ -85,9 +107,36 @@ fn paths_of_wide_keys_have_seventeen_bytes(rt: HostRuntime) {
         let text = bytes_of(&rt, rt.alloc(), field(&rt, row, 1));
         assert_wide_path(&rt, path, &text, row);
     }
-    let row = "80 00000000000000000000000000000102";
+    for row in WIDE_KEYS.trim().lines() {
+        let path = Path::of_wide(number(&rt, row, 0));
+        let text = bytes_of(&rt, rt.alloc(), field(&rt, row, 1));
+        assert_wide_path(&rt, path, &text, row);
+    }
+}
+
+// Lengths past 128, and unused bits that aren't 0: behind 64 bits, where a path of the other tree would end, and at the last.
+const NO_WIDE_PATHS: &str = "
+00 00000000000000000000000000000001
+40 00000000000000050100000000000000
+7f 00000000000000000000000000000001
+81 00000000000000000000000000000000
+ff 00000000000000000000000000000000
+";
+
+#[test]
+fn bytes_outside_are_no_path_of_wide_keys(rt: HostRuntime) {
+    let header = header_of(3, 128);
+    for row in NO_WIDE_PATHS.trim().lines() {
+        let text = bytes_of(&rt, rt.alloc(), row);
+        same(&rt, row, &read_path(&header, &text), &Err(MALFORMED));
+        let front = text.get(..16).expect(&rt, "a short row");
+        same(&rt, row, &read_path(&header, front), &Err(TRUNCATED));
+    }
+    // In version 3 too a bundle of shorter keys has no path of these.
+    let row = "80 0000000000000000";
     let text = bytes_of(&rt, rt.alloc(), row);
-    assert_wide_path(&rt, Path::of_wide(258), &text, row);
+    let found = read_path(&header_of(3, 64), &text);
+    same(&rt, row, &found, &Err(MALFORMED));
 }
 
 // Unused bits that aren't 0, and lengths past 64.
@@ -174,6 +223,52 @@ fn data_values_have_a_flag_and_a_count(rt: HostRuntime) {
     same(&rt, "too long", &Blob::of_bytes(&[7; 256]), &None);
     assert_no_value(&rt, &key, &[2], MALFORMED);
     assert_no_value(&rt, &key, &[1, 65], MALFORMED);
+}
+
+// The version of a bundle, the bits of its keys, how many bytes the value of the key 5 has, and what is read of it.
+const LENGTHS: &str = "
+1 | 64 | 64 | read
+1 | 64 | 65 | Malformed
+1 | 64 | 255 | Malformed
+2 | 64 | 64 | read
+2 | 64 | 65 | Malformed
+2 | 64 | 255 | Malformed
+3 | 64 | 64 | read
+3 | 64 | 65 | read
+3 | 64 | 255 | read
+3 | 128 | 64 | read
+3 | 128 | 65 | read
+3 | 128 | 255 | read
+";
+
+// A value of so many bytes is read by the version of its bundle: its length alone is malformed, or else wants its bytes.
+fn assert_length(rt: &impl Abort, alloc: Global, row: &str) {
+    let header = header_of(number(rt, row, 0), number(rt, row, 1));
+    let len: u8 = number(rt, row, 2);
+    let path = Path::of_number(header.bits == 128, 5);
+    let mut text = Vec::new(alloc);
+    text.extend_from_slice(&[1, len]).expect(rt, "memory");
+    for _ in 0..len {
+        text.push(7).expect(rt, "memory");
+    }
+    let count = text.get(..2).expect(rt, "a short text");
+    let (whole, cut) = match field(rt, row, 3) {
+        "read" => {
+            let value = data_value(rt, text.get(2..).expect(rt, "a short text"));
+            (Ok((value, text.len())), TRUNCATED)
+        }
+        "Malformed" => (Err(MALFORMED), MALFORMED),
+        _ => panic!(rt; "a row of another end"),
+    };
+    same(rt, row, &read_value(&header, &path, &text), &whole);
+    same(rt, row, &read_value(&header, &path, count), &Err(cut));
+}
+
+#[test]
+fn data_values_are_as_long_as_their_version_allows(rt: HostRuntime) {
+    for row in LENGTHS.trim().lines() {
+        assert_length(&rt, rt.alloc(), row);
+    }
 }
 
 // A node of the path 0, whose pointers lead to 00 and 011, by the sides on which it has one.

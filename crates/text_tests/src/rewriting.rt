@@ -6,9 +6,12 @@ use crate::rows::same;
 use bundle_rows::{command_of, slot_command_of};
 use free_numbers::FreeNumbers;
 use lamport_clocks::Header;
+use log_codec::{Command, SlotCommand};
+use record_text::{Blob, Value};
 use slot_rewriting::Slots;
 use std::alloc::Global;
 use std::process::Abort;
+use tree_keys::Path;
 
 // Commands of verifier 0, whose cache has 4 entries, each with what it is by slots; `-` where it can't be rewritten.
 const OF_VERIFIER_0: &str = "\
@@ -71,6 +74,45 @@ fn each_add_takes_the_lowest_empty_slot(rt: HostRuntime) {
             assert_rewritten(&rt, &mut slots, row);
         }
     }
+}
+
+// The same of version 3, whose keys have 128 bits.
+fn wide_header() -> Header
+    ensures good { IsHeader result }
+{
+    Header {
+        version: 3,
+        bits: 128,
+        ..header()
+    }
+}
+
+// An add of the initial value of a key, by the root of a tree.
+fn add_below(root: Path, key: Path) -> Command {
+    Command::AddM {
+        path: key,
+        value: Value::Blob(Blob::none()),
+        parent: root,
+    }
+}
+
+#[test]
+fn the_first_slot_has_the_root_of_the_keys(rt: HostRuntime) {
+    let key = Path::of_wide(u128::MAX);
+    let add = add_below(Path::root_of(true), key);
+    let other = add_below(Path::root(), Path::of_key(u64::MAX));
+    let mut slots = Slots::new(rt.alloc(), 0, &wide_header()).expect(&rt, "memory");
+    same(&rt, "the other root", &slots.can_rewrite(&other), &false);
+    if !slots.can_rewrite(&add) {
+        panic!(rt; "no root in the first slot");
+    }
+    let wanted = SlotCommand::AddM {
+        slot: 1,
+        path: key,
+        value: Value::Blob(Blob::none()),
+        parent: 0,
+    };
+    same(&rt, "by slot", &slots.rewrite(&add), &wanted);
 }
 
 // The numbers below a bound.

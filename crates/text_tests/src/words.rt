@@ -144,11 +144,25 @@ fastver run --key 00112233445566778899aabbccddeeff --verifiers 1 --shards 2 --co
 fastver run --key 00112233445566778899aabbccddeeff --verifiers 1 --shards 2 --hot 0 | no touch
 fastver run --key 00112233445566778899aabbccddeeff --verifiers 1 --shards 2 --hot 1000001 | too many touches
 fastver run --key 00112233445566778899aabbccddeeff --verifiers 1 --shards 2 --format 0 | a version before the first
-fastver run --key 00112233445566778899aabbccddeeff --verifiers 1 --shards 2 --format 3 | a version past the last
+fastver run --key 00112233445566778899aabbccddeeff --verifiers 1 --shards 2 --format 4 | a version past the last
 fastver run --key 00112233445566778899aabbccddeeff --verifiers 1 --shards 2 --format 02 | a version with a leading zero
 fastver run --key 00112233445566778899aabbccddeeff --verifiers 1 --shards 2 --format | no version
 fastver run --key 00112233445566778899aabbccddeeff --verifiers 1 --shards 2 --format 2 --format 2 | two versions
 fastver check --key 00112233445566778899aabbccddeeff --format 2 | a version for a check
+fastver run --key 00112233445566778899aabbccddeeff --verifiers 1 --shards 2 --bits 64 | bits of a key for the version that is taken
+fastver run --key 00112233445566778899aabbccddeeff --verifiers 1 --shards 2 --bits 128 | long keys for the version that is taken
+fastver run --key 00112233445566778899aabbccddeeff --verifiers 1 --shards 2 --format 1 --bits 64 | bits of a key for version 1
+fastver run --key 00112233445566778899aabbccddeeff --verifiers 1 --shards 2 --format 2 --bits 64 | bits of a key for version 2
+fastver run --key 00112233445566778899aabbccddeeff --verifiers 1 --shards 2 --format 2 --bits 128 | long keys for version 2
+fastver run --key 00112233445566778899aabbccddeeff --verifiers 1 --shards 2 --format 3 --bits 63 | too few bits
+fastver run --key 00112233445566778899aabbccddeeff --verifiers 1 --shards 2 --format 3 --bits 65 | a bit more than 64
+fastver run --key 00112233445566778899aabbccddeeff --verifiers 1 --shards 2 --format 3 --bits 96 | bits between the two numbers
+fastver run --key 00112233445566778899aabbccddeeff --verifiers 1 --shards 2 --format 3 --bits 129 | too many bits
+fastver run --key 00112233445566778899aabbccddeeff --verifiers 1 --shards 2 --format 3 --bits 064 | bits with a leading zero
+fastver run --key 00112233445566778899aabbccddeeff --verifiers 1 --shards 2 --format 3 --bits= | bits with no digit
+fastver run --key 00112233445566778899aabbccddeeff --verifiers 1 --shards 2 --format 3 --bits | no bits
+fastver run --key 00112233445566778899aabbccddeeff --verifiers 1 --shards 2 --format 3 --bits 64 --bits 64 | bits twice
+fastver check --key 00112233445566778899aabbccddeeff --bits 128 | bits for a check
 fastver run --key 00112233445566778899aabbccddeeff --verifiers 1 --shards 2 --receipts --receipts | receipts of a run twice
 fastver run --key 00112233445566778899aabbccddeeff --verifiers 1 --shards 2 --receipts=1 | receipts of a run with a value
 fastver run --key 00112233445566778899aabbccddeeff --verifiers 1 --shards 2 --logs --receipts | receipts in the place of a path
@@ -177,19 +191,23 @@ fn words_that_are_refused(rt: HostRuntime) {
     }
 }
 
-// What stands behind `fastver run` and its key, the verifiers, shards, first epoch, last counter and version that it asks for, and
-// whether it says absent, its threshold, and the path of its logs.
+// What stands behind `fastver run` and its key, the verifiers, shards, first epoch, last counter, version and bits of a key that it
+// asks for, and whether it says absent, its threshold, and the path of its logs.
 const RUNNING: &str = "
---verifiers 1 --shards 2 | 1 2 0 16777215 1 | none | none
---verifiers 1 --shards 1024 --first 4294967295 --counter 1 | 1 1024 4294967295 1 1 | none | none
---counter=16777215 --shards=4 --logs=a/b --verifiers=1 --first=0 | 1 4 0 16777215 1 | none | a/b
---hot 1000000 --logs x --verifiers 1 --shards 512 | 1 512 0 16777215 1 | 1000000 | x
---verifiers 2 --shards 2 | 2 2 0 16777215 1 | none | none
---hot 1 --verifiers 64 --shards 1024 | 64 1024 0 16777215 1 | 1 | none
---verifiers 1 --shards 2 --format 1 | 1 2 0 16777215 1 | none | none
---format=2 --verifiers 2 --logs a/b --shards 2 | 2 2 0 16777215 2 | none | a/b
---hot 1 --verifiers 64 --shards 1024 --first 7 --counter 4 --format 2 --receipts | 64 1024 7 4 2 | 1 | none
---absent --verifiers 1 --shards 2 | 1 2 0 16777215 1 absent | none | none
+--verifiers 1 --shards 2 | 1 2 0 16777215 1 64 | none | none
+--verifiers 1 --shards 1024 --first 4294967295 --counter 1 | 1 1024 4294967295 1 1 64 | none | none
+--counter=16777215 --shards=4 --logs=a/b --verifiers=1 --first=0 | 1 4 0 16777215 1 64 | none | a/b
+--hot 1000000 --logs x --verifiers 1 --shards 512 | 1 512 0 16777215 1 64 | 1000000 | x
+--verifiers 2 --shards 2 | 2 2 0 16777215 1 64 | none | none
+--hot 1 --verifiers 64 --shards 1024 | 64 1024 0 16777215 1 64 | 1 | none
+--verifiers 1 --shards 2 --format 1 | 1 2 0 16777215 1 64 | none | none
+--format=2 --verifiers 2 --logs a/b --shards 2 | 2 2 0 16777215 2 64 | none | a/b
+--hot 1 --verifiers 64 --shards 1024 --first 7 --counter 4 --format 2 --receipts | 64 1024 7 4 2 64 | 1 | none
+--absent --verifiers 1 --shards 2 | 1 2 0 16777215 1 64 absent | none | none
+--verifiers 1 --shards 2 --format 3 | 1 2 0 16777215 3 64 | none | none
+--bits=64 --verifiers 1 --shards 2 --format 3 | 1 2 0 16777215 3 64 | none | none
+--verifiers 1 --bits 128 --shards 2 --format=3 | 1 2 0 16777215 3 128 | none | none
+--format 3 --bits 128 --hot 1 --verifiers 64 --shards 1024 --first 7 --counter 4 --absent --logs x | 64 1024 7 4 3 128 absent | 1 | x
 ";
 
 // The number at this place of a text, counted from 0.
@@ -219,6 +237,7 @@ fn numbers_in(rt: &impl Abort, row: &str) -> HostNumbers {
         first: number_in(rt, text, 2),
         counter: number_in(rt, text, 3),
         version: number_in(rt, text, 4),
+        bits: number_in(rt, text, 5),
         absent: text.ends_with("absent"),
         hot: hot_in(rt, row),
     }
@@ -261,13 +280,13 @@ fn what_a_run_asks_for(rt: HostRuntime) {
     }
 }
 
-// What stands behind `fastver gen` and its key, the verifiers, shards, first epoch, last counter, version and threshold that it
-// asks for, the path of its logs, and the seed, requests, keys and requests of an epoch.
+// What stands behind `fastver gen` and its key, the verifiers, shards, first epoch, last counter, version, bits of a key and threshold
+// that it asks for, the path of its logs, and the seed, requests, keys and requests of an epoch.
 const LOADING: &str = "
---seed 0 --ops 0 --verifiers 1 --shards 2 | 1 2 0 16777215 1 | none | none | 0 0 1024 10000
---seed 18446744073709551615 --ops 1000000 --verifiers 64 --shards 1024 --keys 65536 --every 1000000 | 64 1024 0 16777215 1 | none | none | 18446744073709551615 1000000 65536 1000000
---every=1 --keys=1 --ops=1 --seed=1 --shards=4 --verifiers=2 --hot=1 --logs=a/b --first=4294967295 --counter=1 | 2 4 4294967295 1 1 | 1 | a/b | 1 1 1 1
---counter 16777215 --first 0 --logs x --hot 1000000 --seed 4294967296 --ops 999999 --keys 65535 --every 999999 --verifiers 63 --shards 512 | 63 512 0 16777215 1 | 1000000 | x | 4294967296 999999 65535 999999
+--seed 0 --ops 0 --verifiers 1 --shards 2 | 1 2 0 16777215 1 64 | none | none | 0 0 1024 10000
+--seed 18446744073709551615 --ops 1000000 --verifiers 64 --shards 1024 --keys 65536 --every 1000000 | 64 1024 0 16777215 1 64 | none | none | 18446744073709551615 1000000 65536 1000000
+--every=1 --keys=1 --ops=1 --seed=1 --shards=4 --verifiers=2 --hot=1 --logs=a/b --first=4294967295 --counter=1 | 2 4 4294967295 1 1 64 | 1 | a/b | 1 1 1 1
+--counter 16777215 --first 0 --logs x --hot 1000000 --seed 4294967296 --ops 999999 --keys 65535 --every 999999 --verifiers 63 --shards 512 | 63 512 0 16777215 1 64 | 1000000 | x | 4294967296 999999 65535 999999
 ";
 
 // The numbers of a row's load.
@@ -335,6 +354,8 @@ const REFUSED_LOADS: &str = "
 --seed 0 --ops 3 --verifiers 1 --shards 2 --counter 16777216 | a load with a counter past 24 bits
 --seed 0 --ops 3 --verifiers 1 --shards 2 --logs | a load with no path
 --seed 0 --ops 3 --verifiers 1 --shards 2 --format 2 | a version for a load
+--seed 0 --ops 3 --verifiers 1 --shards 2 --format 3 --bits 128 | long keys for a load
+--seed 0 --ops 3 --verifiers 1 --shards 2 --bits 64 | bits for a load
 --seed 0 --ops 3 --verifiers 1 --shards 2 --receipts | receipts of a load
 --seed 0 --ops 3 --verifiers 1 --shards 2 more | a word more for a load
 ";

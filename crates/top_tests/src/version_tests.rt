@@ -123,8 +123,8 @@ refused v0 command 0 Malformed
 addM s1 5 none s0
 -> 8
 refused v0 command 0 Malformed
-== a third version
-version 3
+== a fourth version
+version 4
 next
 -> 7
 bad bundle at byte 0

@@ -2,7 +2,7 @@
 use Rattle.std.proofs.Common.{◌≡◌, ℕ, zero, suc, ◌+◌, ◌-◌, ◌*◌, ◌/◌, ◌%◌, ◌^◌, ◌<◌, ◌≤◌, ◌==◌, Bool, true, false, List, [], ◌∷◌, ◌++◌, length, take, slice_get, Some, refl, sym, ◌∙◌, ap, subst, arith}
 use Rattle.std.proofs.lemmas.Nat.{shr-shr, pow_pos, mod_low, shr_high, mod_below, same_from_place, shr_below}
 use Rattle.std.proofs.lemmas.List.{take_at}
-use Rattle.std.proofs.Math.Nat.{pow-suc, pow-le-pow_right}
+use Rattle.std.proofs.Math.Nat.{mod-mod, pow-suc, pow-le-pow_right}
 use Rattle.tree_keys.specs.Bits.{bits_of, bit_value, number_of}
 use Rattle.tree_keys.specs.Path.{IsIn, depth, tree_of, key_of}
 use Rattle.tree_keys.specs.BitsLaws.{length-bits_of, top_digit, mod_small, number_back, upper_half, lower_half}
@@ -132,6 +132,9 @@ child_fits len bits digit short small bit =
 pub halves : (number : ℕ) → number / 2 ^ 64 * 2 ^ 64 + number % 2 ^ 64 ≡ number
 halves number = omega arith
 
+pub low_bits : (n number : ℕ) → bits_of n (number % 2 ^ n) ≡ bits_of n number
+low_bits n number = bits_of-same n (number % 2 ^ n) number (mod-mod number (2 ^ n))
+
 -- a path by the number that its bits spell
 pub opened : (wide : Bool) (len number bits : ℕ) (path : List Bool) → wide ∷ bits_of len number ≡ path → number < 2 ^ len → bits ≡ key_of path → path ≡ wide ∷ bits_of len bits
 opened wide len number bits path view small is =
@@ -145,6 +148,8 @@ parts (wide ∷ bits) on within = ap (λ (more : List Bool). wide ∷ more) (sym
 
 -- what a path's view tells of its fields
 pub ruleset path_view = (length-bits_of, number_back, halves, upper_half, lower_half)
+
+pub ruleset number_view = (length-bits_of, low_bits)
 
 pub ruleset bit_view = (length-bits_of, bit_of-bits_of, bit-behind)
 

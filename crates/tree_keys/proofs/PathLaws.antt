@@ -41,12 +41,6 @@ side-apart (false ∷ p) (false ∷ k) within apart = side-apart p k (omega arit
 
 -- ---- the same of paths that are given by numbers
 
-pub side_of_shorter : (m a n b : ℕ) → n ≤ m → side (bits_of m a) (bits_of n b) ≡ None
-side_of_shorter m a n b short =
-    let count = length-bits_of m a in
-    let other = length-bits_of n b in
-    side-short (bits_of m a) (bits_of n b) (omega arith)
-
 -- the first bits of the longer path, as many as the shorter has
 front_of : (m a n b : ℕ) → m ≤ n → take (length (bits_of m a)) (bits_of n b) ≡ bits_of m (b / 2 ^ (n - m))
 front_of m a n b within =

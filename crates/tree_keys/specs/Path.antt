@@ -65,12 +65,6 @@ abbrev pub with_fields : {X : Type 0} → (ℕ → Bool → ℕ → ℕ → X) �
 with_fields make [] = make 0 false 0 1
 with_fields make (wide ∷ bits) = make (length bits) wide (number_of bits / 2 ^ 64) (number_of bits % 2 ^ 64)
 
--- Two numbers made of a path: how many bits lead to it, and the number that all its bits spell. No other path has both, and
--- those of the empty list are of no tree's path.
-abbrev pub with_numbers : {X : Type 0} → (ℕ → ℕ → X) → List Bool → X
-with_numbers make [] = make 0 2
-with_numbers make (wide ∷ bits) = make (length bits) (number_of (wide ∷ bits))
-
 -- two bits are the same
 abbrev pub same_bit : Bool → Bool → Bool
 same_bit true b = b

@@ -81,13 +81,16 @@ impl Path {
         Self::of_number(true, key)
     }
 
-    /// The data path of a key of a tree.
+    /// The data path of a key of a tree: of a longer number the lowest bits.
+    #[tactic(auto, using(crate::proofs::BitsLaws::number_view))]
     pub fn of_number(wide: bool, key: u128) -> Self
-        requires small { key < 2 ^ key_bits wide }
         ensures bits { result ≡ key_path wide key }
         ensures whole { IsData result }
     {
-        Self::of_bits(key_bits(wide), wide, key)
+        if wide {
+            return Self::of_bits(128, true, key);
+        }
+        Self::of_bits(64, false, key % (1 << 64))
     }
 
     // The path of a tree that the low bits of a number lead to, so many of them.

@@ -1,15 +1,17 @@
 -- What a verifier answers to a command is what is kept of it.
-use Rattle.std.proofs.Common.{◌≡◌, List, ◌++◌, Option, Some, None, Ok, refl, ap, ◌∙◌}
+use Rattle.std.proofs.Common.{◌≡◌, ◌+◌, List, ◌++◌, Option, Some, None, Result, Ok, Err, refl, sym, ap, ◌∙◌}
 use Rattle.std.specs.Option.{option_to_list}
 use Rattle.log_codec.specs.declared.log_command.LogCommand.{LogCommand}
 use Rattle.merkle_records.specs.Scheme.{Scheme}
 use Rattle.multiset_sum.specs.declared.part.Part.{Part}
 use Rattle.record_text.specs.declared.operation.Operation.{Operation}
+use Rattle.record_text.specs.declared.refusal.Refusal.{Refusal}
 use Rattle.verifier_commands.specs.declared.effect.Effect.{Effect}
-use Rattle.verifier_commands.specs.VerifierState.{VerifierState}
+use Rattle.verifier_commands.specs.VerifierState.{VerifierState, VerifierStep, perform}
 use Rattle.verifier_commands.specs.Change.{Change, did_add_m, did_evict_m, did_add_b, did_evict_b, did_evict_bm, did_get, did_put, did_next_epoch}
-use Rattle.verifier_commands.specs.Machine.{Machine, stepped}
-use Rattle.verifier_commands.specs.Trace.{done_with, performed}
+use Rattle.verifier_commands.specs.Event.{Event}
+use Rattle.verifier_commands.specs.Machine.{Machine, rules_for, stepped}
+use Rattle.verifier_commands.specs.Trace.{Done, done_with, changed, done_by, performed}
 use Rattle.verifier_commands.proofs.TraceLaws.{was_performed}
 use Rattle.verifier_run.specs.Kept.{keeps_operations, operation_in, part_in, Yields}
 
@@ -38,3 +40,16 @@ answer_yields scheme machine command effect after old new part answers kept seal
       kept ∙ ap (λ (operations : List Operation). old ++ operations) (ap operation_in was.effect_is ∙ operation_told machine was.change was.state),
       sealed ∙ ap part_in was.effect_is,
     )
+
+ok_is : (x y : Result (Done × Machine) Refusal) (a b : Done × Machine) → x ≡ Ok a → y ≡ Ok b → x ≡ y → a ≡ b
+ok_is x y a b is_a is_b same = cc
+
+accepted_by : (scheme : Scheme) (machine after : Machine) (done : Done) (step : VerifierStep) → done_by scheme machine step ≡ Ok (done, after) → after.accepted ≡ machine.accepted + 1
+accepted_by scheme machine after done (Ok change) is = sym (ap (λ (found : Done × Machine). found.1.accepted) (ok_is _ _ (done_with machine change.0 change.1, changed scheme machine change) (done, after) refl refl is))
+accepted_by scheme machine after done (Err refusal) is = absurd (cc)
+
+-- A command that is kept is one more that was accepted.
+pub yields-one : {A : Type 0} (keeps : Event → List A) (scheme : Scheme) (machine : Machine) (command : LogCommand) (after : Machine) (old new : List A) (part : Option Part)
+    → Yields keeps old new part (performed scheme machine command) after → after.accepted ≡ machine.accepted + 1
+yields-one keeps scheme machine command after old new part yields =
+    accepted_by scheme machine after yields.0 (perform (rules_for scheme machine) machine.state command) yields.1

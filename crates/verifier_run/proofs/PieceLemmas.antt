@@ -17,7 +17,7 @@ use Rattle.verifier_commands.specs.Event.{Event}
 use Rattle.verifier_run.specs.Course.{Course, refuse, after_command}
 use Rattle.verifier_run.specs.Progress.{Progress, between_commands, progress_over, fed, weight, IsBetweenPieces}
 use Rattle.verifier_run.proofs.CourseLemmas.{fed-joined, fed-weight, over-refused, over-malformed, over-cut, over-text, over-between, between-commands, header_in, fed-header}
-use Rattle.log_codec.proofs.LogCommandLaws.{cut_is_short}
+use Rattle.log_codec.proofs.LogCommandLaws.{cut_fits}
 use Rattle.merkle_records.specs.Scheme.{Scheme, scheme_of}
 
 -- ---- apart from what is kept
@@ -52,9 +52,9 @@ longer_than_held format held more command len cut is spelled =
 
 -- where a command is still cut though there was room for more of the piece, the piece has ended
 pub piece_ended : (header : Header) (held piece : List ℕ) (room : ℕ) → command_at (format_of header) (held ++ take room piece) ≡ Err faults.Truncated
-    → 106 ≤ length held + room → length piece ≤ room
+    → 292 ≤ length held + room → length piece ≤ room
 piece_ended header held piece room cut full =
-    let short : length (held ++ take room piece) < 106 = cut_is_short header (held ++ take room piece) cut in
+    let short : length (held ++ take room piece) < 292 = cut_fits header (held ++ take room piece) cut in
     omega (arith, short, length-append held (take room piece), length-take room piece)
 
 module _ {A : Type 0} (keeps : Event → List A) where
@@ -76,9 +76,9 @@ module _ {A : Type 0} (keeps : Event → List A) where
 
   -- ---- a piece that begins with a command
 
-  pub left_is_short : (functions : DigestFunctions) (header : Header) (course after : Course A) (piece left : List ℕ) → progress_over keeps (scheme_of functions header) course piece ≡ record { course = after; held = left } → length left < 106
+  pub left_is_short : (functions : DigestFunctions) (header : Header) (course after : Course A) (piece left : List ℕ) → progress_over keeps (scheme_of functions header) course piece ≡ record { course = after; held = left } → length left < 292
   left_is_short functions header course after piece left is =
-      cut_is_short header left (subst (IsBetweenPieces (format_of header)) is (over-between keeps (scheme_of functions header) course piece)).cut
+      cut_fits header left (subst (IsBetweenPieces (format_of header)) is (over-between keeps (scheme_of functions header) course piece)).cut
 
   pub left_between : (scheme : Scheme) (course after : Course A) (piece left : List ℕ) → progress_over keeps scheme course piece ≡ record { course = after; held = left } → IsBetweenPieces scheme.format (record { course = after; held = left })
   left_between scheme course after piece left is = subst (IsBetweenPieces scheme.format) is (over-between keeps scheme course piece)

@@ -20,6 +20,18 @@ fn header() -> Header
     Header::by_path(1, 128, 0, 16_777_215)
 }
 
+// The same of version 3, whose keys have 128 bits.
+fn wide_header() -> Header
+    ensures header { IsHeader result }
+    ensures one { result.verifiers ≡ 1 }
+{
+    Header {
+        version: 3,
+        bits: 128,
+        ..header()
+    }
+}
+
 // A record is added, put, evicted, added again and got, and the next epoch begins twice.
 const PUT_AND_GOT: &str = "
 01 400000000000000005 00 000000000000000000
@@ -55,11 +67,20 @@ const PUT_TWICE: &str = "
 08
 ";
 
-// What a log comes to, fed in pieces of so many bytes.
-fn in_pieces(rt: &impl Abort, alloc: Global, d: &ShaDigests, log: &[u8], size: usize) -> Run
+// What a log of a verifier of this header comes to, fed in pieces of so many bytes.
+fn in_pieces(
+    rt: &impl Abort,
+    alloc: Global,
+    d: &ShaDigests,
+    header: &Header,
+    log: &[u8],
+    size: usize,
+) -> Run
+    requires header { IsHeader header.now }
+    requires one { header.now.verifiers ≡ 1 }
     requires size { 0 < size }
 {
-    let mut run = Run::new(alloc, 0, &header()).expect(rt, "memory");
+    let mut run = Run::new(alloc, 0, header).expect(rt, "memory");
     let mut fed = 0;
     while fed < log.len() {
         let len = size.min(log.len() - fed);
@@ -72,14 +93,26 @@ fn in_pieces(rt: &impl Abort, alloc: Global, d: &ShaDigests, log: &[u8], size: u
     run
 }
 
-// A get or put of "ab" at key 5, as the command of this number.
-fn ab_at_5(rt: &impl Abort, index: u64, put: bool) -> Operation {
+// A get or put of these bytes at a key of 128 bits, or of 64, as the command of this number in epoch 0.
+fn operation(
+    rt: &impl Abort,
+    index: u64,
+    put: bool,
+    wide: bool,
+    key: u128,
+    bytes: &[u8],
+) -> Operation {
     let stamp = Stamp {
         epoch: 0,
         counter: 0,
     };
-    let value = Blob::of_bytes(b"ab").expect(rt, "a value that is too long");
-    Operation::new(stamp, 0, index, put, false, 5, value)
+    let value = Blob::of_bytes(bytes).expect(rt, "a value that is too long");
+    Operation::new(stamp, 0, index, put, wide, key, value)
+}
+
+// A get or put of "ab" at key 5, as the command of this number.
+fn ab_at_5(rt: &impl Abort, index: u64, put: bool) -> Operation {
+    operation(rt, index, put, false, 5, b"ab")
 }
 
 // How many bytes a piece has.
@@ -112,17 +145,63 @@ fn pieces_do_not_matter(rt: HostRuntime) {
     let d = ShaDigests::new(b"a key");
     let log = bytes_of(&rt, rt.alloc(), PUT_AND_GOT);
     for (size, label) in SIZES {
-        let run = in_pieces(&rt, rt.alloc(), &d, &log, size);
+        let run = in_pieces(&rt, rt.alloc(), &d, &header(), &log, size);
         assert_put_and_got(&rt, label, &run);
     }
 }
 
-// A log is refused at this command, in whatever pieces it is fed.
-fn assert_refused(rt: &impl Abort, alloc: Global, log: &[u8], index: u64, refusal: Refusal) {
+// The same by slots, of the key 2^64 + 5 and a value of 255 bytes, which stand where the log has two dots.
+const WIDE_PUT_AND_GOT: [&str; 3] = [
+    "01 0001 8000000000000000010000000000000005 00 0000 07 0001 01ff",
+    "02 0001 0000 01 0001 8000000000000000010000000000000005 01ff",
+    "0000 06 0001 01ff",
+];
+
+// That log: behind each of its parts stands the value.
+fn wide_log(rt: &impl Abort, alloc: Global, value: &[u8]) -> Vec<u8> {
+    let mut log = Vec::new(alloc);
+    for part in WIDE_PUT_AND_GOT {
+        let bytes = bytes_of(rt, alloc, part);
+        log.extend_from_slice(&bytes).expect(rt, "memory");
+        log.extend_from_slice(value).expect(rt, "memory");
+    }
+    log.extend_from_slice(&[8, 8]).expect(rt, "memory");
+    log
+}
+
+#[test]
+fn keys_of_128_bits_are_put_and_got(rt: HostRuntime) {
+    let d = ShaDigests::new(b"a key");
+    let value = [7; 255];
+    let log = wide_log(&rt, rt.alloc(), &value);
+    let key = (1 << 64) + 5;
+    let put = operation(&rt, 1, true, true, key, &value);
+    let got = operation(&rt, 4, false, true, key, &value);
+    let expected = [put, got];
+    for (size, label) in SIZES {
+        let run = in_pieces(&rt, rt.alloc(), &d, &wide_header(), &log, size);
+        same(&rt, label, &run.refused(), &None);
+        assert_operations(&rt, label, run.ops(), &expected);
+        same(&rt, label, &only_part(&rt, label, &run).epoch, &0);
+    }
+}
+
+// A log of a verifier of this header is refused at this command, in whatever pieces it is fed.
+fn assert_refused(
+    rt: &impl Abort,
+    alloc: Global,
+    header: &Header,
+    log: &[u8],
+    index: u64,
+    refusal: Refusal,
+)
+    requires header { IsHeader header.now }
+    requires one { header.now.verifiers ≡ 1 }
+{
     let d = ShaDigests::new(b"a key");
     let wanted = Some((index, refusal));
     for (size, label) in SIZES {
-        let run = in_pieces(rt, alloc, &d, log, size);
+        let run = in_pieces(rt, alloc, &d, header, log, size);
         same(rt, label, &run.refused(), &wanted);
     }
 }
@@ -131,12 +210,27 @@ fn assert_refused(rt: &impl Abort, alloc: Global, log: &[u8], index: u64, refusa
 fn logs_are_refused_where_they_go_wrong(rt: HostRuntime) {
     let mut log = bytes_of(&rt, rt.alloc(), PUT_AND_GOT);
     let cut = log.get(..21).expect(&rt, "a log that is too short");
-    assert_refused(&rt, rt.alloc(), cut, 1, Refusal::Truncated);
-    assert_refused(&rt, rt.alloc(), &[9], 0, Refusal::Truncated);
-    assert_refused(&rt, rt.alloc(), &[10], 0, Refusal::Malformed);
+    let header = header();
+    assert_refused(&rt, rt.alloc(), &header, cut, 1, Refusal::Truncated);
+    assert_refused(&rt, rt.alloc(), &header, &[9], 0, Refusal::Truncated);
+    assert_refused(&rt, rt.alloc(), &header, &[10], 0, Refusal::Malformed);
     // The last byte of the value that the get answers.
     *log.get_mut(89).expect(&rt, "a log that is too short") = b'c';
-    assert_refused(&rt, rt.alloc(), &log, 4, Refusal::WrongValue);
+    assert_refused(&rt, rt.alloc(), &header, &log, 4, Refusal::WrongValue);
+}
+
+// The root's next epoch begins, and then a key of the other tree is added: its bits end where those of a node would go on, or
+// it is longer than any path.
+#[test]
+fn paths_of_the_other_tree_are_malformed(rt: HostRuntime) {
+    let short = "08 01 0001 400000000000000005 00 0000 08 08 08 08 08 08";
+    let log = bytes_of(&rt, rt.alloc(), short);
+    let header = wide_header();
+    assert_refused(&rt, rt.alloc(), &header, &log, 1, Refusal::Malformed);
+    let long = "08 01 0001 8000000000000000000000000000000005 00 0000";
+    let log = bytes_of(&rt, rt.alloc(), long);
+    let header = Header { bits: 64, ..header };
+    assert_refused(&rt, rt.alloc(), &header, &log, 1, Refusal::Malformed);
 }
 
 // The run of a log that isn't refused.

@@ -19,18 +19,25 @@ fn header() -> Header
     }
 }
 
+// The same of version 3, whose keys have 128 bits.
+fn wide_header() -> Header
+    ensures some { 1 ≤ result.cache }
+{
+    Header {
+        version: 3,
+        bits: 128,
+        ..header()
+    }
+}
+
 // The command whose text the digits of a row are: it is written so, and read from no front.
-fn command_of(rt: &impl Abort, alloc: Global, row: &str) -> SlotCommand {
+fn command_of(rt: &impl Abort, alloc: Global, header: &Header, row: &str) -> SlotCommand {
     let text = bytes_of(rt, alloc, digits_of(rt, row));
     for cut in 0..text.len() {
-        same(
-            rt,
-            row,
-            &read_command(&header(), &text[..cut]),
-            &Decoded::Truncated,
-        );
+        let front = read_command(header, &text[..cut]);
+        same(rt, row, &front, &Decoded::Truncated);
     }
-    let Decoded::Read(found, len) = read_command(&header(), &text) else {
+    let Decoded::Read(found, len) = read_command(header, &text) else {
         panic!(rt; "a row that is no command");
     };
     let LogCommand::BySlot(command) = found else {
@@ -43,12 +50,13 @@ fn command_of(rt: &impl Abort, alloc: Global, row: &str) -> SlotCommand {
 }
 
 // Each command of a table has its answer, one after another: `ok`, or the name of the refusal.
-fn assert_answers(rt: &impl Abort, alloc: Global, table: &str) {
-    let header = header();
-    let mut state = SlotState::new(alloc, 0, &header).expect(rt, "memory");
+fn assert_answers(rt: &impl Abort, alloc: Global, header: &Header, table: &str)
+    requires some { 1 ≤ header.now.cache }
+{
+    let mut state = SlotState::new(alloc, 0, header).expect(rt, "memory");
     for row in table.trim().lines() {
-        let command = command_of(rt, alloc, row);
-        let answer = match state.apply(&ToyDigests, 0, &header, &command) {
+        let command = command_of(rt, alloc, header, row);
+        let answer = match state.apply(&ToyDigests, 0, header, &command) {
             Ok(_) => "ok",
             Err(refusal) => refusal.name(),
         };
@@ -117,9 +125,64 @@ const BACK_TWICE: &str = "
 
 #[test]
 fn commands_answer_by_their_slots(rt: HostRuntime) {
-    assert_answers(&rt, rt.alloc(), PUT_AND_GOT);
-    assert_answers(&rt, rt.alloc(), ADDED_TWICE);
-    assert_answers(&rt, rt.alloc(), BACK_TWICE);
+    let header = header();
+    assert_answers(&rt, rt.alloc(), &header, PUT_AND_GOT);
+    assert_answers(&rt, rt.alloc(), &header, ADDED_TWICE);
+    assert_answers(&rt, rt.alloc(), &header, BACK_TWICE);
+}
+
+// Where keys have 128 bits, a path of 64 is a node's. Two keys are added below it, on either side, and put and evicted; then
+// it leaves, and comes back with a pointer to each of them: to the one with the digest of "ab", by the toy digest the sum of the
+// bytes 1, 2, 97 and 98, which is 198, and to the other with that of none, 0.
+const BELOW_64_BITS: &str = "
+01 0009 0000000000000000000000000000000000 0000 0009 | IsRoot
+01 0001 4000000000000000050000000000000000 0000 0000 | ok
+06 0001 00 | NotData
+07 0001 01026162 | NotData
+01 0002 8000000000000000060000000000000001 00 0001 | NotBelow
+01 0002 8000000000000000050000000000000001 01026162 0001 | NotInitial
+01 0002 8000000000000000050000000000000001 00 0001 | ok
+01 0003 8000000000000000058000000000000000 00 0001 | ok
+07 0002 01026162 | ok
+02 0001 0000 | HasChild
+02 0002 0001 | ok
+02 0003 0001 | ok
+01 0002 8000000000000000050000000000000001 00 0001 | WrongDigest
+02 0001 0000 | ok
+01 0002 8000000000000000050000000000000001 01026162 0000 | Foreign
+01 0001 4000000000000000050000000000000000 0000 0000 | WrongDigest
+01 0001 4000000000000000050000000000000000 01 8000000000000000050000000000000001 00000000000000000000000000000000000000000000000000000000000000c6 01 8000000000000000058000000000000000 0000000000000000000000000000000000000000000000000000000000000000 0000 | ok
+01 0002 8000000000000000050000000000000001 01026162 0001 | ok
+06 0002 01026162 | ok
+06 0002 01026163 | WrongValue
+05 0002 0001 0000000000000001 | ok
+03 0002 8000000000000000050000000000000001 01026162 0000000000000001 0000 | ok
+06 0002 01026162 | ok
+04 0002 0000000000000003 | ok
+02 0001 0000 | ok
+08 | ok
+08 | ok
+";
+
+// The first key and the last of 128 bits, and one of 65. A key is absent where a pointer leads elsewhere.
+const KEYS_OF_128_BITS: &str = "
+09 8000000000000000000000000000000000 0000 | ok
+01 0001 8000000000000000000000000000000000 00 0000 | ok
+09 8000000000000000000000000000000000 0000 | Present
+09 8000000000000000010000000000000000 0000 | ok
+09 4000000000000000000000000000000000 0000 | NotData
+01 0002 80ffffffffffffffffffffffffffffffff 00 0000 | ok
+07 0002 01026162 | ok
+06 0002 01026162 | ok
+09 80ffffffffffffffffffffffffffffffff 0000 | Present
+01 0003 8000000000000000010000000000000000 00 0000 | Foreign
+";
+
+#[test]
+fn commands_of_keys_of_128_bits_answer_by_their_slots(rt: HostRuntime) {
+    let header = wide_header();
+    assert_answers(&rt, rt.alloc(), &header, BELOW_64_BITS);
+    assert_answers(&rt, rt.alloc(), &header, KEYS_OF_128_BITS);
 }
 
 // Bytes that no command begins with.

@@ -60,10 +60,10 @@ module _ {D : Type 0} (functions : D → DigestFunctions) (own : DigestFunctions
   run_of-these run is P holds = of-these functions own settings script run.world is.functions_are is.settings_are is.script_is P holds
 
   -- its tasks are its workers'
-  pub run_of-tasks : (run : WorldRun D) → IsRunOf functions own settings script run → AreTasks run.world.settings.header.verifiers (requests_of run.world)
+  pub run_of-tasks : (run : WorldRun D) → IsRunOf functions own settings script run → AreTasks run.world.settings.header (requests_of run.world)
   run_of-tasks run is =
-      subst (λ (s : Settings). AreTasks s.header.verifiers (requests_of run.world)) (sym is.settings_are)
-      (subst (AreTasks settings.header.verifiers) (sym is.script_is) is.tasks)
+      subst (λ (s : Settings). AreTasks s.header (requests_of run.world)) (sym is.settings_are)
+      (subst (AreTasks settings.header) (sym is.script_is) is.tasks)
 
   -- a runner whose call and state are these
   pub stands-of : (account : Account) (runner : Runner D) (outputs : Outputs) (call : NextCall) (state : State D) → runner.next ≡ call → runner.state ≡ state
@@ -101,7 +101,7 @@ module _ {D : Type 0} (functions : D → DigestFunctions) (run : WorldRun D) (he
   finish-needs (accounts.Summary load) outputs stands = ((false, record outputs { out = stands.before; out_after = dropped }, stands.stands.0), stands.stands.1)
 
   -- each turn of the phase is one of the workers'
-  pub phase-turns : AreTasks run.world.settings.header.verifiers (requests_of run.world) → IsUnderWayBehind functions run phase_of phase_of held
+  pub phase-turns : AreTasks run.world.settings.header (requests_of run.world) → IsUnderWayBehind functions run phase_of phase_of held
       → AllByRecursion (λ turn. turn.0 < length run.world.workers.items) (get_or (map (map turn_of) (requests_of run.world)) phase_of [])
   phase-turns tasks way =
       turns-now run.world run.world phase_of (record { settings = refl; requests = refl; digests = refl }) tasks

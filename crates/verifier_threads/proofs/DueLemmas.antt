@@ -8,7 +8,7 @@ use Rattle.record_hash.specs.Functions.{DigestFunctions}
 use Rattle.lamport_clocks.specs.declared.header.Header.{Header}
 use Rattle.lamport_clocks.specs.Header.{IsHeader}
 use Rattle.merkle_records.specs.Scheme.{scheme_of}
-use Rattle.bundle_frames.specs.Bundle.{Frame, Frames, Bundle, IsFrame, header_bytes, header_text, header_in, longest_body, frame_in, frame_text, frame_bytes, frames_behind, with_frame, frames_up_to, frames_from, bundle_of, bundle_behind, body_for, log_of}
+use Rattle.bundle_frames.specs.Bundle.{Frame, Frames, Bundle, IsFrame, header_bytes, header_text, header_in, longest_body, frame_in, frame_text, frame_bytes, frames_behind, with_frame, frames_up_to, frames_from, bundle_of, bundle_behind, bundle_from, body_for, log_of}
 use Rattle.bundle_report.specs.Logs.{empty_logs, joined_from}
 use Rattle.bundle_report.specs.Logged.{behind}
 use Rattle.bundle_report.specs.Report.{told_by}
@@ -31,6 +31,9 @@ AreEnough = (count verifiers offset : ℕ) (bytes : List ℕ) → length bytes �
 
 abbrev pub HeadsAreRead : Type 0
 HeadsAreRead = (header : Header) (more : List ℕ) → IsHeader header → header.first < 4294967296 → header_in (header_text header ++ more) ≡ Some header
+
+abbrev pub HeadsAreLong : Type 0
+HeadsAreLong = (header : Header) → length (header_text header) ≡ header_bytes header.version
 
 abbrev pub AreFrames : Type 0
 AreFrames = (verifiers verifier : ℕ) (bytes : List ℕ) → verifier < verifiers → AllByRecursion (IsFrame verifiers) (frames_of verifier bytes)
@@ -132,7 +135,7 @@ empty-length (suc count) = ap suc (empty-length count)
 abbrev bundle_with : Header → Frames → Bundle
 bundle_with header found = record { header = Some header; frames = found.frames; bad = found.bad }
 
-module _ (enough : AreEnough) (back : AreReadBack) (heads : HeadsAreRead) (are : AreFrames) (keep : KeepLogs) where
+module _ (enough : AreEnough) (back : AreReadBack) (heads : HeadsAreRead) (long : HeadsAreLong) (are : AreFrames) (keep : KeepLogs) where
   pub what-stays_due : (receipts : Bool) (functions : DigestFunctions) (header : Header) (logs : List (List ℕ)) (rounds : List (List (List ℕ))) (bytes more : List ℕ) → IsBundle header logs rounds bytes
       → (rest : List ℕ) × ((check_answer receipts functions (bytes ++ more)).due ≡ lines_due (told_by receipts functions header) functions header logs ++ rest)
   what-stays_due receipts functions header logs rounds bytes more bundle =
@@ -141,13 +144,15 @@ module _ (enough : AreEnough) (back : AreReadBack) (heads : HeadsAreRead) (are :
       let empty = empty_logs header.verifiers in
       let behind_it = texts_of frames ++ more in
       let most = bundle.header_good.verifiers in
-      let found = frames-more enough back header.verifiers header_bytes frames more (omega (arith, most)) (pieces-frames are header.verifiers pieces (rounds-numbers header.verifiers rounds bundle.each)) in
+      let size = header_bytes header.version in
+      let found = frames-more enough back header.verifiers size frames more (omega (arith, most)) (pieces-frames are header.verifiers pieces (rounds-numbers header.verifiers rounds bundle.each)) in
       let all : bytes ++ more ≡ header_text header ++ behind_it =
       ap (λ (text : List ℕ). text ++ more) (bundle.bytes_are ∙ ap (λ (text : List ℕ). header_text header ++ text) (rounds-text rounds ∙ pieces-text pieces))
       ∙ append_assoc (header_text header) (texts_of frames) more in
       let is : bundle_of (bytes ++ more) ≡ bundle_with header (with_more frames found.0) =
       ap bundle_of all
-      ∙ ap (λ (o : Option Header). bundle_behind o (drop header_bytes (header_text header ++ behind_it))) (heads header behind_it bundle.header_good bundle.first)
+      ∙ ap (λ (o : Option Header). bundle_behind o (header_text header ++ behind_it)) (heads header behind_it bundle.header_good bundle.first)
+      ∙ ap (bundle_from header size) (ap (λ (n : ℕ). drop n (header_text header ++ behind_it)) (sym (long header)) ∙ drop-append_seam (header_text header) behind_it)
       ∙ ap (bundle_with header) found.1 in
       let logs_are : joined_from 0 empty (frames ++ found.0.frames) ≡ joined_from 0 logs found.0.frames =
       joined-more 0 empty frames found.0.frames

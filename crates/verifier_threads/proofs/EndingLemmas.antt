@@ -97,7 +97,7 @@ module _ {C R : Type 0} (host : Host C R) where
 pub record IsRunningFrom (functions : DigestFunctions) (settings : Settings) (script : List (List Task)) (world : World Content) : Type 0 where
   pub settings_fit : IsSettings settings
   pub counters : settings.shards ≤ settings.header.end
-  pub keys : AreInRange script
+  pub keys : AreInRange settings.header script
   pub values : HaveShortValues settings.header script
   pub is : world ≡ set_up (shipped_host functions settings script)
   pub count : length world.workers ≡ settings.header.verifiers
@@ -131,15 +131,15 @@ running-new receipts functions settings script world rounds vault vault_after ou
 -- ---- the script's turns
 
 -- each turn is one of the workers'
-turns-phase : (verifiers : ℕ) (tasks : List Task) → AllByRecursion (IsTask verifiers) tasks → AllByRecursion (λ turn. turn.0 < verifiers) (map turn_of tasks)
-turns-phase verifiers [] are = tt
-turns-phase verifiers (task ∷ tasks) are = (are.0.worker, turns-phase verifiers tasks are.1)
+turns-phase : (header : Header) (tasks : List Task) → AllByRecursion (IsTask header) tasks → AllByRecursion (λ turn. turn.0 < header.verifiers) (map turn_of tasks)
+turns-phase header [] are = tt
+turns-phase header (task ∷ tasks) are = (are.0.worker, turns-phase header tasks are.1)
 
-pub turns-script : (verifiers : ℕ) (script : List (List Task)) (phase : ℕ) → AreTasks verifiers script
-    → AllByRecursion (λ turn. turn.0 < verifiers) (get_or (map (map turn_of) script) phase [])
-turns-script verifiers [] phase are = tt
-turns-script verifiers (tasks ∷ script) zero are = turns-phase verifiers tasks are.0
-turns-script verifiers (tasks ∷ script) (suc phase) are = turns-script verifiers script phase are.1
+pub turns-script : (header : Header) (script : List (List Task)) (phase : ℕ) → AreTasks header script
+    → AllByRecursion (λ turn. turn.0 < header.verifiers) (get_or (map (map turn_of) script) phase [])
+turns-script header [] phase are = tt
+turns-script header (tasks ∷ script) zero are = turns-phase header tasks are.0
+turns-script header (tasks ∷ script) (suc phase) are = turns-script header script phase are.1
 
 -- ---- the end
 
@@ -315,14 +315,14 @@ set_up-count settings host world fit same is =
 -- ---- from phase to phase
 
 -- each turn of a phase is one of the workers', also of a world further on
-pub turns-now : {D : Type 0} (old now : code.World D) (phase : ℕ) → AreOfOneHost old now → AreTasks old.settings.header.verifiers (requests_of old)
+pub turns-now : {D : Type 0} (old now : code.World D) (phase : ℕ) → AreOfOneHost old now → AreTasks old.settings.header (requests_of old)
     → length now.workers.items ≡ now.settings.header.verifiers
     → AllByRecursion (λ turn. turn.0 < length now.workers.items) (get_or (map (map turn_of) (requests_of now)) phase [])
 turns-now old now phase same tasks count =
     subst (λ (n : ℕ). AllByRecursion (λ turn. turn.0 < n) (get_or (map (map turn_of) (requests_of now)) phase [])) (sym count)
-    (turns-script now.settings.header.verifiers (requests_of now) phase
-    (subst (λ (settings : Settings). AreTasks settings.header.verifiers (requests_of now)) (sym same.settings)
-    (subst (AreTasks old.settings.header.verifiers) (sym same.requests) tasks)))
+    (turns-script now.settings.header (requests_of now) phase
+    (subst (λ (settings : Settings). AreTasks settings.header (requests_of now)) (sym same.settings)
+    (subst (AreTasks old.settings.header) (sym same.requests) tasks)))
 
 -- as many workers as verifiers, where the run goes on
 pub runs-workers : (receipts : Bool) {D : Type 0} (functions : D → DigestFunctions) (runner : WorldRun D) (past : List Logs) (outputs : Outputs) → Runs receipts functions runner past outputs

@@ -75,7 +75,7 @@ pub record IsRunOf {D : Type 0} (functions : D → DigestFunctions) (own : Diges
   pub functions_are : functions (digests_of run.world) ≡ own
   pub settings_are : run.world.settings ≡ settings
   pub script_is : requests_of run.world ≡ script
-  pub tasks : AreTasks settings.header.verifiers script
+  pub tasks : AreTasks settings.header script
 
 -- Such a run stands so before this call.
 pub record IsUnderWayTo (account : Account) (call : NextCall) (dropped : Option (List ℕ)) {D : Type 0} (functions : D → DigestFunctions) (own : DigestFunctions) (settings : Settings)

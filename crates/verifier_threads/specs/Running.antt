@@ -46,7 +46,7 @@ pub record IsRunning (receipts : Bool) (functions : DigestFunctions) (settings :
     (past : List Logs) (outputs : Outputs) : Type 0 where
   pub settings_fit : IsSettings settings
   pub counters : settings.shards ≤ settings.header.end
-  pub keys : AreInRange script
+  pub keys : AreInRange settings.header script
   pub values : HaveShortValues settings.header script
   pub logs : Logs
   pub joined : logs ≡ logged_behind (no_logs settings.header.verifiers) past

@@ -70,7 +70,7 @@ impl<'a, D: Digests> Runner<'a, D> {
         vault: &mut V,
     ) -> Result<Self, Failure>
         requires settings { IsSettings settings.now }
-        requires tasks { AreTasks settings.now.header.verifiers requests.now }
+        requires tasks { AreTasks settings.now.header requests.now }
         ensures stands { (held : Option (List ℕ)) → IfOk result (λ runner. Stands account D.functions (D.functions d.now) settings.now requests.now runner
             (record { vault = V.held vault.old; vault_after = V.held vault.new; out = held; out_after = held })) }
         ensures begins { settings.now.shards ≤ settings.now.header.end → IfOk result (λ runner. next_call_of runner ≡ NextCall.Phase) }

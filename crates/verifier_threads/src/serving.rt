@@ -36,7 +36,7 @@ pub fn serve<R: Threads + Wait + Sync, D: Digests + Sync, V: Sink, O: Sink, G: G
     out: &mut O,
 ) -> Result<RunEnd, Failure>
     requires settings { IsSettings settings.now }
-    requires tasks { AreTasks settings.now.header.verifiers requests.now }
+    requires tasks { AreTasks settings.now.header requests.now }
     ensures serves { ServesTo account (D.functions d.now) settings.now requests.now result
         (record { vault = V.held vault.old; vault_after = V.held vault.new; out = O.held out.old; out_after = O.held out.new }) }
     ensures vault_fault { result ≡ Err Failure.VaultFault → Rose (V.faults vault.old) (V.faults vault.new) }

@@ -70,7 +70,7 @@ impl<'a, D: Digests> WorldRun<'a, D> {
         requires setup { shown_world world ≡ set_up (host_of (D.functions (digests_of world)) world) }
         requires settings { IsSettings (settings_of world) }
         requires counters { (settings_of world).shards ≤ (settings_of world).header.end }
-        requires keys { AreInRange (requests_of world) }
+        requires keys { AreInRange (settings_of world).header (requests_of world) }
         requires values { HaveShortValues (settings_of world).header (requests_of world) }
         requires some { 0 < length (requests_of world) }
         ensures runs { (receipts : Bool) (held : Option (List ℕ)) → IfOk result (λ runner. RunsBehind receipts D.functions runner 0 0

@@ -5,12 +5,14 @@ use Rattle.std.proofs.lemmas.Bool.{cases_lt}
 use Rattle.std.proofs.lemmas.List.{get_or_append_left, get_or_push, length_push, length-replicate}
 use Rattle.std.proofs.lemmas.List.Elements.{All-from_get_or}
 use Rattle.std.proofs.lemmas.Option.{get_or_from_slice_get, none-some, same_Some}
+use Rattle.tree_keys.specs.Path.{key_bits}
 use Rattle.log_codec.specs.declared.command.Command.{Command}
 use Rattle.record_hash.specs.Functions.{DigestFunctions}
 use Rattle.lamport_clocks.specs.declared.header.Header.{Header}
 use Rattle.record_text.specs.declared.request.Request.{Request}
 use Rattle.record_text.specs.Longest.{longest_of}
 use Rattle.record_text.specs.Value.{IsBlob}
+use Rattle.record_text.specs.Tree.{wide_of}
 use Rattle.script_text.specs.declared.task.Task.{Task}
 use Rattle.atomic_table.specs.Seated.{TableId}
 use Rattle.host_core.specs.Host.{Host}
@@ -83,15 +85,17 @@ are_places terms (task ∷ tasks) (place ∷ places) many each =
     (each 0 task refl, are_places terms tasks places (omega (arith, many)) (λ i other found. each (suc i) other found))
 
 -- a task's key is in range
-key_in : (tasks : List Task) (i : ℕ) (task : Task) → AllByRecursion (λ (t : Task). t.request.key < 2 ^ 64) tasks → slice_get tasks i ≡ Some task → task.request.key < 2 ^ 64
-key_in [] i task all found = absurd (none-some task found)
-key_in (first ∷ tasks) zero task all found = subst (λ (t : Task). t.request.key < 2 ^ 64) (same_Some first task found) all.0
-key_in (first ∷ tasks) (suc i) task all found = key_in tasks i task all.1 found
+key_in : (limit : ℕ) (tasks : List Task) (i : ℕ) (task : Task) → AllByRecursion (λ (t : Task). t.request.key < limit) tasks → slice_get tasks i ≡ Some task
+    → task.request.key < limit
+key_in limit [] i task all found = absurd (none-some task found)
+key_in limit (first ∷ tasks) zero task all found = subst (λ (t : Task). t.request.key < limit) (same_Some first task found) all.0
+key_in limit (first ∷ tasks) (suc i) task all found = key_in limit tasks i task all.1 found
 
-keys_in : (script : List (List Task)) (phase : ℕ) → AreInRange script → AllByRecursion (λ (t : Task). t.request.key < 2 ^ 64) (get_or script phase [])
-keys_in [] phase all = tt
-keys_in (tasks ∷ script) zero all = all.0
-keys_in (tasks ∷ script) (suc phase) all = keys_in script phase all.1
+keys_in : (header : Header) (script : List (List Task)) (phase : ℕ) → AreInRange header script
+    → AllByRecursion (λ (t : Task). t.request.key < 2 ^ key_bits (wide_of header)) (get_or script phase [])
+keys_in header [] phase all = tt
+keys_in header (tasks ∷ script) zero all = all.0
+keys_in header (tasks ∷ script) (suc phase) all = keys_in header script phase all.1
 
 -- a task's value is short, and so are those of a phase
 pub short_at : (longest : ℕ) (tasks : List Task) (i : ℕ) (task : Task) → AllByRecursion (λ (t : Task). IsBlob longest t.request.value) tasks → i < length tasks → task ≡ get_or tasks i task
@@ -107,14 +111,14 @@ values_in header (tasks ∷ script) zero all = all.0
 values_in header (tasks ∷ script) (suc phase) all = values_in header script phase all.1
 
 -- The places of the phase's tasks are those of their keys.
-pub phase_places : (host : Host Content Request) (world : World Content) (script : List (List Task)) (terms : Terms) (places : List ℕ) → AreInRange script
+pub phase_places : (host : Host Content Request) (world : World Content) (script : List (List Task)) (terms : Terms) (places : List ℕ) → AreInRange host.header script
     → ArePlacesFor host world (get_or script world.phase []) (length (get_or script world.phase [])) places
-    → ((place : ℕ) (request : Request) → request.key < 2 ^ 64 → IsPlaceFor host world request place → IsPlaceOf terms place request.key)
+    → ((place : ℕ) (request : Request) → request.key < 2 ^ key_bits (wide_of host.header) → IsPlaceFor host world request place → IsPlaceOf terms place request.key)
     → ArePlaces terms (get_or script world.phase []) places
 phase_places host world script terms places keys are owned =
     let tasks = get_or script world.phase [] in
     are_places terms tasks places are.as_many
-    (λ i task found. owned (get_or places i 0) task.request (key_in tasks i task (keys_in script world.phase keys) found)
+    (λ i task found. owned (get_or places i 0) task.request (key_in (2 ^ key_bits (wide_of host.header)) tasks i task (keys_in host.header script world.phase keys) found)
     (are.each i task (slice_get-there tasks i task found) found))
 
 -- ---- a world that lends

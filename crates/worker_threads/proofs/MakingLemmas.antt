@@ -1,13 +1,15 @@
 -- A table of what a world's places have is one of the world: its workers' clocks are of it, and so are the places of keys.
-use Rattle.std.proofs.Common.{◌≡◌, ◌⊎◌, inl, inr, ℕ, suc, ◌+◌, ◌*◌, ◌/◌, ◌%◌, ◌^◌, ◌<◌, ◌≤◌, false, List, [], ◌∷◌, map, length, get_or, Option, Some, refl, sym, ◌∙◌, ap, subst, arith}
+use Rattle.std.proofs.Common.{◌≡◌, ◌⊎◌, inl, inr, ℕ, suc, ◌+◌, ◌*◌, ◌/◌, ◌%◌, ◌^◌, ◌<◌, ◌≤◌, Bool, false, List, [], ◌∷◌, map, length, get_or, Option, Some, refl, sym, ◌∙◌, ap, subst, arith}
 use Rattle.std.specs.List.{AllByRecursion}
 use Rattle.std.proofs.Math.ListN.{get_or-map}
 use Rattle.std.proofs.lemmas.Bool.{and_parts, cases_lt}
 use Rattle.std.proofs.lemmas.List.{length-map, get_or_past}
+use Rattle.tree_keys.specs.Path.{key_bits}
 use Rattle.record_hash.specs.Functions.{DigestFunctions}
 use Rattle.record_text.specs.declared.element.Element.{Element}
 use Rattle.record_text.specs.declared.request.Request.{Request}
 use Rattle.record_text.specs.Longest.{longest_blob, longest_of}
+use Rattle.record_text.specs.Tree.{wide_of}
 use Rattle.script_text.specs.declared.task.Task.{Task}
 use Rattle.host_core.specs.Host.{Host}
 use Rattle.host_core.specs.World.{World, worker_at, shard_at, epoch_of}
@@ -109,8 +111,9 @@ module _ (functions : DigestFunctions) (settings : Settings) (script : List (Lis
     }
 
     -- It is a table of the world.
-    pub terms_of_world : terms.digest ≡ functions.digest → terms.absent ≡ settings.absent → terms.workers ≡ length world.workers → AreTermsOf host settings.absent world terms
-    terms_of_world digest told workers = record {
+    pub terms_of_world : terms.header ≡ settings.header → terms.digest ≡ functions.digest → terms.absent ≡ settings.absent → terms.workers ≡ length world.workers → AreTermsOf host settings.absent world terms
+    terms_of_world header digest told workers = record {
+      header = header;
       digest = digest;
       absent_is = told;
       workers = workers;
@@ -121,12 +124,13 @@ module _ (functions : DigestFunctions) (settings : Settings) (script : List (Lis
     -- ---- places
 
     -- The place of a request is the key's.
-    pub place_is : (place : ℕ) (request : Request) → request.key < 2 ^ 64 → IsPlaceFor host world request place → IsPlaceOf terms place request.key
+    pub place_is : (place : ℕ) (request : Request) → request.key < 2 ^ key_bits (wide_of settings.header) → IsPlaceFor host world request place → IsPlaceOf terms place request.key
     place_is place request small is = record {
       there = there;
       owns = subst (λ (c : Content). Owns longest_blob c request.key) (lent_at terms.contents lent place there)
           (owns_longer (longest_of settings.header) longest_blob (longest_fits settings.header) (get_or seats (place % 5) vacant) request.key
-          (seat_serves (longest_of settings.header) functions.digest seats mirrors (place % 5) request small is.owns).own);
+          (seat_serves (longest_of settings.header) functions.digest seats mirrors (place % 5) request
+          (subst (λ (wide : Bool). request.key < 2 ^ key_bits wide) (sym (orderly.shards (place / 5) is.there.0).tree) small) is.owns).own);
       cold = λ other kept near found same. alone other kept near found same (cases_lt other (length terms.contents));
     }
       where

@@ -3,9 +3,9 @@ use Rattle.std.proofs.Common.{◌≡◌, ℕ, zero, suc, ◌<◌, Bool, true, fa
 use Rattle.std.specs.List.{AllByRecursion, list_any}
 use Rattle.std.proofs.lemmas.Bool.{false≢true, and_parts, eqb-true, eq-eqb}
 use Rattle.std.proofs.lemmas.List.Folds.{list_any_at}
-use Rattle.tree_keys.specs.Path.{is_prefix, key_path}
+use Rattle.tree_keys.specs.Path.{is_prefix}
 use Rattle.host_shard.specs.declared.content.HotRecord.{HotRecord}
-use Rattle.host_shard.specs.Shard.{Shard}
+use Rattle.host_shard.specs.Shard.{key_path_in, Shard}
 use Rattle.host_shard.specs.Content.{Content, cold, hot, vacant}
 use Rattle.protection_moves.specs.Stage.{hot_records, is_hot_at}
 use Rattle.move_laws.specs.Stages.{IsOne}
@@ -55,7 +55,7 @@ serves_alone seats shard places is apart seat other key kept there serves found 
   where
     go : (content : Content) → get_or seats seat vacant ≡ content → serves_key seats key content ≡ true → other ≡ seat
     go (cold own) here serves' =
-        let parts = and_parts (is_prefix own.frontier (key_path false key)) (not (list_any (is_hot_at key) seats)) serves' in
+        let parts = and_parts (is_prefix own.frontier (key_path_in own key)) (not (list_any (is_hot_at key) seats)) serves' in
         absurd (not_both (list_any (is_hot_at key) seats) parts.1
         (list_any_at (is_hot_at key) seats other vacant there (ap (is_hot_at key) found ∙ eq-eqb kept.key key same)))
     go (hot own) here serves' =

@@ -84,6 +84,7 @@ module _ (functions : DigestFunctions) (settings : Settings) (script : List (Lis
     behind = behind;
     rest = at_rest functions settings script logs world is.begins epochs;
     made = record {
+      header = is.made.header;
       digest = is.made.digest;
       absent_is = is.made.absent_is;
       workers = is.made.workers ∙ sym (length-before_each logs world.workers);

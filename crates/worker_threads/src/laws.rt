@@ -1,9 +1,11 @@
 //! Why a phase that all workers served at once was one list of events. These functions do nothing: their contracts are the laws.
 ghost use Rattle.std.specs.Prelude.{◌≡◌, ℕ, ◌^◌, ◌<◌, ◌≤◌, false, List, [], length, map, get_or};
+ghost use Rattle.tree_keys.specs.Path.{key_bits};
 ghost use Rattle.log_codec.specs.declared.command.Command.{Command};
 ghost use Rattle.merkle_records.specs.Merkle.{GivesDigests};
 ghost use Rattle.record_hash.specs.Functions.{DigestFunctions};
 ghost use Rattle.record_text.specs.declared.request.Request.{Request};
+ghost use Rattle.record_text.specs.Tree.{wide_of};
 ghost use Rattle.script_text.specs.declared.task.Task.{Task};
 ghost use Rattle.host_core.specs.World.{World, worker_at};
 ghost use Rattle.host_shard.specs.declared.content.Content as code;
@@ -55,13 +57,14 @@ pub(crate) fn tables_are_of_their_worlds()
         (world : World Content) (terms : Terms) → GivesDigests functions.digest
         → IsBehindSetup functions settings script (with_logs logs world) → world.closing ≡ false
         → map shown_content terms.contents ≡ all_contents world.shards
-        → terms.digest ≡ functions.digest → terms.absent ≡ settings.absent → terms.workers ≡ length world.workers
+        → terms.header ≡ settings.header → terms.digest ≡ functions.digest → terms.absent ≡ settings.absent
+        → terms.workers ≡ length world.workers
         → AreTermsOf (shipped_host functions settings script) settings.absent world terms }
     ensures places { (functions : DigestFunctions) (settings : Settings) (script : List (List Task)) (logs : List (List Command))
         (world : World Content) (terms : Terms) → GivesDigests functions.digest
         → IsBehindSetup functions settings script (with_logs logs world) → world.closing ≡ false
         → map shown_content terms.contents ≡ all_contents world.shards
-        → (place : ℕ) (request : Request) → request.key < 2 ^ 64
+        → (place : ℕ) (request : Request) → request.key < 2 ^ key_bits (wide_of settings.header)
         → IsPlaceFor (shipped_host functions settings script) world request place → IsPlaceOf terms place request.key }
 {
     worlds_are_orderly();

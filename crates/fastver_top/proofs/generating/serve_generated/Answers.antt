@@ -5,7 +5,7 @@ use Rattle.script_text.specs.Text.{AreTasks}
 use Rattle.script_text.specs.declared.task.Task.{Task}
 use Rattle.script_text.specs.Generator.{generated}
 use Rattle.verifier_threads.specs.Serving.{Outputs, ServesTo}
-use Rattle.fastver_top.specs.Running.{Keeping, settings_for}
+use Rattle.fastver_top.specs.Running.{Keeping, header_for, settings_for}
 use Rattle.fastver_top.specs.Generating.{GensTo, account_for}
 use Rattle.fastver_top.proofs.LoadLemmas.{load-asks, gens-nothing, gens-stopped, gens-served}
 use Rattle.fastver_top.proofs.generating.serve_generated.Goals as goal
@@ -13,7 +13,7 @@ use Rattle.fastver_top.proofs.generating.serve_generated.Goals as goal
 pub serve_named-requires-clause-tasks : goal.serve_named-requires-clause-tasks
 serve_named-requires-clause-tasks g c κs within =
     let words = c.args.words.now in
-    subst (AreTasks words.numbers.verifiers) (sym (c.in-Ok.ensures.generated ∙ ap (generated words.load.seed) c.shape_for-shape.ensures.value))
+    subst (AreTasks (header_for words.numbers)) (sym (c.in-Ok.ensures.generated ∙ ap (generated words.load.seed) c.shape_for-shape.ensures.value))
     (load-asks words c.requires.numbers.some_verifiers)
 
 pub returns-in-Err-clause-generates : goal.returns-in-Err-clause-generates

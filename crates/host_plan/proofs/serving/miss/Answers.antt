@@ -1,13 +1,12 @@
-use Rattle.std.proofs.Common.{rules, ◌≡◌, ◌<◌, ◌^◌, false, ◌∷◌, [], subst, sym}
+use Rattle.std.proofs.Common.{rules, ◌≡◌, ◌<◌, ◌^◌, ◌∷◌, [], subst, sym}
 use Rattle.std.specs.List.{AllByRecursion}
-use Rattle.tree_keys.specs.Path.{key_path}
 use Rattle.record_text.specs.declared.element.Element.{Element}
 use Rattle.record_text.specs.Element.{IsStamp}
 use Rattle.record_text.specs.Longest.{longest_blob}
 use Rattle.log_codec.specs.Command.{IsPathCommand}
 use Rattle.log_codec.specs.declared.command.Command.TheVariants.{Absent}
 use Rattle.host_shard.specs.Chain.{known_links, end_path}
-use Rattle.host_shard.specs.Shard.{Shard, tree_of, pending_shard}
+use Rattle.host_shard.specs.Shard.{key_path_in, Shard, tree_of, pending_shard}
 use Rattle.host_shard.specs.Shown.{shown}
 use Rattle.host_shard.proofs.ChainLaws.{frontier_kind}
 use Rattle.host_plan.specs.Visit.{visit, between}
@@ -17,7 +16,7 @@ use Rattle.host_plan.proofs.serving.miss.Goals as goal
 pub returns-clause-typed : goal.returns-clause-typed
 returns-clause-typed c =
     let shard : Shard = shown c.args.shard.now in
-    let key = key_path false c.args.key in
+    let key = key_path_in shard c.args.key in
     let known = known_links key shard.frontier shard.value c.args.links.now in
     let commands : c.in_ok-commands.commands ≡ between (pending_shard shard) c.args.stamp (visit shard.frontier known (Absent key (end_path shard.frontier known) ∷ [])) = search rules in
     subst (AllByRecursion (IsPathCommand longest_blob)) (sym commands)

@@ -9,5 +9,5 @@ use Rattle.host_plan.proofs.starting.all_set_up.Goals as goal
 
 pub returns-clause-typed : goal.returns-clause-typed
 returns-clause-typed c =
-    let commands : c.of.result ≡ setup_commands c.args.first c.args.bits = grind (arith, common_steps) in
-    subst (AllByRecursion (IsPathCommand longest_blob)) (sym commands) (setup_typed c.args.first c.args.bits c.ranges.first.fits c.requires.few)
+    let commands : c.of.result ≡ setup_commands c.args.wide c.args.first c.args.bits = grind (arith, common_steps) in
+    subst (AllByRecursion (IsPathCommand longest_blob)) (sym commands) (setup_typed c.args.wide c.args.first c.args.bits c.ranges.first.fits c.requires.few)

@@ -1,4 +1,4 @@
-use Rattle.std.proofs.Common.{ℕ, ◌∙◌, ap, subst, sym, arith}
+use Rattle.std.proofs.Common.{ℕ, ◌∙◌, ap, arith}
 use Rattle.tree_keys.specs.Path.{key_bits}
 use Rattle.host_plan.proofs.SetupLemmas.{few_numbers, unused_bits, number_in_word}
 use Rattle.host_plan.proofs.starting.first_stamp.Goals as goal

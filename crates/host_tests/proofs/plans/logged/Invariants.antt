@@ -6,6 +6,6 @@ use Rattle.host_tests.proofs.plans.logged.Given as goal
 
 abbrev pub invariant-loop-row : goal.invariant-loop-row
 invariant-loop-row g l = record {
-  low : OwnsBelow (root_of false ++ false ∷ []) (shown_content l.host.low);
-  high : OwnsBelow (root_of false ++ true ∷ []) (shown_content l.host.high);
+  low : OwnsBelow (root_of l.host.wide ++ false ∷ []) (shown_content l.host.low);
+  high : OwnsBelow (root_of l.host.wide ++ true ∷ []) (shown_content l.host.high);
 }

@@ -10,5 +10,5 @@ overflow_cast-result c =
 
 pub overflow_cast-result-2 : goal.overflow_cast-result-2
 overflow_cast-result-2 c =
-    let most = or_range 1 2 1 c.in_ok-version.version (optional_range 1 2 c.in_ok-version.version _ (sym c.in_ok-version.ensures.value)) (omega arith) (omega arith) in
-    omega (arith, most.1, c.unwrap_or-3.ensures)
+    let most = or_range 1 3 1 c.in_ok-version.version (optional_range 1 3 c.in_ok-version.version _ (sym c.in_ok-version.ensures.value)) (omega arith) (omega arith) in
+    omega (arith, most.1, c.unwrap_or-version.ensures)

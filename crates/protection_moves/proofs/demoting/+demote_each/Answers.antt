@@ -1,19 +1,19 @@
-use Rattle.std.proofs.Common.{rules, ◌≡◌, ℕ, false, List, ◌∷◌, map, sym, subst, ap, ◌∙◌, arith}
+use Rattle.std.proofs.Common.{rules, ◌≡◌, ℕ, List, ◌∷◌, map, sym, subst, ap, ◌∙◌, arith}
 use Rattle.std.specs.List.{AllByRecursion}
-use Rattle.tree_keys.specs.Path.{key_path}
 use Rattle.record_text.specs.Longest.{longest_blob}
 use Rattle.host_shard.specs.declared.content.HotRecord.{HotRecord}
 use Rattle.host_shard.specs.Mirrors.{IsKeyOf, IsShard}
 use Rattle.host_shard.specs.Records.{record_at, values_of}
 use Rattle.host_shard.specs.Shard.{Shard}
 use Rattle.host_shard.specs.Shown.{shown}
+use Rattle.host_shard.specs.Content.{hot_path}
 use Rattle.protection_moves.specs.Transfer.{promotes}
 use Rattle.protection_moves.specs.Saving.{IsSavedOf}
 use Rattle.protection_moves.specs.Descent.{with_back}
 use Rattle.protection_moves.proofs.CountingLemmas.{past_by_first_transfer}
 use Rattle.protection_moves.proofs.SavingLemmas.{no_touches}
 use Rattle.protection_moves.proofs.DescentLemmas.{back_is}
-use Rattle.protection_moves.proofs.DoneLemmas.{rest_own, rest_own_back, rest_open, rest_within_back, transfers_returned}
+use Rattle.protection_moves.proofs.DoneLemmas.{rest_own, rest_in_range, rest_own_back, rest_open, rest_within_back, transfers_returned}
 use Rattle.protection_moves.proofs.demoting.+demote_each.Goals as goal
 
 pub unreachable-requires : goal.unreachable-requires
@@ -28,14 +28,14 @@ pub rehash_back-requires-clause-fits : goal.rehash_back-requires-clause-fits
 rehash_back-requires-clause-fits g t c =
     subst (IsShard longest_blob) (sym c.in_ok-put_back.ensures.back)
     (back_is longest_blob (shown c.args.shard.now) c.in-Some.parts.0.now c.requires.fits
-    (subst (AllByRecursion (λ (f : HotRecord). IsKeyOf (shown c.args.shard.now) (key_path false f.key))) c.in-Some.ensures.cases.0 c.requires.own_back).0
+    (subst (AllByRecursion (λ (f : HotRecord). IsKeyOf (shown c.args.shard.now) (hot_path f))) c.in-Some.ensures.cases.0 c.requires.own_back).0
     c.in_ok-put_back.ensures.kind)
 
 pub returns-in-Err-clause-as_before : goal.returns-in-Err-clause-as_before
 returns-in-Err-clause-as_before g t c =
-    let was = c.kept_of-was.ensures.value ∙ ap (values_of c.args.shard.now.records) c.of_key.ensures.bits in
+    let was = c.kept_of-was.ensures.value ∙ ap (values_of c.args.shard.now.records) c.path.ensures.path in
     c.take_away.ensures.as_before (shown c.args.shard.now) (c.in-Err.ensures.as_before ∙ c.in_ok-put_back.ensures.back) was
-    (λ none. no_touches (record_at c.args.shard.now.records) (key_path false c.in-Some.parts.0.now.key) (sym was ∙ none))
+    (λ none. no_touches (record_at c.args.shard.now.records) (hot_path c.in-Some.parts.0.now) (sym was ∙ none))
 
 pub demote_each-requires : goal.demote_each-requires
 demote_each-requires g t c κs within =
@@ -52,16 +52,19 @@ demote_each-requires g t c κs within =
         (
           c.in-Ok.ensures.fits,
           (
-            (subst (AllByRecursion (λ (f : HotRecord). IsKeyOf new (key_path false f.key))) is (rest_own_back old new back frontier c.requires.own_back)).1,
+            (subst (AllByRecursion (λ (f : HotRecord). IsKeyOf new (hot_path f))) is (rest_own_back old new back frontier c.requires.own_back)).1,
             (
               rest_own old new c.args.keys.now frontier c.requires.own,
               (
-                c.requires.rising,
+                rest_in_range old new c.args.keys.now frontier c.requires.in_range,
                 (
-                  c.requires.few,
+                  c.requires.rising,
                   (
-                    rest_open c.args.clock.now c.in-Some-taken.next found rest back is c.in-Some-taken.ensures.taken c.requires.«open»,
-                    rest_within_back c.args.clock.now c.in-Some-taken.next found rest back (map (λ (k : ℕ). promotes k) c.args.keys.now) is c.in-Some-taken.ensures.taken c.requires.within,
+                    c.requires.few,
+                    (
+                      rest_open c.args.clock.now c.in-Some-taken.next found rest back is c.in-Some-taken.ensures.taken c.requires.«open»,
+                      rest_within_back c.args.clock.now c.in-Some-taken.next found rest back (map (λ (k : ℕ). promotes k) c.args.keys.now) is c.in-Some-taken.ensures.taken c.requires.within,
+                    ),
                   ),
                 ),
               ),
@@ -81,11 +84,11 @@ returns-in-Ok-demote_each-clause-done g t c touches places =
 
 pub returns-clause-as_before : goal.returns-clause-as_before
 returns-clause-as_before g t c =
-    let was = c.kept_of-was.ensures.value ∙ ap (values_of c.args.shard.now.records) c.of_key.ensures.bits in
+    let was = c.kept_of-was.ensures.value ∙ ap (values_of c.args.shard.now.records) c.path.ensures.path in
     let found : HotRecord = c.in-Some.parts.0.now in
     let back : Shard = with_back (shown c.args.shard.now) found in
     c.take_away-in-Err-demote_each.ensures.as_before (shown c.args.shard.now)
     (c.restore.ensures.restored back
     (subst (λ (s : Shard). IsSavedOf back c.in-Ok.saved s) (sym c.in-Err-demote_each.ensures.as_before)
     (subst (λ (s : Shard). IsSavedOf s c.in-Ok.saved (shown c.rehash_back.new.shard)) c.in_ok-put_back.ensures.back c.in-Ok.ensures.saved))) was
-    (λ none. no_touches (record_at c.args.shard.now.records) (key_path false found.key) (sym was ∙ none))
+    (λ none. no_touches (record_at c.args.shard.now.records) (hot_path found) (sym was ∙ none))

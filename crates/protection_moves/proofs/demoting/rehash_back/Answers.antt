@@ -1,23 +1,28 @@
-use Rattle.std.proofs.Common.{false, List, Bool, sym, subst}
+use Rattle.std.proofs.Common.{List, Bool, subst}
 use Rattle.tree_keys.specs.Path.{key_path}
 use Rattle.record_text.specs.declared.value.Value.TheVariants as values
 use Rattle.record_text.specs.Longest.{longest_blob}
-use Rattle.host_shard.specs.declared.link.Link.{Link}
-use Rattle.host_shard.specs.Chain.{IsChain}
+use Rattle.host_shard.specs.Mirrors.{IsKeyOf}
 use Rattle.host_shard.specs.Records.{record_at}
-use Rattle.host_shard.specs.Shard.{Shard, tree_of}
+use Rattle.host_shard.specs.Shard.{Shard}
 use Rattle.host_shard.specs.Shown.{shown}
+use Rattle.host_shard.specs.Content.{hot_path}
 use Rattle.protection_moves.proofs.SavingLemmas.{no_touches}
-use Rattle.protection_moves.proofs.DescentLemmas.{back_typed, returned_is, returning_of, saved_of}
+use Rattle.protection_moves.proofs.DescentLemmas.{own_tree, own_way, back_typed, returned_is, returning_of, saved_of}
 use Rattle.protection_moves.proofs.demoting.rehash_back.Goals as goal
+
+pub chain-requires-clause-own : goal.chain-requires-clause-own
+chain-requires-clause-own g c =
+    let now : Shard = shown c.args.shard.now in
+    subst (λ (wide : Bool). IsKeyOf now (key_path wide c.args.found.now.key)) (own_tree longest_blob now c.args.found.now c.requires.fits c.requires.own) c.requires.own
 
 pub returns-clause-back : goal.returns-clause-back
 returns-clause-back g c old is =
     let now : Shard = shown c.args.shard.now in
-    let path : List Bool = key_path false c.args.found.now.key in
+    let path : List Bool = hot_path c.args.found.now in
     returning_of (g.D.Digests.functions c.args.d.now).digest c.args.found.now old now (shown c.rehash.new.self) c.as_slice-along.result.now c.args.commands.now.items c.log_descent.new.commands.items
     c.pending.result c.copy.result is
-    (subst (λ (ls : List Link). IsChain (tree_of now) path now.frontier now.value ls) (sym c.as_slice-along.ensures.value) c.in_ok-links.ensures.chain)
+    (own_way longest_blob now c.args.found.now c.as_slice-along.result.now c.in_ok-links.links.items c.requires.fits c.requires.own c.as_slice-along.ensures.value c.in_ok-links.ensures.chain)
     c.in_ok-log_descent.ensures.logged c.pending.ensures.value c.in_ok-rehash.ensures.rehashed c.copy.ensures.value
 
 pub returns-clause-saved : goal.returns-clause-saved
@@ -30,17 +35,17 @@ returns-clause-saved g c =
 pub returns-clause-typed : goal.returns-clause-typed
 returns-clause-typed g c =
     let now : Shard = shown c.args.shard.now in
-    let path : List Bool = key_path false c.args.found.now.key in
+    let path : List Bool = hot_path c.args.found.now in
     back_typed longest_blob now path c.as_slice-along.result.now c.pending.result c.args.commands.now.items c.log_descent.new.commands.items
     c.requires.fits c.requires.own.whole
-    (subst (λ (ls : List Link). IsChain (tree_of now) path now.frontier now.value ls) (sym c.as_slice-along.ensures.value) c.in_ok-links.ensures.chain)
+    (own_way longest_blob now c.args.found.now c.as_slice-along.result.now c.in_ok-links.links.items c.requires.fits c.requires.own c.as_slice-along.ensures.value c.in_ok-links.ensures.chain)
     c.pending.ensures.kind c.pending.ensures.stamp c.pending.ensures.verifier c.in_ok-log_descent.ensures.logged
 
 pub returns-clause-fits : goal.returns-clause-fits
 returns-clause-fits g c =
     let now : Shard = shown c.args.shard.now in
-    let path : List Bool = key_path false c.args.found.now.key in
+    let path : List Bool = hot_path c.args.found.now in
     returned_is (g.D.Digests.functions c.args.d.now).digest c.args.found.now now (shown c.rehash.new.self) c.as_slice-along.result.now c.pending.result c.copy.result
     (λ text. (g.met.D.Digests.text_digest_shape c.args.d.now text).size) c.requires.fits c.requires.own
-    (subst (λ (ls : List Link). IsChain (tree_of now) path now.frontier now.value ls) (sym c.as_slice-along.ensures.value) c.in_ok-links.ensures.chain)
+    (own_way longest_blob now c.args.found.now c.as_slice-along.result.now c.in_ok-links.links.items c.requires.fits c.requires.own c.as_slice-along.ensures.value c.in_ok-links.ensures.chain)
     c.pending.ensures.value c.pending.ensures.kind c.in_ok-rehash.ensures.rehashed c.copy.ensures.value

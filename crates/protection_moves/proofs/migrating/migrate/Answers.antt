@@ -1,6 +1,5 @@
-use Rattle.std.proofs.Common.{rules, ◌≡◌, ℕ, ◌+◌, ◌<◌, false, List, [], ◌∷◌, ◌++◌, map, length, IsTrue, refl, sym, ◌∙◌, ap, subst, arith}
+use Rattle.std.proofs.Common.{rules, ◌≡◌, ℕ, ◌+◌, ◌<◌, List, [], ◌∷◌, ◌++◌, map, length, IsTrue, refl, sym, ◌∙◌, ap, subst, arith}
 use Rattle.std.specs.List.{AllByRecursion}
-use Rattle.tree_keys.specs.Path.{key_path}
 use Rattle.lamport_clocks.specs.declared.stamp.Stamp.{Stamp}
 use Rattle.lamport_clocks.specs.Clock.{is_open}
 use Rattle.lamport_clocks.specs.Reading.{Reading}
@@ -9,9 +8,9 @@ use Rattle.record_text.specs.Value.{IsOf}
 use Rattle.record_text.specs.Longest.{longest_blob}
 use Rattle.log_codec.specs.declared.command.Command.{Command}
 use Rattle.host_shard.specs.declared.content.HotRecord.{HotRecord}
-use Rattle.host_shard.specs.Content.{Content}
+use Rattle.host_shard.specs.Content.{hot_path, Content}
 use Rattle.host_shard.specs.Mirrors.{IsShard, IsKeyOf}
-use Rattle.host_shard.specs.Shard.{Shard}
+use Rattle.host_shard.specs.Shard.{key_path_in, Shard}
 use Rattle.host_shard.specs.Shown.{shown, shown_content}
 use Rattle.host_shard.proofs.ChainLaws.{frontier_kind}
 use Rattle.host_plan.specs.Moments.{giving}
@@ -108,12 +107,12 @@ returns-in_err-commands-clause-clock_end g c =
 
 pub demote_each-requires-clause-own_back : goal.demote_each-requires-clause-own_back
 demote_each-requires-clause-own_back g c =
-    subst (AllByRecursion (λ (f : HotRecord). IsKeyOf (shown c.args.shard.now) (key_path false f.key))) (sym (c.as_slice-back.ensures.value ∙ c.untouched_in-returning.ensures.records))
-    (untouched_all (λ f. IsKeyOf (shown c.args.shard.now) (key_path false f.key)) (map shown_content c.args.hot.now) c.requires.hot_own)
+    subst (AllByRecursion (λ (f : HotRecord). IsKeyOf (shown c.args.shard.now) (hot_path f))) (sym (c.as_slice-back.ensures.value ∙ c.untouched_in-returning.ensures.records))
+    (untouched_all (λ f. IsKeyOf (shown c.args.shard.now) (hot_path f)) (map shown_content c.args.hot.now) c.requires.hot_own)
 
 pub demote_each-requires-clause-own : goal.demote_each-requires-clause-own
 demote_each-requires-clause-own g c =
-    subst (AllByRecursion (λ (k : ℕ). IsKeyOf (shown c.args.shard.now) (key_path false k))) (sym c.as_slice-keys.ensures.value) c.promotable_keys-promotable.ensures.own
+    subst (AllByRecursion (λ (k : ℕ). IsKeyOf (shown c.args.shard.now) (key_path_in (shown c.args.shard.now) k))) (sym c.as_slice-keys.ensures.value) c.promotable_keys-promotable.ensures.own
 
 pub demote_each-requires-clause-open : goal.demote_each-requires-clause-open
 demote_each-requires-clause-open g c =

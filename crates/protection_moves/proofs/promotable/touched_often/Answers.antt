@@ -1,12 +1,13 @@
-use Rattle.std.proofs.Common.{◌≡◌, ℕ, ◌-◌, false, List, ◌∷◌, ◌++◌, map, take, length, Option, refl, sym, ◌∙◌, ap, subst}
+use Rattle.std.proofs.Common.{◌≡◌, ℕ, ◌<◌, ◌^◌, ◌-◌, List, ◌∷◌, ◌++◌, map, take, length, Option, refl, sym, ◌∙◌, ap, subst}
 use Rattle.std.specs.List.{AllByRecursion}
-use Rattle.tree_keys.specs.Path.{key_path}
+use Rattle.tree_keys.specs.Path.{key_bits}
 use Rattle.host_shard.specs.Mirrors.{IsKeyOf}
 use Rattle.host_shard.specs.Records.{Listed}
 use Rattle.host_shard.specs.Shown.{shown, shown_content}
+use Rattle.host_shard.specs.Shard.{key_path_in, wide_in}
 use Rattle.protection_moves.specs.Promotable.{promotable_among, listed_key, AreRising}
 use Rattle.protection_moves.specs.Shown.{shown_stage}
-use Rattle.protection_moves.proofs.PromotableLemmas.{are_promotable, promotable_rising, promotable_own, all_front, rising_front, front_full, front_all, front_more}
+use Rattle.protection_moves.proofs.PromotableLemmas.{are_promotable, promotable_rising, promotable_own, promotable_in_range, all_front, rising_front, front_full, front_all, front_more}
 use Rattle.protection_moves.proofs.promotable.touched_often.Goals as goal
 
 -- the keys so far, where they fill the room
@@ -29,8 +30,13 @@ returns-then-len-room-clause-first c clock = record {
 
 pub returns-then-len-room-clause-own : goal.returns-then-len-room-clause-own
 returns-then-len-room-clause-own c =
-    subst (AllByRecursion (λ key. IsKeyOf (shown c.args.shard.now) (key_path false key))) (sym (full c))
+    subst (AllByRecursion (λ key. IsKeyOf (shown c.args.shard.now) (key_path_in (shown c.args.shard.now) key))) (sym (full c))
     (all_front _ c.args.room _ (promotable_own c.args.least c.args.shard.now.frontier (map shown_content c.args.places.now) (shown c.args.shard.now) c.args.shard.now.records refl))
+
+pub returns-then-len-room-clause-in_range : goal.returns-then-len-room-clause-in_range
+returns-then-len-room-clause-in_range c =
+    subst (AllByRecursion (λ key. key < 2 ^ key_bits (wide_in (shown c.args.shard.now)))) (sym (full c))
+    (all_front _ c.args.room _ (promotable_in_range c.args.least c.args.shard.now.frontier (map shown_content c.args.places.now) c.args.shard.now.records))
 
 pub returns-then-len-room-clause-rising : goal.returns-then-len-room-clause-rising
 returns-then-len-room-clause-rising c =
@@ -57,8 +63,13 @@ returns-clause-first c clock = record {
 
 pub returns-clause-own : goal.returns-clause-own
 returns-clause-own c =
-    subst (AllByRecursion (λ key. IsKeyOf (shown c.args.shard.now) (key_path false key))) (sym (gone c))
+    subst (AllByRecursion (λ key. IsKeyOf (shown c.args.shard.now) (key_path_in (shown c.args.shard.now) key))) (sym (gone c))
     (all_front _ c.args.room _ (promotable_own c.args.least c.args.shard.now.frontier (map shown_content c.args.places.now) (shown c.args.shard.now) c.args.shard.now.records refl))
+
+pub returns-clause-in_range : goal.returns-clause-in_range
+returns-clause-in_range c =
+    subst (AllByRecursion (λ key. key < 2 ^ key_bits (wide_in (shown c.args.shard.now)))) (sym (gone c))
+    (all_front _ c.args.room _ (promotable_in_range c.args.least c.args.shard.now.frontier (map shown_content c.args.places.now) c.args.shard.now.records))
 
 pub returns-clause-rising : goal.returns-clause-rising
 returns-clause-rising c =

@@ -1,4 +1,4 @@
-use Rattle.std.proofs.Common.{◌≡◌, ◌∙◌, ℕ, List, Option, Some, None, is_some, ap, sym, refl, Bor}
+use Rattle.std.proofs.Common.{◌≡◌, ◌∙◌, ℕ, List, Option, Some, None, is_some, ap, sym, refl, Bor, arith}
 use Rattle.std.specs.Option.{option_map}
 use Rattle.script_text.specs.Script.{words_say}
 use Rattle.script_text.proofs.ScriptLemmas.{line_says-short, words_say-more, words_of-four}
@@ -21,6 +21,6 @@ returns-then-is_some c =
     c.split_word-3.ensures.words (ap bytes_behind c.in-Some-behind-2.is)
     c.split_word-4.ensures.words in
     record {
-      value = sym (line_says-short c.args.verifiers line c.if-line-gt-LONGEST_LINE.false ∙ ap (words_say c.args.verifiers) words
-          ∙ words_say-more c.args.verifiers _ _ _ _ _ (same_test c.split_word-4.result.1 ∙ sym c.is_some.ensures ∙ c.if-is_some.true));
+      value = sym (line_says-short c.args.header.now line (omega (arith, c.if-line-longest_line.false, c.longest_line.ensures.value)) ∙ ap (words_say c.args.header.now) words
+          ∙ words_say-more c.args.header.now _ _ _ _ _ (same_test c.split_word-4.result.1 ∙ sym c.is_some.ensures ∙ c.if-is_some.true));
     }

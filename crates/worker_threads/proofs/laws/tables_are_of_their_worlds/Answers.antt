@@ -18,12 +18,12 @@ returns c = record {
       subst (IsClockOf terms) (clock_with (shipped_host functions settings script) logs world i)
       (clock_of functions settings script before (orders before digests behind)
       (bounded_behind functions settings script digests orders before behind) phase terms lent some header i (omega (arith, there, count)));
-  of_world = λ functions settings script logs world terms digests behind phase lent digest told workers.
+  of_world = λ functions settings script logs world terms digests behind phase lent header digest told workers.
       let orders = c.worlds_are_orderly.ensures.orderly functions settings script in
       let before : World Content = with_logs logs world in
       let terms_are = terms_of_world functions settings script before (orders before digests behind)
-      (bounded_behind functions settings script digests orders before behind) phase terms lent digest told (workers ∙ sym (length-before_each logs world.workers)) in
-      record { digest = digest; absent_is = told; workers = workers; places = terms_are.places; contents = terms_are.contents };
+      (bounded_behind functions settings script digests orders before behind) phase terms lent header digest told (workers ∙ sym (length-before_each logs world.workers)) in
+      record { header = header; digest = digest; absent_is = told; workers = workers; places = terms_are.places; contents = terms_are.contents };
   places = λ functions settings script logs world terms digests behind phase lent place request small is.
       let orders = c.worlds_are_orderly.ensures.orderly functions settings script in
       let before : World Content = with_logs logs world in

@@ -165,6 +165,7 @@ returns g c =
     c.close.result.items c.lend_workers-workers.result.items c.in_ok-left.left.workers.items c.in_ok-left.left.hands.items c.phase-tasks.result.now
     c.requires.begins c.requires.running
     (c.tables_are_of_their_worlds.ensures.of_world functions old.settings (requests_of old) stands.0 (shown_world old) made sized stands.1.behind c.requires.begins.phase lent
+    (ap (λ (t : Terms). t.header) c.in-Ok.ensures.terms ∙ header)
     (ap (λ (t : Terms). t.digest) c.in-Ok.ensures.terms ∙ ap (λ d. (g.D.Digests.functions d).digest) c.digests-d.ensures.value)
     (ap (λ (t : Terms). t.absent) c.in-Ok.ensures.terms ∙ ap (λ (s : Settings). s.absent) c.settings-settings.ensures.value)
     (ap (λ (t : Terms). t.workers) c.in-Ok.ensures.terms ∙ ap (λ h. h.verifiers) header ∙ sym count))

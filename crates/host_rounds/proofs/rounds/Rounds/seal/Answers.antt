@@ -124,3 +124,6 @@ returns-clause-runs g c =
 
 pub returns-in_err-runs-clause-whole : goal.returns-in_err-runs-clause-whole
 returns-in_err-runs-clause-whole g c = λ memory. ok_holds _ c.write_round.result (sym c.is_err.ensures.value ∙ c.if-is_err.false) c.write_round.ensures.whole
+
+pub returns-clause-settled : goal.returns-clause-settled
+returns-clause-settled g c = c.in_ok-runs.ensures.settled c.self.inside.certifier

@@ -1,5 +1,6 @@
 use Rattle.std.proofs.Common.{◌≡◌, ◌-◌, ◌^◌, ℕ, suc, List, ◌∷◌, [], map, length, replicate, false, ap, sym, ◌∙◌, arith}
 use Rattle.std.proofs.lemmas.List.{length-replicate}
+use Rattle.record_text.specs.Tree.{wide_of}
 use Rattle.log_codec.specs.declared.command.Command.{Command}
 use Rattle.host_core.specs.World.{Worker, Seats, World, idle, fresh, unmoved, set_up}
 use Rattle.host_laws.specs.SettingUp.{first_clock}
@@ -25,7 +26,7 @@ returns-clause-set_up g c =
     ∙ ap (world _)
     (c.in_ok-workers.ensures.workers
     ∙ ap (λ (commands : List Command). idle commands (first_clock header.first header.end settings.shards) ∷ others) (c.in-Ok.ensures.commands bits power)
-    ∙ ap (λ (n : ℕ). idle (setup_commands header.first bits) (first_clock header.first header.end n) ∷ others) power)
+    ∙ ap (λ (n : ℕ). idle (setup_commands (wide_of header) header.first bits) (first_clock header.first header.end n) ∷ others) power)
 
 -- nothing is handed out yet
 pub returns-clause-behind : goal.returns-clause-behind

@@ -1,5 +1,8 @@
-use Rattle.std.proofs.Common.{refl, arith}
+use Rattle.std.proofs.Common.{◌≡◌, Bool, take, refl, subst, arith}
+use Rattle.tree_keys.specs.Bits.{number_of, bits_of}
+use Rattle.tree_keys.specs.Path.{key_bits}
 use Rattle.merkle_records.specs.Merkle.{GivesDigests}
+use Rattle.host_world.specs.Settings.{frontier_bits}
 use Rattle.host_world.specs.Shown.{digests_of}
 use Rattle.record_text.specs.Longest.{longest_of}
 use Rattle.host_world.proofs.SeatLaws.{fits_blob}
@@ -41,8 +44,10 @@ returns-clause-there g c =
 pub returns-clause-owns : goal.returns-clause-owns
 returns-clause-owns g c = λ short.
     let old = c.args.self.now in
+    let first = subst (λ (wide : Bool). c.shard_of-shard.result ≡ number_of (take (frontier_bits old.settings.shards) (bits_of (key_bits wide) c.args.request.now.key)))
+    c.wide_of-wide.ensures.value c.shard_of-shard.ensures.first_bits in
     let functions = g.D.Digests.functions (digests_of old) in
     let digests : GivesDigests functions.digest = λ text. (g.met.D.Digests.text_digest_shape old.d.now text).size in
     place_owns functions digests old c.requires.behind.0 c.requires.behind.1
     c.shard_of-shard.result c.shard_of-shard.ensures.there c.index.result.now c.index.ensures _ c.seat_of-seat.result refl c.seat_of-seat.ensures.there
-    c.args.request.now c.shard_of-shard.ensures.first_bits (fits_blob (longest_of old.settings.header) c.args.request.now.value short) c.seat_of-seat.ensures.hot c.seat_of-seat.ensures.cold
+    c.args.request.now first (fits_blob (longest_of old.settings.header) c.args.request.now.value short) c.seat_of-seat.ensures.hot c.seat_of-seat.ensures.cold

@@ -4,7 +4,7 @@ use Rattle.script_text.proofs.requests.Requests.read.Goals as goal
 
 pub loop-rest-init : goal.loop-rest-init
 loop-rest-init c = record {
-  read = rw c.new-requests.ensures.value (read-nothing c.args.verifiers c.args.bytes.now);
+  read = rw c.new-requests.ensures.value (read-nothing c.args.header.now c.args.bytes.now);
   counted = omega arith;
 }
 

@@ -5,7 +5,7 @@ use Rattle.script_text.proofs.requests.Requests.read.Given as goal
 -- what is left of the bytes says the rest, and each line took a byte at least
 abbrev pub invariant-loop-rest : goal.invariant-loop-rest
 invariant-loop-rest l = record {
-  read : HasRead l.verifiers l.bytes l.requests l.number l.rest;
+  read : HasRead l.header l.bytes l.requests l.number l.rest;
   counted : l.number + length l.rest ≤ length l.bytes;
 }
 

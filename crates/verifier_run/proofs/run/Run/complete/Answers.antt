@@ -68,6 +68,6 @@ returns-in-Truncated-clause-ok g c =
 pub returns-in-Truncated-clause-none_held : goal.returns-in-Truncated-clause-none_held
 returns-in-Truncated-clause-none_held g c = λ less.
     let longer = c.append.ensures.items ∙ ap (λ (more : List ℕ). c.self.inside.held.items ++ more) c.front.ensures.value in
-    let room : 106 ≤ length c.self.inside.held.items + c.min-room.result = omega (arith, less, c.min-room.ensures, c.remaining_capacity.ensures) in
+    let room : 292 ≤ length c.self.inside.held.items + c.min-room.result = omega (arith, less, c.min-room.ensures, c.remaining_capacity.ensures) in
     let ended = piece_ended c.self.inside.tracer.machine.header c.self.inside.held.items c.args.piece.now c.min-room.result (ap (command_at (format_of c.self.inside.tracer.machine.header)) (sym (c.as_slice.ensures.value ∙ longer)) ∙ (ap (λ (h : Header). command_at (format_of h) c.as_slice.result.now) (sym c.header.ensures.value) ∙ c.in-Truncated.ensures.exact)) room in
     absurd (omega (arith, ended, less))

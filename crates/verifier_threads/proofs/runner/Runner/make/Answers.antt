@@ -33,9 +33,10 @@ new-requires-in-Ok g c =
       setup = says.set_up ∙ ap (λ (h : Host Content Request). set_up h) (sym says.host);
       settings = subst IsSettings (sym says.numbers) c.requires.settings;
       counters = subst (λ (s : Settings). s.shards ≤ s.header.end) (sym says.numbers) suffices;
-      keys = subst AreInRange (sym says.asked) (c.scripts_ask_for_keys_in_range.ensures.keys settings.header.verifiers c.args.requests.now c.requires.tasks);
+      keys = subst (λ (s : Settings). AreInRange s.header (requests_of c.in-Ok.world)) (sym says.numbers)
+          (subst (AreInRange settings.header) (sym says.asked) (c.scripts_ask_for_keys_in_range.ensures.keys settings.header c.args.requests.now c.requires.tasks));
       values = subst (λ (s : Settings). HaveShortValues s.header (requests_of c.in-Ok.world)) (sym says.numbers)
-          (subst (HaveShortValues settings.header) (sym says.asked) (c.scripts_ask_for_keys_in_range.ensures.values settings.header.verifiers settings.header c.args.requests.now c.requires.tasks));
+          (subst (HaveShortValues settings.header) (sym says.asked) (c.scripts_ask_for_keys_in_range.ensures.values settings.header c.args.requests.now c.requires.tasks));
       some = omega (arith, c.a_script_has_a_phase.ensures.some, ap (λ (script : List (List Task)). length script) says.asked);
     }
 
