@@ -1,4 +1,4 @@
--- What reading a source comes to, the logs that runs were of, and what a check answers batch by batch.
+-- What reading a source comes to, for callers too, the logs that runs were of, and what a check answers batch by batch.
 mod BatchLemmas
 mod ConcludingLemmas
 mod FeedingLemmas
@@ -8,3 +8,4 @@ mod MeaningLemmas
 mod StreamLemmas
 mod EndingLemmas
 mod HeaderLemmas
+pub mod WholeReadLaws

@@ -1,7 +1,7 @@
 -- What the rounds of a host come to, for callers too, and what this crate's proofs rest on.
 pub mod RoundLaws
 pub mod BundleLaws
-mod FramingLemmas
+pub mod FramingLaws
 mod RunLemmas
 mod LendingLemmas
 mod WithPassLemmas

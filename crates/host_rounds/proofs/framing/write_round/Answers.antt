@@ -2,7 +2,7 @@ use Rattle.std.proofs.Common.{◌≡◌, ℕ, suc, ◌+◌, List, ◌∙◌, sub
 use Rattle.std.proofs.lemmas.Result.{err_from_is_err_and}
 use Rattle.fv_outside.specs.Written.{Grows, GrowsByFront}
 use Rattle.host_log.specs.Frames.{frames_text}
-use Rattle.host_rounds.proofs.FramingLemmas.{text-step, wrote-part, wrote-front}
+use Rattle.host_rounds.proofs.FramingLaws.{text-step, wrote-part, wrote-front}
 use Rattle.host_rounds.proofs.framing.write_round.Goals as goal
 
 pub loop-number-preserved : goal.loop-number-preserved

@@ -1,5 +1,5 @@
 use Rattle.std.proofs.Common.{◌≡◌, ◌≤◌}
-use Rattle.host_rounds.proofs.FramingLemmas.{Wrote, text_from}
+use Rattle.host_rounds.proofs.FramingLaws.{Wrote, text_from}
 use Rattle.host_rounds.proofs.framing.write_round.Given as goal
 
 -- a front of the frames was written, and those of the logs that are left are the rest
