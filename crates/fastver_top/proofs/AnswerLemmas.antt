@@ -1,14 +1,15 @@
 -- What was asked is what the words ask for, and the headline of whatever a source has.
-use Rattle.std.proofs.Common.{◌≡◌, ℕ, List, Option, Some, None, IfSome, refl, sym, ◌∙◌, ap, inl, inr, arith}
+use Rattle.std.proofs.Common.{◌≡◌, ℕ, List, Option, Some, None, IfSome, refl, sym, ◌∙◌, ap, subst, inl, inr, arith}
 use Rattle.fv_outside.specs.Consumed.{TookAtMost}
 use Rattle.record_hash.specs.ShaDigests.{sha_under}
-use Rattle.program_words.specs.declared.words.Asked.TheVariants.{Check, Audit, Run, Gen, Accept, Follow}
+use Rattle.program_words.specs.declared.words.Asked.TheVariants.{Check, Audit, Run, Gen, Accept, Follow, Upgrade}
 use Rattle.report_text.specs.declared.status.Status.TheVariants.{Memory}
 use Rattle.report_text.proofs.AnsweringLaws.{answers-none}
 use Rattle.bundle_frames.specs.Extent.{reading_end}
 use Rattle.bundle_report.specs.Answer.{sha_check_answer}
 use Rattle.program_words.specs.declared.words.Asked.{Asked}
 use Rattle.bundle_report.proofs.HeadlineLaws.{sha_headline, of_left}
+use Rattle.bundle_upgrade.specs.Answer.{sha_upgrade_answer}
 use Rattle.follower.specs.Answer.{sha_follow_answer}
 use Rattle.fastver_top.specs.Auditing.{sha_audit_answer}
 use Rattle.fastver_top.specs.Answers.{asked_key, AnswersFor, bundle_for, IsSoundFor}
@@ -24,6 +25,20 @@ inside other (Some asked) = asked
 -- the words ask for one thing: what was found of them is what they ask for
 pub asked_is : (o : Option Asked) (asked own found : Asked) → o ≡ Some asked → o ≡ Some found → found ≡ own → own ≡ asked
 asked_is o asked own found known was is = sym is ∙ ap (inside found) (sym was ∙ known)
+
+-- it is an upgrade
+abbrev pub IsUpgrade : Asked → Type 0
+IsUpgrade (Check check) = ⊥
+IsUpgrade (Audit key) = ⊥
+IsUpgrade (Run run) = ⊥
+IsUpgrade (Gen load) = ⊥
+IsUpgrade (Accept key) = ⊥
+IsUpgrade (Follow key) = ⊥
+IsUpgrade (Upgrade key) = Unit {0}
+
+-- so where they ask for an upgrade, what was found of them is one
+pub upgrade_alone : (o : Option Asked) (key : List ℕ) (own found : Asked) → o ≡ Some (Upgrade key) → o ≡ Some found → found ≡ own → IsUpgrade own
+upgrade_alone o key own found known was is = subst IsUpgrade (sym (asked_is o (Upgrade key) own found known was is)) tt
 
 -- the headline holds of the bundle that it is about, if it is told, however the program ends
 pub left_is_sound : (asked : Asked) (left held : Option (List ℕ)) → IfSome (bundle_for asked left held) (IsSoundFor asked)
@@ -47,6 +62,7 @@ answers-nothing (Run run) most left held vault name r r' w w' v v' =
 answers-nothing (Gen load) most left held vault name r r' w w' v v' =
     gens-nothing (sha_under load.key) load _ _ (record { unnamed = refl; vault = refl; out = refl })
 answers-nothing (Follow key) most left held vault name r r' w w' v v' = answers-none (sha_follow_answer key) reading_end most left held r r' w w'
+answers-nothing (Upgrade key) most left held vault name r r' w w' v v' = answers-none (sha_upgrade_answer key) reading_end most left held r r' w w'
 answers-nothing (Accept key) most left held vault name r r' w w' v v' =
     answers-unread (sha_under key) most
     (record { left = left; left_after = left; faults = r; faults_after = r' }) (record { held = held; held_after = held; faults = w; faults_after = w' })

@@ -1,9 +1,5 @@
 -- What an audit shows is the exhibit of what was read, and that is a collision.
-use Rattle.std.proofs.Common.{◌≡◌, ◌≢◌, ℕ, List, [], ◌∷◌, map, Option, Some, None, IfSome, Ok, Err, refl, sym, ◌∙◌, ap, subst, inl, inr}
-use Rattle.fv_outside.specs.Consumed.{TookAtMost, TookToEnd, StopsAtEnd}
-use Rattle.fv_outside.specs.Faults.{Rose}
-use Rattle.fv_outside.specs.Written.{Grows, GrowsByFront}
-use Rattle.fv_outside.proofs.WrittenLaws.{GrowsByFront-none}
+use Rattle.std.proofs.Common.{◌≡◌, ◌≢◌, ℕ, List, [], ◌∷◌, map, Option, Some, None, IfSome, refl, sym, ◌∙◌, ap, subst, inl, inr}
 use Rattle.record_hash.specs.Functions.{DigestFunctions}
 use Rattle.lamport_clocks.specs.declared.header.Header.{Header}
 use Rattle.record_text.specs.declared.exhibit.Exhibit.{Exhibit}
@@ -12,13 +8,9 @@ use Rattle.record_text.specs.declared.operation.Operation.{Operation}
 use Rattle.record_text.specs.Format.{LogFormat, format_of}
 use Rattle.report_text.specs.declared.ending.BundleEnd.{BundleEnd}
 use Rattle.report_text.specs.declared.ending.BundleEnd.TheVariants as bundles
-use Rattle.report_text.specs.Ending.{status_of, failure_status}
+use Rattle.report_text.specs.Ending.{status_of}
 use Rattle.report_text.specs.declared.status.Status.TheVariants as statuses
-use Rattle.report_text.specs.Answer.{Answer, IsEnd, Reading, Writing, AnswersTo}
-use Rattle.report_text.proofs.AnsweringLaws.{of_taken_any, took_more, answers-end, answers-memory, answers-write_fault}
-use Rattle.bundle_frames.specs.Extent.{reading_end}
-use Rattle.fv_outside.specs.declared.failure.Failure.{Failure}
-use Rattle.fv_outside.specs.declared.failure.Failure.TheVariants as failures
+use Rattle.report_text.specs.Answer.{IsEnd}
 use Rattle.log_codec.specs.declared.log_command.LogCommand.{LogCommand}
 use Rattle.log_codec.specs.Log.{Log, read_log}
 use Rattle.soundness.specs.History.{histories_of}
@@ -28,11 +20,11 @@ use Rattle.soundness.specs.Sound.{commands_of, histories_read, IsSerialOrCollide
 use Rattle.merkle_records.specs.Scheme.{Scheme, scheme_of}
 use Rattle.bundle_report.specs.BundleReport.{histories_at}
 use Rattle.bundle_report.specs.Logged.{Logged, logged_of}
-use Rattle.bundle_report.specs.Answer.{certified_at, EndsAs}
+use Rattle.bundle_report.specs.Answer.{certified_at}
 use Rattle.bundle_report.specs.Headline.{exhibit_at, CollidesAt, IsSoundAt}
 use Rattle.fastver_top.specs.declared.audit_end.AuditEnd.{AuditEnd}
 use Rattle.fastver_top.specs.declared.audit_end.AuditEnd.TheVariants as ends
-use Rattle.fastver_top.specs.Auditing.{audit_end_status, audit_answer_by, audit_answer, ExhibitCollides}
+use Rattle.fastver_top.specs.Auditing.{audit_end_status, ExhibitCollides}
 
 -- ---- what was read
 
@@ -92,45 +84,9 @@ shown_left functions (Some bytes) read is shown collides =
 
 -- ---- what an audit answers
 
--- what was read of a source tells the answer to its bytes
-left_answer : (P : Answer → Type 0) (functions : DigestFunctions) (left : Option (List ℕ)) (read : Logged) → IfSome left (λ bytes. read ≡ logged_of bytes)
-    → P (audit_answer_by functions read) → IfSome left (λ bytes. P (audit_answer functions bytes))
-left_answer P functions None read is holds = tt
-left_answer P functions (Some bytes) read is holds = subst (λ (l : Logged). P (audit_answer_by functions l)) is holds
-
-audit_is_end : (end : AuditEnd) → IsEnd (audit_end_status end)
+pub audit_is_end : (end : AuditEnd) → IsEnd (audit_end_status end)
 audit_is_end ends.Exhibit = tt
 audit_is_end (ends.Bundle (bundles.Done epochs)) = tt
 audit_is_end (ends.Bundle (bundles.BadBundle offset)) = tt
 audit_is_end (ends.Bundle (bundles.Refused verifier index refusal)) = tt
 audit_is_end (ends.Bundle (bundles.Unbalanced epoch added evicted)) = tt
-
-module _ (functions : DigestFunctions) (limit : ℕ) (reading : Reading) (writing : Writing) (read : Logged)
-    (is : IfSome reading.left (λ bytes. read ≡ logged_of bytes)) (within : TookAtMost limit reading.left reading.left_after)
-    (stops : StopsAtEnd reading_end reading.left reading.left_after) where
-  -- where it ends
-  pub audit_ends : (end : AuditEnd) → TookToEnd reading_end reading.left reading.left_after
-      → EndsAs audit_end_status (Ok end) writing.held writing.held_after (audit_answer_by functions read)
-      → AnswersTo (audit_answer functions) reading_end limit (audit_end_status end) reading writing
-  audit_ends end reached told =
-      answers-end (audit_answer functions) reading_end limit reading writing (audit_end_status end) (audit_is_end end)
-      (left_answer (λ answer. audit_end_status end ≡ answer.status) functions reading.left read is told.0)
-      (left_answer (λ answer. Grows writing.held writing.held_after answer.text) functions reading.left read is told.1)
-      within reached stops
-
-  -- where its report stops
-  pub audit_stops : (stop : Failure) → EndsAs audit_end_status (Err stop) writing.held writing.held_after (audit_answer_by functions read)
-      → (stop ≡ failures.Memory → writing.held_after ≡ writing.held) → (stop ≡ failures.WriteFault → Rose writing.faults writing.faults_after)
-      → AnswersTo (audit_answer functions) reading_end limit (failure_status limit stop) reading writing
-  audit_stops failures.Memory told same rose =
-      answers-memory (audit_answer functions) reading_end limit reading writing
-      (of_taken_any _ limit reading.left reading.left_after (λ bytes.
-      subst (λ (held : Option (List ℕ)). GrowsByFront writing.held held []) (sym (same refl)) (GrowsByFront-none writing.held [])))
-      (took_more limit reading.left reading.left_after within) stops
-  audit_stops failures.ReadFault told same rose = absurd told
-  audit_stops failures.InputLimit told same rose = absurd told
-  audit_stops failures.VaultFault told same rose = absurd told
-  audit_stops failures.WriteFault told same rose =
-      answers-write_fault (audit_answer functions) reading_end limit reading writing
-      (left_answer (λ answer. GrowsByFront writing.held writing.held_after answer.text) functions reading.left read is told)
-      (took_more limit reading.left reading.left_after within) stops (rose refl)

@@ -1,7 +1,7 @@
 -- What the table of rules says of words that ask for nothing, and which statuses are of an acceptance.
 use Rattle.std.proofs.Common.{◌≡◌, ◌⊎◌, Option, Some, None, refl, subst, inl, inr}
 use Rattle.program_words.specs.declared.words.Asked.{Asked}
-use Rattle.program_words.specs.declared.words.Asked.TheVariants.{Check, Audit, Run, Gen, Accept, Follow}
+use Rattle.program_words.specs.declared.words.Asked.TheVariants.{Check, Audit, Run, Gen, Accept, Follow, Upgrade}
 use Rattle.report_text.specs.declared.status.Status.{Status}
 use Rattle.report_text.specs.declared.status.Status.TheVariants as statuses
 use Rattle.fastver_top.specs.Accepting.{IsAcceptStatus, IsAnswered}
@@ -15,6 +15,7 @@ not_usage (Run run) can = can
 not_usage (Gen load) can = can
 not_usage (Accept key) can = can
 not_usage (Follow key) can = can
+not_usage (Upgrade key) can = can
 
 -- so words that are refused ask for nothing
 pub usage-unasked : (asked : Option Asked) (status : Status) → CanEndWith (rules_for asked) status → status ≡ statuses.Usage → asked ≡ None

@@ -2,12 +2,13 @@
 use Rattle.std.specs.Prelude.{ℕ, List, Option, None}
 use Rattle.record_hash.specs.ShaDigests.{sha_under}
 use Rattle.program_words.specs.declared.words.Asked.{Asked}
-use Rattle.program_words.specs.declared.words.Asked.TheVariants.{Check, Audit, Run, Gen, Accept, Follow}
+use Rattle.program_words.specs.declared.words.Asked.TheVariants.{Check, Audit, Run, Gen, Accept, Follow, Upgrade}
 use Rattle.report_text.specs.declared.status.Status.{Status}
 use Rattle.report_text.specs.Answer.{Reading, Writing, AnswersTo}
 use Rattle.bundle_frames.specs.Extent.{reading_end}
 use Rattle.bundle_report.specs.Answer.{sha_check_answer}
 use Rattle.bundle_report.specs.Headline.{IsShaSound}
+use Rattle.bundle_upgrade.specs.Answer.{sha_upgrade_answer}
 use Rattle.follower.specs.Answer.{sha_follow_answer}
 use Rattle.fastver_top.specs.Auditing.{sha_audit_answer, ExhibitCollides}
 use Rattle.fastver_top.specs.Running.{Keeping, RunsTo}
@@ -22,9 +23,11 @@ asked_key (Run run) = run.key
 asked_key (Gen load) = load.key
 asked_key (Accept key) = key
 asked_key (Follow key) = key
+asked_key (Upgrade key) = key
 
--- What the program does, by what was asked, where it reads no more than so many bytes: the text and the status that a check,
--- an audit, an acceptance or a follower answers to the source's bytes, how a run serves them as a script, and how a load is served.
+-- What the program does, by what was asked, where it reads no more than so many bytes: the text and the status that a check, an
+-- audit, an acceptance, a follower or an upgrade answers to the source's bytes, how a run serves them as a script, and how a load is
+-- served.
 abbrev pub AnswersFor : Asked → ℕ → Status → Reading → Writing → Keeping → Type 0
 AnswersFor (Check check) most result reading writing keeping =
     AnswersTo (sha_check_answer check.receipts check.key) reading_end most result reading writing
@@ -33,6 +36,7 @@ AnswersFor (Run run) most result reading writing keeping = RunsTo (sha_under run
 AnswersFor (Gen load) most result reading writing keeping = GensTo (sha_under load.key) load result writing keeping
 AnswersFor (Accept key) most result reading writing keeping = AnswersWhole (sha_accept_answer key) most result reading writing
 AnswersFor (Follow key) most result reading writing keeping = AnswersTo (sha_follow_answer key) reading_end most result reading writing
+AnswersFor (Upgrade key) most result reading writing keeping = AnswersTo (sha_upgrade_answer key) reading_end most result reading writing
 
 -- the bundle that it is about: what the source has, and of a run or a load what the vault then holds; an acceptance is about
 -- none
@@ -43,6 +47,7 @@ bundle_for (Run run) left held = held
 bundle_for (Gen load) left held = held
 bundle_for (Accept key) left held = None
 bundle_for (Follow key) left held = left
+bundle_for (Upgrade key) left held = left
 
 -- the headline, under the key that was given
 abbrev pub IsSoundFor : Asked → List ℕ → Type 0

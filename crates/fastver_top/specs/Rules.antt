@@ -2,11 +2,12 @@
 use Rattle.std.specs.Prelude.{◌≡◌, ◌⊎◌, ℕ, Bool, true, false, List, [], ◌∷◌, Option, None, Some}
 use Rattle.program_words.specs.Words.{asked_of}
 use Rattle.program_words.specs.declared.words.Asked.{Asked}
-use Rattle.program_words.specs.declared.words.Asked.TheVariants.{Check, Audit, Run, Gen, Accept, Follow}
+use Rattle.program_words.specs.declared.words.Asked.TheVariants.{Check, Audit, Run, Gen, Accept, Follow, Upgrade}
 use Rattle.report_text.specs.declared.status.Status.{Status}
 use Rattle.report_text.specs.Kinds.{StatusKind, IsOneOf}
 use Rattle.report_text.specs.Kinds as kinds
 use Rattle.check_core.specs.Outcomes.{check_kinds}
+use Rattle.bundle_upgrade.specs.Answer.{unwritten_kinds}
 use Rattle.fastver_top.specs.Auditing.{audit_kinds, unaudited_kinds}
 use Rattle.fastver_top.specs.Running.{run_kinds, before_run_kinds}
 use Rattle.fastver_top.specs.Generating.{gen_kinds}
@@ -42,6 +43,7 @@ rules_of (Run run) = record { reads = whole; uses_vault = true; ends = run_kinds
 rules_of (Gen load) = record { reads = nothing; uses_vault = true; ends = gen_kinds; unwritten = []; unnamed = [] }
 rules_of (Accept key) = record { reads = whole; uses_vault = false; ends = accept_kinds; unwritten = before_answer_kinds; unnamed = [] }
 rules_of (Follow key) = record { reads = in_parts; uses_vault = false; ends = check_kinds; unwritten = []; unnamed = [] }
+rules_of (Upgrade key) = record { reads = whole; uses_vault = false; ends = check_kinds; unwritten = unwritten_kinds; unnamed = [] }
 
 -- the kinds of status where the words ask for nothing
 abbrev pub unasked_kinds : List StatusKind

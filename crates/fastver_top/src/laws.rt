@@ -10,6 +10,7 @@ ghost use Rattle.script_text.specs.Script.{script_of};
 ghost use Rattle.report_text.specs.declared.status.Status.{Status};
 ghost use Rattle.report_text.specs.Answer.{Reading, Writing};
 ghost use Rattle.bundle_report.specs.Answer.{sha_check_answer};
+ghost use Rattle.bundle_upgrade.specs.Answer.{sha_upgrade_answer};
 ghost use Rattle.follower.specs.Answer.{sha_follow_answer};
 ghost use Rattle.fastver_top.specs.Auditing.{sha_audit_answer};
 ghost use Rattle.fastver_top.specs.Running.{Keeping, header_for, settings_for};
@@ -20,8 +21,8 @@ ghost use Rattle.fastver_top.specs.Rules.{CanEndWith, IsStatusOf, rules_for};
 ghost use Rattle.fastver_top.specs.Complete.{Had, IsOrWantsMemory, NoClockEnds, NoneFailed};
 
 /// Where words are accepted, no object failed and the input is within the limit, nothing but want of memory keeps the program
-/// from its answer: by the clauses `asked` and `answers` of `fastver`. A check, an audit, an acceptance and a follower end as the bytes say;
-/// a run of a script in its grammar, and a load, are done in as many epochs as there are phases, if no clock ends.
+/// from its answer: by the clauses `asked` and `answers` of `fastver`. A check, an audit, an acceptance, a follower and an upgrade end as
+/// the bytes say; a run of a script in its grammar, and a load, are done in as many epochs as there are phases, if no clock ends.
 pub fn only_memory_may_be_wanting()
     ensures check { (check : CheckWords) (most : ℕ) (result : Status) (reading : Reading) (writing : Writing) (keeping : Keeping) (bytes : List ℕ)
         → IsStatusOf (Asked.Check check) result → AnswersFor (Asked.Check check) most result reading writing keeping
@@ -49,6 +50,10 @@ pub fn only_memory_may_be_wanting()
         → IsStatusOf (Asked.Follow key) result → AnswersFor (Asked.Follow key) most result reading writing keeping
         → NoneFailed reading writing keeping → Had most bytes reading
         → IsOrWantsMemory result (sha_follow_answer key bytes).status }
+    ensures upgrade { (key : List ℕ) (most : ℕ) (result : Status) (reading : Reading) (writing : Writing) (keeping : Keeping) (bytes : List ℕ)
+        → IsStatusOf (Asked.Upgrade key) result → AnswersFor (Asked.Upgrade key) most result reading writing keeping
+        → NoneFailed reading writing keeping → Had most bytes reading
+        → IsOrWantsMemory result (sha_upgrade_answer key bytes).status }
 {}
 
 /// What the table of rules says of words that ask for nothing, by the clause `asked` of `fastver`: they alone are refused, and for

@@ -5,6 +5,7 @@
 //! `run_script` in `running.rt`: a script is read whole by `scripts.rt`, and `verifier_threads` serves it. `serve_generated`
 //! in `generating.rt` serves a load that is made of a seed in place of a script, and writes its summary. `accept_text` in
 //! `accepting.rt` reads a receipt and a certificate by `receipt_lines`, and says by `receipts` whether the receipt is accepted.
+//! `follower` writes the map of a bundle, and `bundle_upgrade` the bundle in version 3.
 //! The crate stands on these, and on the objects of `fv_outside`. Begin with `fastver`, beside
 //! `specs/Rules.antt`, the table of what each command may do, and `specs/Answers.antt`, what each answers.
 #![tactic(auto)]

@@ -1,9 +1,11 @@
 //! The program as a call: its words, what it reads and what it writes.
 ghost use Rattle.std.specs.Prelude.{◌≡◌, ◌≢◌, ◌^◌, ℕ, List, map, Some, IfSome};
 ghost use Rattle.lane_sha.specs.Hmac.{key_block};
+ghost use Rattle.record_hash.specs.ShaDigests.{sha_under};
 ghost use Rattle.program_words.specs.Words.{asked_of};
 ghost use Rattle.program_words.specs.declared.words.Asked.{Asked};
 ghost use Rattle.fv_outside.specs.Consumed.{TookAtMost};
+ghost use Rattle.bundle_upgrade.specs.Answer.{IsDone, KeepsReport};
 ghost use Rattle.fastver_top.specs.Answers.{AnswersFor, bundle_for, CollidesFor, IsSoundFor};
 ghost use Rattle.fastver_top.specs.Rules.{rules_by, CanEndWith, LeavesSink, LeavesSource, LeavesVault, ReadsWhole};
 
@@ -11,6 +13,7 @@ use crate::accepting::accept_text;
 use crate::auditing::audit_text;
 use crate::generating::serve_generated;
 use crate::running::run_script;
+use bundle_upgrade::upgrade;
 use check_core::check;
 use follower::follow;
 use fv_outside::{Gate, Sink, Source, Vault};
@@ -33,7 +36,8 @@ pub const INPUT_LIMIT: u64 = 1 << 40;
 /// report of that bundle. `fastver gen` with a key, a seed and such numbers makes a script in place of reading one, serves it so,
 /// and writes how often each worker got, put and deleted, in place of the report. `fastver accept --key HEX` reads a receipt and
 /// a certificate, and writes whether the receipt is accepted. `fastver follow --key HEX` reads a bundle and writes the map that
-/// its certified operations make, and the last line of its report. But by a run and by a load the vault is left as it is.
+/// its certified operations make, and the last line of its report. `fastver upgrade --key HEX` reads a bundle and writes it in version 3
+/// of the format, where its report ends with `done`. But by a run and by a load the vault is left as it is.
 #[tactic(auto, using(crate::proofs::AnswerLemmas::left_is_sound))]
 pub fn fastver<R: Threads + Wait + Sync, S: Source, O: Sink, V: Vault, G: Gate + Sync>(
     rt: &R,
@@ -57,7 +61,8 @@ pub fn fastver<R: Threads + Wait + Sync, S: Source, O: Sink, V: Vault, G: Gate +
         → result ≢ Status.InputLimit (2 ^ 40) → TookAtMost (2 ^ 40) (S.left source.old) (S.left source.new) }
 
     // Where they ask for something: what is written, the status, what was taken of the source, and the faults. A check, an
-    // audit and a follower answer to the source's bytes, a run serves them as a script, and a load is served as one, under the key of the words.
+    // audit, a follower and an upgrade answer to the source's bytes, a run serves them as a script, and a load is served as one, under
+    // the key of the words.
     ensures answers { (asked : Asked) → asked_of (map (λ word. word.now) words.now) ≡ Some asked
         → AnswersFor asked (2 ^ 40) result
         (record { left = S.left source.old; left_after = S.left source.new; faults = S.faults source.old; faults_after = S.faults source.new })
@@ -73,6 +78,10 @@ pub fn fastver<R: Threads + Wait + Sync, S: Source, O: Sink, V: Vault, G: Gate +
         → IfSome (bundle_for asked (S.left source.old) (V.held vault.new)) (IsSoundFor asked) }
     ensures collides { (asked : Asked) → asked_of (map (λ word. word.now) words.now) ≡ Some asked → result ≡ Status.Exhibit
         → IfSome (S.left source.old) (CollidesFor asked) }
+
+    // An upgrade that ends with `done` wrote a bundle with the report of the one that it read, with receipts and without.
+    ensures upgrades { (key : List ℕ) → asked_of (map (λ word. word.now) words.now) ≡ Some (Asked.Upgrade key) → IsDone result
+        → IfSome (S.left source.old) (KeepsReport (sha_under key)) }
 {
     match read_words(alloc, words) {
         Ok(Asked::Check(checking)) => {
@@ -93,6 +102,9 @@ pub fn fastver<R: Threads + Wait + Sync, S: Source, O: Sink, V: Vault, G: Gate +
         }
         Ok(Asked::Follow(key)) => {
             follow(rt, alloc, &digests_under(&key), INPUT_LIMIT, source, out)
+        }
+        Ok(Asked::Upgrade(key)) => {
+            upgrade(alloc, &digests_under(&key), INPUT_LIMIT, source, out)
         }
         Err(WordsFault::Usage) => Status::Usage,
         Err(WordsFault::Memory) => Status::Memory,

@@ -11,7 +11,7 @@ use Rattle.program_words.specs.CommandLine.{fastver_app}
 use Rattle.program_words.specs.Words.{check_as, run_as, gen_as, asked_as, asked_by, unless_fault, asked_of, IsInRange}
 use Rattle.program_words.proofs.RangeLemmas.{mapped, then_found, and_then_found, numbers_range, load_range}
 use Rattle.program_words.specs.declared.words.Asked.{Asked}
-use Rattle.program_words.specs.declared.words.Asked.TheVariants.{Audit, Gen, Accept, Follow}
+use Rattle.program_words.specs.declared.words.Asked.TheVariants.{Audit, Gen, Accept, Follow, Upgrade}
 use Rattle.program_words.specs.declared.words.WordsFault.{WordsFault}
 
 run_range : (rows : List Row) (key : List ℕ) (asked : Asked) → run_as rows key ≡ Some asked → IsInRange asked
@@ -27,30 +27,34 @@ gen_range rows key asked is =
     let same : made ≡ asked = (let inside : Some made ≡ Some asked = n.1.1 in cc) in
     subst IsInRange same (load_range rows l.0 l.1.0, numbers_range rows n.0 n.1.0)
 
-as_range : (rows : List Row) (key : List ℕ) (asked : Asked) (check audit run gen accept follow : Bool)
+as_range : (rows : List Row) (key : List ℕ) (asked : Asked) (check audit run gen accept follow upgrade : Bool)
     → (if check then Some (check_as rows key) else if audit then Some (Audit key) else if run then run_as rows key else if gen then gen_as rows key
-    else if accept then Some (Accept key) else if follow then Some (Follow key) else None) ≡ Some asked → IsInRange asked
-as_range rows key asked true audit run gen accept follow is =
+    else if accept then Some (Accept key) else if follow then Some (Follow key) else if upgrade then Some (Upgrade key) else None) ≡ Some asked → IsInRange asked
+as_range rows key asked true audit run gen accept follow upgrade is =
     let same : check_as rows key ≡ asked = cc in
     subst IsInRange same tt
-as_range rows key asked false true run gen accept follow is =
+as_range rows key asked false true run gen accept follow upgrade is =
     let same : Audit key ≡ asked = cc in
     subst IsInRange same tt
-as_range rows key asked false false true gen accept follow is = run_range rows key asked is
-as_range rows key asked false false false true accept follow is = gen_range rows key asked is
-as_range rows key asked false false false false true follow is =
+as_range rows key asked false false true gen accept follow upgrade is = run_range rows key asked is
+as_range rows key asked false false false true accept follow upgrade is = gen_range rows key asked is
+as_range rows key asked false false false false true follow upgrade is =
     let same : Accept key ≡ asked = cc in
     subst IsInRange same tt
-as_range rows key asked false false false false false true is =
+as_range rows key asked false false false false false true upgrade is =
     let same : Follow key ≡ asked = cc in
     subst IsInRange same tt
-as_range rows key asked false false false false false false is = absurd (cc)
+as_range rows key asked false false false false false false true is =
+    let same : Upgrade key ≡ asked = cc in
+    subst IsInRange same tt
+as_range rows key asked false false false false false false false is = absurd (cc)
 
 by_range : (command : Text × List Row) (asked : Asked) → asked_by command ≡ Some asked → IsInRange asked
 by_range command asked is =
     let k = and_then_found (option_and_then key_in (first_of (codes "key") command.1)) (asked_as command.0 command.1) asked is in
     as_range command.1 k.0 asked (bytes_eq command.0 (codes "check")) (bytes_eq command.0 (codes "audit")) (bytes_eq command.0 (codes "run"))
-    (bytes_eq command.0 (codes "gen")) (bytes_eq command.0 (codes "accept")) (bytes_eq command.0 (codes "follow")) k.1.1
+    (bytes_eq command.0 (codes "gen")) (bytes_eq command.0 (codes "accept")) (bytes_eq command.0 (codes "follow"))
+    (bytes_eq command.0 (codes "upgrade")) k.1.1
 
 free : {X : Type 0} (faults : Kinds) (answer : Option X) (x : X) → unless_fault faults answer ≡ Some x → answer ≡ Some x
 free [] answer x is = is

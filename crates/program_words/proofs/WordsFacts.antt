@@ -5,7 +5,7 @@ use Rattle.clap.proofs.OnLiterals.{clap_on_literals}
 use Rattle.hex.proofs.OnLiterals.{hex_on_literals}
 use Rattle.program_words.specs.Numbers.{number_between}
 use Rattle.program_words.specs.Words.{asked_of}
-use Rattle.program_words.specs.declared.words.Asked.TheVariants.{Check, Audit, Run, Gen, Accept, Follow}
+use Rattle.program_words.specs.declared.words.Asked.TheVariants.{Check, Audit, Run, Gen, Accept, Follow, Upgrade}
 use Rattle.program_words.specs.declared.host_words.HostNumbers.{HostNumbers}
 
 abbrev key : List ℕ
@@ -43,7 +43,7 @@ short_key : asked_of (codes "fastver" ∷ codes "check" ∷ codes "--key=0011223
 unfolding clap_on_literals hex_on_literals
 short_key = refl
 
--- ---- receipts, accept and follow
+-- ---- receipts, accept, follow and upgrade
 
 abbrev check_words : List (List ℕ)
 check_words = codes "fastver" ∷ codes "check" ∷ codes "--key=00112233445566778899aabbccddeeff" ∷ []
@@ -68,6 +68,15 @@ accepting = refl
 following : asked_of (codes "fastver" ∷ codes "follow" ∷ codes "--key=00112233445566778899aabbccddeeff" ∷ []) ≡ Some (Follow key)
 unfolding clap_on_literals hex_on_literals
 following = refl
+
+upgrading : asked_of (codes "fastver" ∷ codes "upgrade" ∷ codes "--key=00112233445566778899aabbccddeeff" ∷ []) ≡ Some (Upgrade key)
+unfolding clap_on_literals hex_on_literals
+upgrading = refl
+
+-- which knows no version: it writes the last one
+upgrading_to : asked_of (codes "fastver" ∷ codes "upgrade" ∷ codes "--key=00112233445566778899aabbccddeeff" ∷ codes "--format=3" ∷ []) ≡ None
+unfolding clap_on_literals hex_on_literals
+upgrading_to = refl
 
 -- ---- run
 

@@ -55,12 +55,13 @@ gen_app =
 abbrev pub bare_app : App
 bare_app = on_top (λ s. record s { subcommand_required = true }) (new_app (codes "fastver"))
 
--- the program's command line: `check`, `audit`, `run`, `gen`, `accept` and `follow`
+-- the program's command line: `check`, `audit`, `run`, `gen`, `accept`, `follow` and `upgrade`
 abbrev pub fastver_app : App
 fastver_app =
     let judging = with_subcommand (with_subcommand bare_app check_app.top) (command_with_key (codes "audit")).top in
     let serving = with_subcommand (with_subcommand judging run_app.top) gen_app.top in
-    with_subcommand (with_subcommand serving (command_with_key (codes "accept")).top) (command_with_key (codes "follow")).top
+    let using = with_subcommand (with_subcommand serving (command_with_key (codes "accept")).top) (command_with_key (codes "follow")).top in
+    with_subcommand using (command_with_key (codes "upgrade")).top
 
 -- `new` is `old` with the command that was made, which there is
 abbrev pub AddsMade : {E : Type 0} → Command → Result Command E → Command → Type 0

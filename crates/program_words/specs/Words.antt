@@ -13,7 +13,7 @@ use Rattle.program_words.specs.Numbers.{given}
 use Rattle.program_words.specs.HostWords.{AreHostNumbers, numbers_in}
 use Rattle.program_words.specs.LoadWords.{AreLoadNumbers, load_in}
 use Rattle.program_words.specs.declared.words.Asked.{Asked}
-use Rattle.program_words.specs.declared.words.Asked.TheVariants.{Check, Audit, Run, Gen, Accept, Follow}
+use Rattle.program_words.specs.declared.words.Asked.TheVariants.{Check, Audit, Run, Gen, Accept, Follow, Upgrade}
 
 -- what `check` asks for with this key and with what was found of its flag
 abbrev pub check_as : List Row → List ℕ → Asked
@@ -49,6 +49,7 @@ asked_as name rows key =
     else if bytes_eq name (codes "gen") then gen_as rows key
     else if bytes_eq name (codes "accept") then Some (Accept key)
     else if bytes_eq name (codes "follow") then Some (Follow key)
+    else if bytes_eq name (codes "upgrade") then Some (Upgrade key)
     else None
 
 -- what a command asks for, with what was found of its options
@@ -72,3 +73,4 @@ IsInRange (Run run) = AreHostNumbers run.numbers
 IsInRange (Gen gen) = AreLoadNumbers gen.load × AreHostNumbers gen.numbers
 IsInRange (Accept key) = Unit {0}
 IsInRange (Follow key) = Unit {0}
+IsInRange (Upgrade key) = Unit {0}

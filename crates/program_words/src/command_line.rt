@@ -17,7 +17,8 @@ pub(crate) fn fastver_command<'a>(alloc: Global) -> Result<Command<'a>, AllocErr
     let program = with_command(program, run_command(alloc))?;
     let program = with_command(program, gen_command(alloc))?;
     let program = with_command(program, command_with_key(alloc, "accept"))?;
-    with_command(program, command_with_key(alloc, "follow"))
+    let program = with_command(program, command_with_key(alloc, "follow"))?;
+    with_command(program, command_with_key(alloc, "upgrade"))
 }
 
 // The program with this command, where it could be made. No other command is alive where one is made: each that is would have

@@ -37,6 +37,8 @@ pub enum Asked {
     Accept(Key),
     /// To write the map that the logs certify.
     Follow(Key),
+    /// To write them in version 3 of the format.
+    Upgrade(Key),
 }
 
 /// Why the words gave nothing to do.
@@ -112,6 +114,8 @@ fn asked_as(
         Ok(Some(Asked::Accept(key)))
     } else if name == "follow" {
         Ok(Some(Asked::Follow(key)))
+    } else if name == "upgrade" {
+        Ok(Some(Asked::Upgrade(key)))
     } else {
         Ok(None)
     }

@@ -3,7 +3,7 @@ use Rattle.std.proofs.Common.{◌≡◌, ℕ, ◌<◌, ◌⊎◌, List, Option, 
 use Rattle.std.specs.Prelude.{◌≢◌, ◌^◌, ◌-◌}
 use Rattle.fv_outside.specs.Faults.{Rose}
 use Rattle.program_words.specs.declared.words.Asked.{Asked}
-use Rattle.program_words.specs.declared.words.Asked.TheVariants.{Check, Audit, Run, Gen, Accept, Follow}
+use Rattle.program_words.specs.declared.words.Asked.TheVariants.{Check, Audit, Run, Gen, Accept, Follow, Upgrade}
 use Rattle.report_text.specs.declared.status.Status.{Status}
 use Rattle.report_text.specs.declared.status.Status.TheVariants as statuses
 use Rattle.report_text.specs.Answer.{Reading, Writing}
@@ -24,6 +24,7 @@ read (Run run) most reading writing keeping of answers = answers.read_fault refl
 read (Gen load) most reading writing keeping of answers = absurd of
 read (Accept key) most reading writing keeping of answers = answers.read_fault refl
 read (Follow key) most reading writing keeping of answers = answers.read_fault refl
+read (Upgrade key) most reading writing keeping of answers = answers.read_fault refl
 
 -- a write fault only where the sink's did
 write : (asked : Asked) (most : ℕ) (reading : Reading) (writing : Writing) (keeping : Keeping)
@@ -34,6 +35,7 @@ write (Run run) most reading writing keeping answers = answers.write_fault refl
 write (Gen load) most reading writing keeping answers = answers.write_fault refl
 write (Accept key) most reading writing keeping answers = answers.write_fault refl
 write (Follow key) most reading writing keeping answers = answers.write_fault refl
+write (Upgrade key) most reading writing keeping answers = answers.write_fault refl
 
 -- a vault fault only where the vault's did
 vault : (asked : Asked) (most : ℕ) (reading : Reading) (writing : Writing) (keeping : Keeping)
@@ -44,6 +46,7 @@ vault (Run run) most reading writing keeping of answers = answers.vault_fault re
 vault (Gen load) most reading writing keeping of answers = answers.vault_fault refl
 vault (Accept key) most reading writing keeping of answers = absurd of
 vault (Follow key) most reading writing keeping of answers = absurd of
+vault (Upgrade key) most reading writing keeping of answers = absurd of
 
 module _ (o : Option Asked) (status : Status) (reading : Reading) (writing : Writing) (keeping : Keeping)
     (can : CanEndWith (rules_for o) status)

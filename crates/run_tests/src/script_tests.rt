@@ -210,13 +210,9 @@ fn long_put(rt: &impl Abort, alloc: Global, bytes: usize) -> String {
 }
 
 // A run with these words takes a value of so many bytes, and none that is longer.
-fn assert_longest<R: Threads + Wait + Sync + Abort>(
-    rt: &R,
-    alloc: Global,
-    words: &str,
-    bytes: usize,
-) {
+fn assert_longest<R: Threads + Wait + Sync + Abort>(rt: &R, alloc: Global, words: &str, bytes: u8) {
     let line = line_of(rt, alloc, words);
+    let bytes = usize::from(bytes);
     let longest = long_put(rt, alloc, bytes);
     let (objects, status) = served(rt, alloc, &line, &longest, 10);
     assert_ended(rt, words, bytes, &status, &Status::Done { epochs: 1 });

@@ -26,6 +26,7 @@ fn told(answer: &Result<Asked, WordsFault>) -> (&str, &[u8]) {
         Ok(Asked::Gen(load)) => ("gen", load.key.as_slice()),
         Ok(Asked::Accept(key)) => ("accept", key.as_slice()),
         Ok(Asked::Follow(key)) => ("follow", key.as_slice()),
+        Ok(Asked::Upgrade(key)) => ("upgrade", key.as_slice()),
         Err(WordsFault::Usage) => ("usage", b""),
         Err(WordsFault::Memory) => ("memory", b""),
     }
@@ -55,6 +56,8 @@ fastver accept --key=00112233445566778899AABBCCDDEEFF | accept | 001122334455667
 fastver accept --key 303132333435363738393a3b3c3d3e3f404142434445464748494a4b4c4d4e4f505152535455565758595a5b5c5d5e5f606162636465666768696a6b6c6d6e6f | accept | most
 fastver follow --key 00112233445566778899aabbccddeeff | follow | 00112233445566778899aabbccddeeff
 fastver follow --key=00112233445566778899AABBCCDDEEFF | follow | 00112233445566778899aabbccddeeff
+fastver upgrade --key 00112233445566778899aabbccddeeff | upgrade | 00112233445566778899aabbccddeeff
+fastver upgrade --key=00112233445566778899AABBCCDDEEFF | upgrade | 00112233445566778899aabbccddeeff
 ";
 
 const MOST_BYTES: &str = "0123456789:;<=>?@ABCDEFGHIJKLMNOPQRSTUVWXYZ[\\]^_`abcdefghijklmno";
@@ -121,6 +124,9 @@ fastver accept --key 00112233445566778899aabbccddeeff --seed 0 | an option of a 
 fastver follow | no key to follow under
 fastver follow --key 00112233445566778899aabbccddeeff --receipts | receipts of a follower
 fastver follow --key 00112233445566778899aabbccddeeff --shards 2 | an option of a run for a follower
+fastver upgrade | no key to upgrade under
+fastver upgrade --key 00112233445566778899aabbccddeeff --receipts | receipts of an upgrade
+fastver upgrade --key 00112233445566778899aabbccddeeff --format 3 | a version for an upgrade
 fastver Accept --key 00112233445566778899aabbccddeeff | a capital letter
 check --key 00112233445566778899aabbccddeeff | no name
 fastver check --key 00112233445566778899aabbccddeeff --shards 2 | an option of a run

@@ -2,7 +2,6 @@
 use crate::running::{
     Way, assert_ends, assert_read_faults, assert_stops, bytes_of, cases_in, failing, run, same,
 };
-use bundle_rows::Case;
 use fastver_top::Status;
 use std::alloc::Global;
 use std::process::Abort;
@@ -162,36 +161,40 @@ fn assert_filled<R: Threads + Wait + Sync + Abort>(
 fn assert_suffices<R: Threads + Wait + Sync + Abort>(
     rt: &R,
     alloc: Global,
-    case: &Case<'_>,
+    words: &str,
     bytes: &[u8],
+    whole: &[u8],
+    number: u8,
 ) {
-    let report = case.report.as_bytes();
-    let ended = run(rt, alloc, case.label, bytes, cramped(report.len()));
-    assert_ends(rt, case.label, report.len(), &ended, report, case.status);
+    let ended = run(rt, alloc, words, bytes, cramped(whole.len()));
+    assert_ends(rt, words, whole.len(), &ended, whole, number);
 }
 
-// A front of the case's report stands where its objects fail or are too small.
-fn assert_fronts<R: Threads + Wait + Sync + Abort>(
+/// Behind these words the whole is written of the bytes, with a status of this number; and a front of it stands where the objects
+/// fail or are too small.
+pub(crate) fn assert_fronts<R: Threads + Wait + Sync + Abort>(
     rt: &R,
     alloc: Global,
-    case: &Case<'_>,
+    words: &str,
     bytes: &[u8],
+    whole: &[u8],
+    number: u8,
 ) {
     for k in 0..bytes.len() {
-        assert_read_fails(rt, alloc, case.label, bytes, k);
+        assert_read_fails(rt, alloc, words, bytes, k);
     }
-    let report = case.report.as_bytes();
-    for k in 0..report.len() {
-        assert_write_fails(rt, alloc, case.label, bytes, &report[..k]);
-        assert_filled(rt, alloc, case.label, bytes, &report[..k]);
+    for k in 0..whole.len() {
+        assert_write_fails(rt, alloc, words, bytes, &whole[..k]);
+        assert_filled(rt, alloc, words, bytes, &whole[..k]);
     }
-    assert_suffices(rt, alloc, case, bytes);
+    assert_suffices(rt, alloc, words, bytes, whole, number);
 }
 
 #[test]
 fn a_front_of_each_answer_stands(rt: HostRuntime) {
     for case in &cases_in(&rt, rt.alloc(), ANSWERS, 10) {
         let bytes = bytes_of(&rt, rt.alloc(), case);
-        assert_fronts(&rt, rt.alloc(), case, &bytes);
+        let (words, report) = (case.label, case.report.as_bytes());
+        assert_fronts(&rt, rt.alloc(), words, &bytes, report, case.status);
     }
 }

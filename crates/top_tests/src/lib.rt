@@ -1,5 +1,5 @@
-//! Tests of the top layer, over its public calls: `fastver` and `audit_text` of `fastver_top`, `check` of `check_core`
-//! and `audit` of `collision_exhibit`.
+//! Tests of the top layer, over its public calls: `fastver` and `audit_text` of `fastver_top`, `check` of `check_core`, `upgrade` of
+//! `bundle_upgrade` and `audit` of `collision_exhibit`.
 //!
 //! Bundles are rows, which `bundle_rows` reads, in tables of cases with their reports. What each must come to was
 //! worked out by hand, or found by the slow program. `lying_log_tests.rt` has one log for each way in which a host
@@ -7,8 +7,9 @@
 //! `framed.rt`; `bundle_tests.rt` and `tree_tests.rt` have other bundles, and `version_tests.rt` those whose
 //! commands name slots; these are checked, and what isn't done is audited too. Under digests that collide at will `audit_tests.rt` has audits, `exhibit_tests.rt` what is
 //! exhibited of a log, and `collision_tests.rt` checks that certify what is not serial. In `object_tests.rt` bundles
-//! are cut, and no more is read than the limit; in `fault_tests.rt` reads and writes fail one by one. `word_tests.rt`
-//! has the program's words. Begin with `running.rt`, which runs a bundle.
+//! are cut, and no more is read than the limit; in `fault_tests.rt` reads and writes fail one by one. `upgrade_tests.rt` has bundles of
+//! all versions beside what is written of each in version 3. `word_tests.rt` has the program's words. Begin with `running.rt`, which
+//! runs a bundle.
 #![tactic(auto)]
 
 #[cfg(test)]
@@ -31,6 +32,8 @@ mod object_tests;
 mod running;
 #[cfg(test)]
 mod tree_tests;
+#[cfg(test)]
+mod upgrade_tests;
 #[cfg(test)]
 mod version_tests;
 #[cfg(test)]

@@ -91,8 +91,8 @@ fn words_of<'a>(rt: &impl Abort, alloc: Global, line: &'a str) -> Vec<&'a str> {
     words
 }
 
-/// What is there behind the program with the words of a line, over these bytes. No check, no audit and no follower touches its vault, and
-/// no refusal.
+/// What is there behind the program with the words of a line, over these bytes. No check, no audit, no follower and no upgrade touches its
+/// vault, and no refusal.
 pub(crate) fn ask<R: Threads + Wait + Sync + Abort>(
     rt: &R,
     alloc: Global,

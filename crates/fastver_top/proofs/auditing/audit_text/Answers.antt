@@ -2,11 +2,12 @@ use Rattle.std.proofs.Common.{Ok, Err, is_ok, true≢false, ap, subst, sym, ◌�
 use Rattle.bundle_frames.specs.Extent.{reading_end}
 use Rattle.report_text.specs.declared.status.Status.{Status}
 use Rattle.report_text.specs.Answer.{Reading, Writing, AnswersTo}
-use Rattle.fastver_top.specs.Auditing.{audit_answer}
+use Rattle.fastver_top.specs.Auditing.{audit_end_status, audit_answer_by, audit_answer}
 use Rattle.bundle_report.specs.Logged.{logged_of}
 use Rattle.check_core.specs.Intake.{logged}
 use Rattle.bundle_report.proofs.HeadlineLaws.{headline}
-use Rattle.fastver_top.proofs.AuditLemmas.{shown_collides, shown_left, status_shown, audit_ends, audit_stops}
+use Rattle.check_core.proofs.WholeReadLaws.{whole_read-ends, whole_read-stops}
+use Rattle.fastver_top.proofs.AuditLemmas.{shown_collides, shown_left, status_shown, audit_is_end}
 use Rattle.fastver_top.proofs.auditing.audit_text.Goals as goal
 
 pub returns-in-Ok-audit_intake-clause-collides : goal.returns-in-Ok-audit_intake-clause-collides
@@ -37,8 +38,8 @@ returns-in-Ok-audit_intake-clause-answers g c =
       faults_after = g.O.Sink.faults c.audit_intake.new.out;
     } in
     subst (λ (status : Status). AnswersTo (audit_answer functions) reading_end c.args.limit status read wrote) (sym c.status.ensures.value)
-    (audit_ends functions c.args.limit read wrote (logged c.in-Ok.intake) c.in-Ok.ensures.bundle (c.in-Ok.ensures.within (λ is. true≢false (ap is_ok is)))
-    c.in-Ok.ensures.stops c.in-Ok-audit_intake.end c.in-Ok.ensures.reached c.in-Ok-audit_intake.ensures.ends)
+    (whole_read-ends (audit_answer_by functions) c.args.limit read wrote (logged c.in-Ok.intake) c.in-Ok.ensures.bundle (c.in-Ok.ensures.within (λ is. true≢false (ap is_ok is)))
+    c.in-Ok.ensures.stops audit_end_status c.in-Ok-audit_intake.end (audit_is_end c.in-Ok-audit_intake.end) c.in-Ok.ensures.reached c.in-Ok-audit_intake.ensures.ends)
 
 pub returns-in-Ok-clause-answers : goal.returns-in-Ok-clause-answers
 returns-in-Ok-clause-answers g c =
@@ -56,7 +57,7 @@ returns-in-Ok-clause-answers g c =
       faults_after = g.O.Sink.faults c.audit_intake.new.out;
     } in
     subst (λ (status : Status). AnswersTo (audit_answer functions) reading_end c.args.limit status read wrote) (sym c.of_failure.ensures.value)
-    (audit_stops functions c.args.limit read wrote (logged c.in-Ok.intake) c.in-Ok.ensures.bundle (c.in-Ok.ensures.within (λ is. true≢false (ap is_ok is)))
-    c.in-Ok.ensures.stops c.in-Err-audit_intake.failure c.in-Err-audit_intake.ensures.ends
+    (whole_read-stops (audit_answer_by functions) c.args.limit read wrote (logged c.in-Ok.intake) c.in-Ok.ensures.bundle (c.in-Ok.ensures.within (λ is. true≢false (ap is_ok is)))
+    c.in-Ok.ensures.stops audit_end_status c.in-Err-audit_intake.failure c.in-Err-audit_intake.ensures.ends
     (λ is. ap g.O.Sink.held (c.in-Err-audit_intake.ensures.unwritten (ap Err is)))
     (λ is. c.in-Err-audit_intake.ensures.write_fault (ap Err is)))

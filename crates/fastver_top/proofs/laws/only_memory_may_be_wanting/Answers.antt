@@ -1,5 +1,6 @@
 use Rattle.record_hash.specs.ShaDigests.{sha_under}
 use Rattle.bundle_report.specs.Answer.{sha_check_answer}
+use Rattle.bundle_upgrade.specs.Answer.{sha_upgrade_answer}
 use Rattle.follower.specs.Answer.{sha_follow_answer}
 use Rattle.fastver_top.specs.Auditing.{sha_audit_answer}
 use Rattle.fastver_top.specs.Accepting.{sha_accept_answer}
@@ -20,4 +21,6 @@ returns c = record {
       accept-answered most bytes reading writing keeping fine had (sha_accept_answer key) result can answers;
   follow = λ key most result reading writing keeping bytes can answers fine had.
       check-answered most bytes reading writing keeping fine had (sha_follow_answer key) result can answers;
+  upgrade = λ key most result reading writing keeping bytes can answers fine had.
+      check-answered most bytes reading writing keeping fine had (sha_upgrade_answer key) result can answers;
 }

@@ -1,17 +1,18 @@
-use Rattle.std.proofs.Common.{◌^◌, ℕ, List, subst}
-use Rattle.record_hash.specs.ShaDigests.{sha_functions}
+use Rattle.std.proofs.Common.{◌^◌, ℕ, List, IfSome, ap, subst}
+use Rattle.record_hash.specs.ShaDigests.{sha_functions, sha_under}
 use Rattle.program_words.specs.declared.words.Asked.{Asked}
-use Rattle.program_words.specs.declared.words.Asked.TheVariants.{Check, Audit, Run, Gen, Accept, Follow}
+use Rattle.program_words.specs.declared.words.Asked.TheVariants.{Check, Audit, Run, Gen, Accept, Follow, Upgrade}
 use Rattle.bundle_frames.specs.Extent.{reading_end}
 use Rattle.report_text.specs.Answer.{Reading, Writing, AnswersTo}
 use Rattle.bundle_report.specs.Answer.{check_answer}
+use Rattle.bundle_upgrade.specs.Answer.{upgrade_answer, KeepsReport}
 use Rattle.follower.specs.Answer.{follow_answer}
 use Rattle.fastver_top.specs.Auditing.{audit_answer}
-use Rattle.fastver_top.specs.Answers.{AnswersFor}
+use Rattle.fastver_top.specs.Answers.{AnswersFor, asked_key}
 use Rattle.fastver_top.specs.Running.{Keeping, RunsTo}
 use Rattle.fastver_top.specs.Generating.{GensTo}
 use Rattle.fastver_top.specs.Accepting.{accept_answer, AnswersWhole}
-use Rattle.fastver_top.proofs.AnswerLemmas.{answers-nothing, asked_is}
+use Rattle.fastver_top.proofs.AnswerLemmas.{answers-nothing, asked_is, upgrade_alone}
 use Rattle.fastver_top.proofs.top.fastver.Goals as goal
 
 -- ---- the answer
@@ -180,6 +181,67 @@ returns-in-Ok-Follow-clause-answers g c = λ asked known.
     (subst (λ (block : List ℕ). AnswersTo (follow_answer (sha_functions block)) reading_end (2 ^ 40) c.follow.result read wrote)
     c.digests_under-in-Ok-Follow.ensures.value c.follow.ensures.answers)
 
+pub returns-in-Ok-Upgrade-clause-answers : goal.returns-in-Ok-Upgrade-clause-answers
+returns-in-Ok-Upgrade-clause-answers g c = λ asked known.
+    let read : Reading = record {
+      left = g.S.Source.left c.args.source.now;
+      left_after = g.S.Source.left c.upgrade.new.source;
+      faults = g.S.Source.faults c.args.source.now;
+      faults_after = g.S.Source.faults c.upgrade.new.source;
+    } in
+    let wrote : Writing = record {
+      held = g.O.Sink.held c.args.out.now;
+      held_after = g.O.Sink.held c.upgrade.new.out;
+      faults = g.O.Sink.faults c.args.out.now;
+      faults_after = g.O.Sink.faults c.upgrade.new.out;
+    } in
+    let kept : Keeping = record {
+      held = g.V.Sink.held c.args.vault.now;
+      held_after = g.V.Sink.held c.args.vault.now;
+      name = g.V.Sink.name c.args.vault.now;
+      name_after = g.V.Sink.name c.args.vault.now;
+      faults = g.V.Sink.faults c.args.vault.now;
+      faults_after = g.V.Sink.faults c.args.vault.now;
+    } in
+    let own = asked_is _ asked (Upgrade c.in-Ok-Upgrade.key) c.in-Ok-Upgrade.field-0 known c.in-Ok-Upgrade.ensures.asked c.in-Ok-Upgrade.field-0-is in
+    subst (λ (a : Asked). AnswersFor a (2 ^ 40) c.upgrade.result read wrote kept) own
+    (subst (λ (block : List ℕ). AnswersTo (upgrade_answer (sha_functions block)) reading_end (2 ^ 40) c.upgrade.result read wrote)
+    c.digests_under-in-Ok-Upgrade.ensures.value c.upgrade.ensures.answers)
+
 pub returns-in-Err-Memory-clause-answers : goal.returns-in-Err-Memory-clause-answers
 returns-in-Err-Memory-clause-answers g c = λ asked known.
     answers-nothing asked (2 ^ 40) (g.S.Source.left c.args.source.now) (g.O.Sink.held c.args.out.now) (g.V.Sink.held c.args.vault.now) (g.V.Sink.name c.args.vault.now) _ _ _ _ _ _
+
+-- ---- the report of an upgrade
+
+pub returns-in-Ok-Check-clause-upgrades : goal.returns-in-Ok-Check-clause-upgrades
+returns-in-Ok-Check-clause-upgrades g c = λ key known ended.
+    absurd (upgrade_alone _ key (Check c.in-Ok-Check.checking) c.in-Ok-Check.field-0 known c.in-Ok-Check.ensures.asked c.in-Ok-Check.field-0-is)
+
+pub returns-in-Ok-Audit-clause-upgrades : goal.returns-in-Ok-Audit-clause-upgrades
+returns-in-Ok-Audit-clause-upgrades g c = λ key known ended.
+    absurd (upgrade_alone _ key (Audit c.in-Ok-Audit.key) c.in-Ok-Audit.field-0 known c.in-Ok-Audit.ensures.asked c.in-Ok-Audit.field-0-is)
+
+pub returns-in-Ok-Run-clause-upgrades : goal.returns-in-Ok-Run-clause-upgrades
+returns-in-Ok-Run-clause-upgrades g c = λ key known ended.
+    absurd (upgrade_alone _ key (Run c.in-Ok-Run.run') c.in-Ok-Run.field-0 known c.in-Ok-Run.ensures.asked c.in-Ok-Run.field-0-is)
+
+pub returns-in-Ok-Gen-clause-upgrades : goal.returns-in-Ok-Gen-clause-upgrades
+returns-in-Ok-Gen-clause-upgrades g c = λ key known ended.
+    absurd (upgrade_alone _ key (Gen c.in-Ok-Gen.load) c.in-Ok-Gen.field-0 known c.in-Ok-Gen.ensures.asked c.in-Ok-Gen.field-0-is)
+
+pub returns-in-Ok-Accept-clause-upgrades : goal.returns-in-Ok-Accept-clause-upgrades
+returns-in-Ok-Accept-clause-upgrades g c = λ key known ended.
+    absurd (upgrade_alone _ key (Accept c.in-Ok-Accept.key) c.in-Ok-Accept.field-0 known c.in-Ok-Accept.ensures.asked c.in-Ok-Accept.field-0-is)
+
+pub returns-in-Ok-Follow-clause-upgrades : goal.returns-in-Ok-Follow-clause-upgrades
+returns-in-Ok-Follow-clause-upgrades g c = λ key known ended.
+    absurd (upgrade_alone _ key (Follow c.in-Ok-Follow.key) c.in-Ok-Follow.field-0 known c.in-Ok-Follow.ensures.asked c.in-Ok-Follow.field-0-is)
+
+pub returns-in-Ok-Upgrade-clause-upgrades : goal.returns-in-Ok-Upgrade-clause-upgrades
+returns-in-Ok-Upgrade-clause-upgrades g c = λ key known ended.
+    let left = g.S.Source.left c.args.source.now in
+    let own = asked_is _ (Upgrade key) (Upgrade c.in-Ok-Upgrade.key) c.in-Ok-Upgrade.field-0 known c.in-Ok-Upgrade.ensures.asked c.in-Ok-Upgrade.field-0-is in
+    subst (λ (k : List ℕ). IfSome left (KeepsReport (sha_under k))) (ap asked_key own)
+    (subst (λ (block : List ℕ). IfSome left (KeepsReport (sha_functions block))) c.digests_under-in-Ok-Upgrade.ensures.value
+    (c.upgrade.ensures.report ended))

@@ -15,7 +15,9 @@ returns c =
     let load = added c.gen_command.result _ _ _ gen_app c.in_ok-program-4.ensures.adds c.gen_command.ensures.local c.gen_command.ensures.app run in
     let accept = added c.command_with_key-2.result _ _ _ (command_with_key (codes "accept")) c.in_ok-program-5.ensures.adds c.command_with_key-2.ensures.local
     c.command_with_key-2.ensures.app load in
+    let follow = added c.command_with_key-3.result _ _ _ (command_with_key (codes "follow")) c.in_ok-program-6.ensures.adds c.command_with_key-3.ensures.local
+    c.command_with_key-3.ensures.app accept in
     record {
-      app = added_if_ok c.with_command-6.result c.command_with_key-3.result _ _ (command_with_key (codes "follow")) c.with_command-6.ensures.adds
-          c.command_with_key-3.ensures.local c.command_with_key-3.ensures.app accept;
+      app = added_if_ok c.with_command-7.result c.command_with_key-4.result _ _ (command_with_key (codes "upgrade")) c.with_command-7.ensures.adds
+          c.command_with_key-4.ensures.local c.command_with_key-4.ensures.app follow;
     }
