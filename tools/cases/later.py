@@ -8,7 +8,6 @@ from tools.slow.bundles import magic_of
 from tools.slow.known import without
 
 LATER = [
-    "upgrade",
     *("FVB4", "--clients", "sign"),
     *("--seal", "resume"),
     "--rolling",

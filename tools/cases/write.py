@@ -5,10 +5,10 @@ usage: tools/run cases.write FOLDER SEED COUNT..
 There are so many bundles of version 1, so many of version 2 and so on. Each is one that player.py plays, in which very few
 commands are refused, and some bundles are cut, have a byte changed or the magic of another version. Every second one has 2 to 4
 verifiers, between which records move under stamps. The first two of version 1 are longer than what a program reads at a time.
-Every third bundle is also audited. For each bundle of version 1, and for each third one of a later version, there is a script,
-once the program has what it asks for: of one worker, of several where the program takes that many, each with shards of its own,
-and of hot records where there are any. A few cases more are of words, most of them refused, one of them no text. It says how
-many cases it wrote, and fails where that is none.
+Every third bundle is also audited, and every third followed and upgraded. For each bundle of version 1, and for each third one of
+a later version, there is a script, once the program has what it asks for: of one worker, of several where the program takes that
+many, each with shards of its own, and of hot records where there are any. A few cases more are of words, most of them refused, one
+of them no text. It says how many cases it wrote, and fails where that is none.
 """
 import os
 import random
@@ -107,8 +107,9 @@ def write_version(folder, chance, count, version):
         write_case(folder, f"check-{name}", ["check", "--key", key] + receipts(number), bundle)
         if number % 3 == 1:
             write_case(folder, f"audit-{name}", ["audit", "--key", key], bundle)
-        if number % 3 == 0 and "follow" not in LATER:
-            write_case(folder, f"follow-{name}", ["follow", "--key", key], bundle)
+        if number % 3 == 0:
+            for command in {"follow", "upgrade"} - set(LATER):
+                write_case(folder, f"{command}-{name}", [command, "--key", key], bundle)
         if has_script(number, version):
             write_script(folder, chance, name, number, version)
     return count, sum(has_script(number, version) for number in range(count))

@@ -107,7 +107,7 @@ def evidence(epoch=0, flipped=0):
 
 
 def reader_rows():
-    """Checks, audits, follows and acceptances."""
+    """Checks, audits, follows, upgrades and acceptances."""
     with open(BUNDLE, "rb") as file:
         bundle = file.read()
     hot = run_row("", TOGETHER, "--hot", "2", workers=2)
@@ -126,6 +126,10 @@ def reader_rows():
         Row("follow", ["follow", *KEY], bundle),
         Row("follow of two workers", ["follow", *KEY], vault),
         Row("follow of what is unbalanced", ["follow", *KEY], unbalanced()),
+        Row("upgrade", ["upgrade", *KEY], bundle),
+        Row("upgrade of two workers", ["upgrade", *KEY], vault),
+        Row("upgrade of two workers, slots", ["upgrade", *KEY], by_slots),
+        Row("upgrade of what is unbalanced", ["upgrade", *KEY], unbalanced()),
         Row("accept", ["accept", *KEY], evidence()),
         Row("accept, not tagged", ["accept", *KEY], evidence(flipped=1)),
         Row("accept, not certified", ["accept", *KEY], evidence(epoch=1)),

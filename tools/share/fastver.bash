@@ -5,7 +5,7 @@ _fastver() {
   local word=${COMP_WORDS[COMP_CWORD]} options
   COMPREPLY=()
   if [ "$COMP_CWORD" -eq 1 ]; then
-    mapfile -t COMPREPLY < <(compgen -W 'check audit run gen accept follow help --help --version' -- "$word")
+    mapfile -t COMPREPLY < <(compgen -W 'check audit run gen accept follow upgrade help --help --version' -- "$word")
     return
   fi
   case ${COMP_WORDS[COMP_CWORD - 1]} in
@@ -23,6 +23,7 @@ _fastver() {
     gen) options='--key --seed --ops --verifiers --shards --keys --every --hot --logs --first --counter' ;;
     accept) options='--key' ;;
     follow) options='--key' ;;
+    upgrade) options='--key' ;;
     *) options= ;;
   esac
   mapfile -t COMPREPLY < <(compgen -W "$options" -- "$word")
