@@ -7,7 +7,8 @@ bench/versions.py makes them in versions 1 and 2. PROGRAM makes version 3 of it,
 checked and upgraded in turn, TURNS times, 5 where none is named, and the least processor time of each counts.
 
 A line has the nanoseconds of a command by processor time: of checks of versions 1, 2 and 3, and of upgrades of versions 1 and 2; then
-the check of version 3 by that of version 2, and the upgrades by the checks of the same bundles. Then `run` serves a script of 50,000
+the check of version 3 by that of version 2, and the upgrades by the checks of the same bundles, by processor time and by wall time: a
+check runs its verifiers' logs side by side, an upgrade one after another. Then `run` serves a script of 50,000
 requests of one worker at 1,000 keys in format 3 with keys of 64 and of 128 bits, and its vaults are checked: nanoseconds a byte of
 each, and the second by the first. The last lines say which ratios are allowed; it fails where one is more.
 
@@ -44,8 +45,9 @@ def measure(program, turns, base):
     for path in (old, new):
         upgraded(program, path, last)
     runs = [([program, "check", *KEY], path) for path in (old, new, last)] + [([program, "upgrade", *KEY], path) for path in (old, new)]
-    taken, commands = [it.processor for it in least(runs, turns)], versions.commands_in(base)
-    ratios = taken[2] / taken[1], taken[3] / taken[0], taken[4] / taken[1]
+    both, commands = least(runs, turns), versions.commands_in(base)
+    taken, walls = [it.processor for it in both], [it.wall for it in both]
+    ratios = taken[2] / taken[1], taken[3] / taken[0], taken[4] / taken[1], walls[3] / walls[0], walls[4] / walls[1]
     times = " ".join(f"{1e9 * it / commands:8.0f}" for it in taken)
     print(f"{os.path.basename(base):28} {times} {' '.join(f'{it:7.2f}' for it in ratios)}", flush=True)
     return ratios[0], max(ratios[1:])
@@ -70,7 +72,7 @@ def main():
     folder, program = sys.argv[1], os.path.abspath(sys.argv[2] if len(sys.argv) > 2 else PROGRAM)
     size, turns = (int(word) for word in sys.argv[3:5] + [SIZE, TURNS][len(sys.argv[3:5]) :])
     os.makedirs(folder, exist_ok=True)
-    print("log                           check 1        2        3 upgrade 1     2  3 by 2  upgrades by checks")
+    print("log                           check 1        2        3 upgrade 1     2  3 by 2  upgrades by checks, and by wall time")
     found = [measure(program, turns, versions.whole(folder, mix, verifiers, size)) for mix, verifiers in versions.WHOLE]
     ratios = [max(it[0] for it in found), measure_widths(program, turns, folder), max(it[1] for it in found)]
     allowed = (MOST_OF_VERSION_2, MOST_OF_A_BYTE, MOST_OF_A_CHECK)
