@@ -2,7 +2,7 @@
 
 usage: tools/run bench.feeds FOLDER [PROGRAM [REQUESTS]]    (FOLDER lies outside the repository, and gets up to 1 GB)
 
-`gen` serves REQUESTS requests of 1,000 keys in 16 shards, plainly (`cold`) and with `--hot 2` (`hot`), by epochs of 1,000, 10,000
+`gen` serves REQUESTS requests of 1,000 keys in all in 16 shards, plainly (`cold`) and with `--hot 2` (`hot`), by epochs of 1,000, 10,000
 and 100,000 requests; `apart` is a `run` of a script in which no two workers ask for keys of one shard, by epochs of 10,000. All
 numbers of workers are run in turn, three times, and the best wall time of each counts, so that they had the same machine. Behind
 it comes what a check of the vault takes on one processor, as a part of the run's time: what verifying takes of it, which is more
@@ -34,7 +34,8 @@ def words_of(folder, name, hot, every, workers, requests, vault):
     host = [*KEY, "--verifiers", str(workers), "--shards", str(SHARDS), *hot, "--logs", vault]
     if name.startswith("run"):
         return ["run", *host], script_of(folder, "apart", workers, requests)
-    load = ["--seed", str(SEED), "--ops", str(requests), "--keys", str(KEYS), "--every", str(every)]
+    # a load has so many keys of each worker
+    load = ["--seed", str(SEED), "--ops", str(requests), "--keys", str(KEYS // workers), "--every", str(every)]
     return ["gen", *load, *host], os.devnull
 
 

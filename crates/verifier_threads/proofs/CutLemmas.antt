@@ -1,5 +1,5 @@
 -- Where a run stops: the vault took a front of the bundle of its logs, and the sink a front of the lines that this certifies.
-use Rattle.std.proofs.Common.{◌≡◌, ◌⊎◌, Bool, false, ℕ, zero, suc, ◌+◌, ◌*◌, ◌<◌, ◌≤◌, List, [], ◌∷◌, ◌++◌, length, map, take, Option, None, inl, inr, refl, sym, ◌∙◌, ap, subst, append_assoc, append-nil, arith}
+use Rattle.std.proofs.Common.{◌≡◌, ◌⊎◌, Bool, ℕ, zero, suc, ◌+◌, ◌*◌, ◌<◌, ◌≤◌, List, [], ◌∷◌, ◌++◌, length, map, take, Option, None, inl, inr, refl, sym, ◌∙◌, ap, subst, append_assoc, append-nil, arith}
 use Rattle.std.proofs.lemmas.Bool.{cases_lt}
 use Rattle.fv_outside.specs.Written.{GrowsByFront}
 use Rattle.fv_outside.proofs.WrittenLaws.{Grows-then, GrowsByFront-more, GrowsByFront-none}
@@ -9,7 +9,7 @@ use Rattle.lamport_clocks.specs.declared.header.Header.{Header}
 use Rattle.lamport_clocks.specs.Header.{IsHeader}
 use Rattle.bundle_frames.specs.Bundle.{header_text}
 use Rattle.bundle_report.specs.Logs.{empty_logs}
-use Rattle.bundle_report.specs.Report.{told_by}
+use Rattle.bundle_report.specs.Report.{EpochText, told_by}
 use Rattle.bundle_report.specs.Answer.{check_answer}
 use Rattle.slot_rewriting.specs.Writing.{written_logs}
 use Rattle.host_core.specs.Host.{Host}
@@ -26,15 +26,14 @@ use Rattle.host_serving.proofs.LeadingLaws.{leads-none}
 use Rattle.host_serving.proofs.FormLaws.{run-none}
 use Rattle.host_rounds.specs.Round.{logs_with, round_text}
 use Rattle.host_rounds.specs.Bundle.{IsBundle, HasBundle}
-use Rattle.host_rounds.specs.SoFar.{RunsSoFar, lines_due}
+use Rattle.host_rounds.specs.SoFar.{RunsSoFar, HaveRun, lines_counted, lines_due}
 use Rattle.host_rounds.proofs.RoundLaws.{counted-front, logs_with-none}
 use Rattle.verifier_threads.specs.declared.accounts.Account.{Account}
 use Rattle.verifier_threads.specs.declared.accounts.Account.TheVariants as accounts
-use Rattle.verifier_threads.specs.declared.loads.Load.{Load}
 use Rattle.verifier_threads.specs.declared.world_run.WorldRun.{WorldRun}
 use Rattle.verifier_threads.specs.InRounds.{Logs, logged_with, no_logs}
-use Rattle.verifier_threads.specs.Serving.{Outputs, AreOfRunSoFar, HasFrontOfLines, HasToldLines, IsCutOff, IsCutInRound}
-use Rattle.verifier_threads.specs.Running.{IsRunning, Runs}
+use Rattle.verifier_threads.specs.Serving.{Outputs, GrowsFor, AreOfRunSoFar, HasFrontOfLines, HasTold, IsCutOff, IsCutInRound, told_for}
+use Rattle.verifier_threads.specs.Running.{GrowsByFrontFor, IsRunning, Runs}
 use Rattle.verifier_threads.proofs.RoundLemmas.{texts-more}
 use Rattle.verifier_threads.proofs.HandingLemmas.{logged_with-texts, logs-behind, texts-length}
 use Rattle.verifier_threads.proofs.RunningLemmas.{running-workers}
@@ -138,33 +137,31 @@ module _ (opened : HeadersAreBundles) (follow : RoundsFollow) (functions : Diges
         out = none-of_lines account functions front.front vault vault_after out;
       }
 
--- a run whose lines went elsewhere, and which was cut off as one with a report, was so before its summary
-pub cut-as : (load : Load) (functions : DigestFunctions) (settings : Settings) (script : List (List Task)) (outputs : Outputs) (before after : Option (List ℕ))
-    → outputs.out_after ≡ outputs.out → IsCutOff (accounts.Report false) functions settings script (record outputs { out = before; out_after = after })
-    → IsCutOff (accounts.Summary load) functions settings script outputs
-cut-as load functions settings script outputs before after unwritten cut =
-    record { rounds = cut.rounds; logs = cut.logs; run = cut.run; vault = cut.vault; out = unwritten }
+-- ---- what is told before the end
 
-pub cut_round-as : (load : Load) (functions : DigestFunctions) (settings : Settings) (script : List (List Task)) (outputs : Outputs) (before after : Option (List ℕ))
-    → outputs.out_after ≡ outputs.out → IsCutInRound (accounts.Report false) functions settings script (record outputs { out = before; out_after = after })
-    → IsCutInRound (accounts.Summary load) functions settings script outputs
-cut_round-as load functions settings script outputs before after unwritten cut = record {
-  past = cut.past;
-  round = cut.round;
-  logs = cut.logs;
-  run = cut.run;
-  held = cut.held;
-  whole = cut.whole;
-  front = cut.front;
-  closes = cut.closes;
-  count = cut.count;
-  told = unwritten;
-}
+-- what was told of the epochs that are counted is a front of what is due
+counted-due : (account : Account) (tell : EpochText) (functions : DigestFunctions) (header : Header) (logs : List (List ℕ)) (rounds : RunsSoFar) (before after : Option (List ℕ))
+    → HaveRun functions header logs rounds → GrowsFor account before after (lines_counted tell functions header logs rounds)
+    → GrowsByFrontFor account before after (lines_due tell functions header logs)
+counted-due (accounts.Report receipts) tell functions header logs rounds before after have written =
+    subst (λ (all : List (List ℕ)). GrowsByFront before after (lines_due tell functions header all)) (logs_with-none logs)
+    (counted-front tell functions header logs rounds have [] before after written)
+counted-due (accounts.Summary load) tell functions header logs rounds before after have written = written
+
+-- a front of that is one of the lines that the bundle's bytes certify, whatever follows them
+front-of_lines : StaysDue → (account : Account) (functions : DigestFunctions) (header : Header) (logs : List (List ℕ)) (rounds : List (List (List ℕ))) (bytes more : List ℕ) (outputs : Outputs)
+    → IsBundle header logs rounds bytes → GrowsByFrontFor account outputs.out outputs.out_after (lines_due (told_for account functions header) functions header logs)
+    → HasFrontOfLines account functions (bytes ++ more) outputs
+front-of_lines stays (accounts.Report receipts) functions header logs rounds bytes more outputs bundle written =
+    let due = stays receipts functions header logs rounds bytes more bundle in
+    subst (GrowsByFront outputs.out outputs.out_after) (sym due.1)
+    (GrowsByFront-more outputs.out outputs.out_after (lines_due (told_by receipts functions header) functions header logs) due.0 written)
+front-of_lines stays (accounts.Summary load) functions header logs rounds bytes more outputs bundle written = written
 
 -- ---- on the way
 
-module _ (receipts : Bool) (functions : DigestFunctions) (settings : Settings) (script : List (List Task)) (world : World Content)
-    (rounds : RunsSoFar) (end : Option ClockEnd) (past : List Logs) (outputs : Outputs) (running : IsRunning receipts functions settings script world rounds end past outputs) where
+module _ (account : Account) (functions : DigestFunctions) (settings : Settings) (script : List (List Task)) (world : World Content)
+    (rounds : RunsSoFar) (end : Option ClockEnd) (past : List Logs) (outputs : Outputs) (running : IsRunning account functions settings script world rounds end past outputs) where
   -- what is not handed out yet is a round more
   so_far : AreOfRunSoFar functions settings script (past ++ (logs_of world ∷ [])) (logged_with running.logs (logs_of world))
   so_far = record {
@@ -183,8 +180,8 @@ module _ (receipts : Bool) (functions : DigestFunctions) (settings : Settings) (
 
   -- All lines are that the rounds up to the last close certify.
   pub running-cut_in_round : (vault : Option (List ℕ)) (phases closes : ℕ) → length past ≡ phases + closes → (phases ≡ closes) ⊎ (phases ≡ suc closes)
-      → HasToldLines receipts functions settings.header (take (2 * closes) past) outputs → GrowsByFront outputs.vault_after vault (round_text (written_logs settings.header (logs_of world)))
-      → IsCutInRound (accounts.Report receipts) functions settings script (record outputs { vault_after = vault })
+      → HasTold account functions settings.header (take (2 * closes) past) outputs → GrowsByFront outputs.vault_after vault (round_text (written_logs settings.header (logs_of world)))
+      → IsCutInRound account functions settings script (record outputs { vault_after = vault })
   running-cut_in_round vault phases closes count stage told grown = record {
     past = past;
     round = logs_of world;
@@ -198,37 +195,34 @@ module _ (receipts : Bool) (functions : DigestFunctions) (settings : Settings) (
     told = told;
   }
 
-module _ (stays : StaysDue) (follow : RoundsFollow) (receipts : Bool) (functions : DigestFunctions) (settings : Settings) (script : List (List Task)) (world : World Content)
-    (rounds : RunsSoFar) (end : Option ClockEnd) (past : List Logs) (outputs : Outputs) (running : IsRunning receipts functions settings script world rounds end past outputs) where
+module _ (stays : StaysDue) (follow : RoundsFollow) (account : Account) (functions : DigestFunctions) (settings : Settings) (script : List (List Task)) (world : World Content)
+    (rounds : RunsSoFar) (end : Option ClockEnd) (past : List Logs) (outputs : Outputs) (running : IsRunning account functions settings script world rounds end past outputs) where
   -- the frames of what is not handed out yet
   abbrev pub next_frames : List ℕ
   next_frames = round_text (written_logs settings.header (logs_of world))
 
   -- the lines of what was handed out
   abbrev pub own_due : List ℕ
-  own_due = lines_due (told_by receipts functions settings.header) functions settings.header (written_logs settings.header running.logs)
+  own_due = lines_due (told_for account functions settings.header) functions settings.header (written_logs settings.header running.logs)
 
   -- those of what is counted were written
-  due-so_far : GrowsByFront outputs.out outputs.out_after own_due
+  due-so_far : GrowsByFrontFor account outputs.out outputs.out_after own_due
   due-so_far =
-      subst (λ (all : List (List ℕ)). GrowsByFront outputs.out outputs.out_after (lines_due (told_by receipts functions settings.header) functions settings.header all))
-      (logs_with-none (written_logs settings.header running.logs))
-      (counted-front (told_by receipts functions settings.header) functions settings.header (written_logs settings.header running.logs) rounds running.keeps.runs [] outputs.out outputs.out_after
-      running.written)
+      counted-due account (told_for account functions settings.header) functions settings.header (written_logs settings.header running.logs) rounds outputs.out outputs.out_after running.keeps.runs
+      running.written
 
   -- The vault has the bundle of what was handed out and a front of the next frames, and a front of the lines of it is written.
-  pub running-cut_lines : (vault out : Option (List ℕ)) → GrowsByFront outputs.vault_after vault next_frames → GrowsByFront outputs.out out own_due
-      → IsCutOff (accounts.Report receipts) functions settings script (record outputs { vault_after = vault; out_after = out })
+  pub running-cut_lines : (vault out : Option (List ℕ)) → GrowsByFront outputs.vault_after vault next_frames → GrowsByFrontFor account outputs.out out own_due
+      → IsCutOff account functions settings script (record outputs { vault_after = vault; out_after = out })
   running-cut_lines vault out grown written =
       let has = running.keeps.vault in
       let logs = written_logs settings.header running.logs in
       let round = written_logs settings.header (logs_of world) in
-      let count = running-workers receipts functions settings script world rounds end past outputs running in
-      let due = stays receipts functions settings.header logs (map (written_logs settings.header) past) has.bytes grown.front has.is_bundle in
+      let count = running-workers account functions settings script world rounds end past outputs running in
       record {
         rounds = past ++ (logs_of world ∷ []);
         logs = logged_with running.logs (logs_of world);
-        run = so_far receipts functions settings script world rounds end past outputs running;
+        run = so_far account functions settings script world rounds end past outputs running;
         vault = record {
           bytes = has.bytes ++ next_frames;
           is_bundle = subst (λ (rs : List (List (List ℕ))). IsBundle settings.header (written_logs settings.header (logged_with running.logs (logs_of world))) rs (has.bytes ++ next_frames)) (sym (texts-more settings.header past (logs_of world)))
@@ -241,27 +235,29 @@ module _ (stays : StaysDue) (follow : RoundsFollow) (receipts : Bool) (functions
             grown = Grows-then outputs.vault outputs.vault_after vault has.bytes grown.front has.grown grown.grown;
           };
         };
-        out = subst (GrowsByFront outputs.out out) (sym due.1) (GrowsByFront-more outputs.out out own_due due.0 written);
+        out =
+            front-of_lines stays account functions settings.header logs (map (written_logs settings.header) past) has.bytes grown.front (record outputs { vault_after = vault; out_after = out })
+            has.is_bundle written;
       }
 
   -- No more lines are.
   pub running-cut : (vault : Option (List ℕ)) → GrowsByFront outputs.vault_after vault next_frames
-      → IsCutOff (accounts.Report receipts) functions settings script (record outputs { vault_after = vault })
+      → IsCutOff account functions settings script (record outputs { vault_after = vault })
   running-cut vault grown = running-cut_lines vault outputs.out_after grown due-so_far
 
 -- ---- runners
 
-module _ (receipts : Bool) {D : Type 0} (functions : D → DigestFunctions) (runner : WorldRun D) (outputs : Outputs) (past : List Logs)
-    (runs : Runs receipts functions runner past outputs) where
+module _ (account : Account) {D : Type 0} (functions : D → DigestFunctions) (runner : WorldRun D) (outputs : Outputs) (past : List Logs)
+    (runs : Runs account functions runner past outputs) where
   abbrev pub own_world : World Content
   own_world = shown_world runner.world
 
   module _ (stays : StaysDue) (follow : RoundsFollow) where
     -- it stops with nothing written since
     pub runs-cut : (vault out : Option (List ℕ)) → outputs.vault_after ≡ vault → outputs.out_after ≡ out
-        → IsCutOff (accounts.Report receipts) (functions (digests_of runner.world)) runner.world.settings (requests_of runner.world) (record outputs { vault_after = vault; out_after = out })
+        → IsCutOff account (functions (digests_of runner.world)) runner.world.settings (requests_of runner.world) (record outputs { vault_after = vault; out_after = out })
     runs-cut vault out vault_is out_is =
-        subst (λ (o : Option (List ℕ)). IsCutOff (accounts.Report receipts) (functions (digests_of runner.world)) runner.world.settings (requests_of runner.world) (record outputs { vault_after = vault; out_after = o })) out_is
+        subst (λ (o : Option (List ℕ)). IsCutOff account (functions (digests_of runner.world)) runner.world.settings (requests_of runner.world) (record outputs { vault_after = vault; out_after = o })) out_is
         (running-cut stays follow _ _ _ _ own_world runner.rounds runner.end past outputs runs.running vault
         (subst (λ (v : Option (List ℕ)). GrowsByFront outputs.vault_after v (round_text (written_logs runner.world.settings.header (logs_of own_world)))) vault_is
         (GrowsByFront-none outputs.vault_after (round_text (written_logs runner.world.settings.header (logs_of own_world))))))
@@ -269,7 +265,7 @@ module _ (receipts : Bool) {D : Type 0} (functions : D → DigestFunctions) (run
     -- or while the vault takes what its workers logged
     pub runs-cut_round : (vault vault' : Option (List ℕ)) (round : List (List ℕ)) → outputs.vault_after ≡ vault → round ≡ written_logs runner.world.settings.header (logs_of own_world)
         → GrowsByFront vault vault' (round_text round)
-        → IsCutOff (accounts.Report receipts) (functions (digests_of runner.world)) runner.world.settings (requests_of runner.world) (record outputs { vault_after = vault' })
+        → IsCutOff account (functions (digests_of runner.world)) runner.world.settings (requests_of runner.world) (record outputs { vault_after = vault' })
     runs-cut_round vault vault' round vault_is round_is grown =
         running-cut stays follow _ _ _ _ own_world runner.rounds runner.end past outputs runs.running vault'
         (subst (λ (all : List (List ℕ)). GrowsByFront outputs.vault_after vault' (round_text all)) round_is
@@ -277,17 +273,17 @@ module _ (receipts : Bool) {D : Type 0} (functions : D → DigestFunctions) (run
 
     -- or while the sink takes the lines of it
     pub runs-cut_lines : (out : Option (List ℕ))
-        → GrowsByFront outputs.out out (lines_due (told_by receipts (functions (digests_of runner.world)) runner.world.settings.header) (functions (digests_of runner.world)) runner.world.settings.header (written_logs runner.world.settings.header runs.running.logs))
-        → IsCutOff (accounts.Report receipts) (functions (digests_of runner.world)) runner.world.settings (requests_of runner.world) (record outputs { out_after = out })
+        → GrowsByFrontFor account outputs.out out (lines_due (told_for account (functions (digests_of runner.world)) runner.world.settings.header) (functions (digests_of runner.world)) runner.world.settings.header (written_logs runner.world.settings.header runs.running.logs))
+        → IsCutOff account (functions (digests_of runner.world)) runner.world.settings (requests_of runner.world) (record outputs { out_after = out })
     runs-cut_lines out written =
         running-cut_lines stays follow _ _ _ _ own_world runner.rounds runner.end past outputs runs.running outputs.vault_after out
         (GrowsByFront-none outputs.vault_after (round_text (written_logs runner.world.settings.header (logs_of own_world)))) written
 
   module _ (phases closes : ℕ) (count : length past ≡ phases + closes) (stage : (phases ≡ closes) ⊎ (phases ≡ suc closes))
-      (told : HasToldLines receipts (functions (digests_of runner.world)) runner.world.settings.header (take (2 * closes) past) outputs) where
+      (told : HasTold account (functions (digests_of runner.world)) runner.world.settings.header (take (2 * closes) past) outputs) where
     -- it stops with nothing taken of the next round
     pub runs-cut_before : (vault : Option (List ℕ)) → outputs.vault_after ≡ vault
-        → IsCutInRound (accounts.Report receipts) (functions (digests_of runner.world)) runner.world.settings (requests_of runner.world) (record outputs { vault_after = vault })
+        → IsCutInRound account (functions (digests_of runner.world)) runner.world.settings (requests_of runner.world) (record outputs { vault_after = vault })
     runs-cut_before vault vault_is =
         running-cut_in_round _ _ _ _ own_world runner.rounds runner.end past outputs runs.running vault phases closes count stage told
         (subst (λ (v : Option (List ℕ)). GrowsByFront outputs.vault_after v (round_text (written_logs runner.world.settings.header (logs_of own_world)))) vault_is
@@ -296,7 +292,7 @@ module _ (receipts : Bool) {D : Type 0} (functions : D → DigestFunctions) (run
     -- or with a front of it
     pub runs-cut_in_round : (vault vault' : Option (List ℕ)) (round : List (List ℕ)) → outputs.vault_after ≡ vault → round ≡ written_logs runner.world.settings.header (logs_of own_world)
         → GrowsByFront vault vault' (round_text round)
-        → IsCutInRound (accounts.Report receipts) (functions (digests_of runner.world)) runner.world.settings (requests_of runner.world) (record outputs { vault_after = vault' })
+        → IsCutInRound account (functions (digests_of runner.world)) runner.world.settings (requests_of runner.world) (record outputs { vault_after = vault' })
     runs-cut_in_round vault vault' round vault_is round_is grown =
         running-cut_in_round _ _ _ _ own_world runner.rounds runner.end past outputs runs.running vault' phases closes count stage told
         (subst (λ (all : List (List ℕ)). GrowsByFront outputs.vault_after vault' (round_text all)) round_is

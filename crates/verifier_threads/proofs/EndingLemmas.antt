@@ -1,5 +1,5 @@
 -- Where a run ends: what is served, and what its report says.
-use Rattle.std.proofs.Common.{◌≡◌, Bool, ◌*◌, ◌-◌, ℕ, zero, suc, ◌<◌, ◌≤◌, false, List, [], ◌∷◌, length, map, get_or, replicate, Option, Some, None, inr, refl, sym, ◌∙◌, ap, subst, arith}
+use Rattle.std.proofs.Common.{◌≡◌, ◌*◌, ◌-◌, ℕ, zero, suc, ◌<◌, ◌≤◌, false, List, [], ◌∷◌, length, map, get_or, replicate, Option, Some, None, inr, refl, sym, ◌∙◌, ap, subst, arith}
 use Rattle.std.specs.List.{AllByRecursion}
 use Rattle.std.proofs.lemmas.List.{length-map, length-replicate}
 use Rattle.fv_outside.specs.Written.{Grows, GrowsByFront}
@@ -16,7 +16,6 @@ use Rattle.report_text.specs.Ending.{status_of}
 use Rattle.report_text.specs.Status.{last_line}
 use Rattle.merkle_records.specs.Scheme.{scheme_of}
 use Rattle.bundle_report.specs.Logs.{empty_logs}
-use Rattle.bundle_report.specs.Report.{told_by}
 use Rattle.bundle_report.proofs.DueLaws.{lines-due}
 use Rattle.host_core.specs.Host.{Host}
 use Rattle.host_core.specs.World.{Worker, World, logs_of, set_up, fresh, worker_at}
@@ -40,16 +39,15 @@ use Rattle.host_serving.specs.Form.{AreInRounds}
 use Rattle.host_serving.specs.Standing.{HasServedUpTo}
 use Rattle.host_serving.proofs.LeadingLaws.{leads-none}
 use Rattle.host_serving.proofs.FormLaws.{run-none}
-use Rattle.load_summary.specs.Summary.{summary_with_end}
-use Rattle.host_rounds.specs.SoFar.{RunsSoFar, Keeps, AllCounted, lines_due, summary_due, end_due}
+use Rattle.host_rounds.specs.SoFar.{RunsSoFar, Keeps, HaveRun, AllCounted, lines_due, summary_due, end_due}
 use Rattle.host_rounds.proofs.RoundLaws.{counted-none, summary-is}
+use Rattle.verifier_threads.specs.declared.accounts.Account.{Account}
 use Rattle.verifier_threads.specs.declared.accounts.Account.TheVariants as accounts
 use Rattle.verifier_threads.specs.declared.ending.RunEnd.{RunEnd}
 use Rattle.verifier_threads.specs.declared.world_run.WorldRun.{WorldRun}
 use Rattle.verifier_threads.specs.InRounds.{Logs}
-use Rattle.verifier_threads.specs.Serving.{Outputs, IfDone, HoldsWhatIsCertified, AreOfRun, IsServed, IsCutAtEnd, end_by, status_at}
-use Rattle.verifier_threads.specs.declared.loads.Load.{Load}
-use Rattle.verifier_threads.specs.Running.{IsRunning, Runs, RunsWhole, RunsToEnd, IsAtPhase, IsAtEnd}
+use Rattle.verifier_threads.specs.Serving.{Outputs, GrowsFor, IfDone, HoldsWhatIsCertified, AreOfRun, IsServed, IsCutAtEnd, account_of, end_by, status_at, told_for}
+use Rattle.verifier_threads.specs.Running.{IsRunning, Runs, RunsWhole, RunsToEnd, IsAtPhase, IsAtEnd, ending_for}
 use Rattle.verifier_threads.proofs.RunningLemmas.{running-workers}
 use Rattle.verifier_threads.proofs.HandingLemmas.{front-logs}
 use Rattle.verifier_threads.proofs.StandingLemmas.{all_with, rests_with, lowest_with}
@@ -102,12 +100,17 @@ pub record IsRunningFrom (functions : DigestFunctions) (settings : Settings) (sc
   pub is : world ≡ set_up (shipped_host functions settings script)
   pub count : length world.workers ≡ settings.header.verifiers
 
+-- nothing was written
+pub grows-none : (account : Account) (held : Option (List ℕ)) → GrowsFor account held held []
+grows-none (accounts.Report receipts) held = Grows-nil held
+grows-none (accounts.Summary load) held = refl
+
 -- the run before its first phase
-pub running-new : (receipts : Bool) (functions : DigestFunctions) (settings : Settings) (script : List (List Task)) (world : World Content) (rounds : RunsSoFar) (vault vault_after out : Option (List ℕ))
+pub running-new : (account : Account) (functions : DigestFunctions) (settings : Settings) (script : List (List Task)) (world : World Content) (rounds : RunsSoFar) (vault vault_after out : Option (List ℕ))
     → IsRunningFrom functions settings script world → Keeps functions settings.header (empty_logs settings.header.verifiers) [] rounds vault vault_after
     → rounds.judged.count ≡ 0
-    → IsRunning receipts functions settings script world rounds None [] (record { vault = vault; vault_after = vault_after; out = out; out_after = out })
-running-new receipts functions settings script world rounds vault vault_after out from keeps none' =
+    → IsRunning account functions settings script world rounds None [] (record { vault = vault; vault_after = vault_after; out = out; out_after = out })
+running-new account functions settings script world rounds vault vault_after out from keeps none' =
     let host = shipped_host functions settings script in
     let logs = replicate settings.header.verifiers [] in
     let texts = texts-none settings.header settings.header.verifiers in
@@ -125,7 +128,7 @@ running-new receipts functions settings script world rounds vault vault_after ou
       way = subst (λ (w : World Content). LeadsAs AreInRounds host (set_up host) w None) (sym same) (run-none host (set_up host));
       passed = (None, subst (λ (w : World Content). Leads host (set_up host) w None) (sym same) (leads-none host (set_up host)));
       keeps = subst (λ (all : List (List ℕ)). Keeps functions settings.header all [] rounds vault vault_after) (sym texts) keeps;
-      written = subst (Grows out out) (sym (counted-none (told_by receipts functions settings.header) functions settings.header (written_logs settings.header logs) rounds none')) (Grows-nil out);
+      written = subst (GrowsFor account out out) (sym (counted-none (told_for account functions settings.header) functions settings.header (written_logs settings.header logs) rounds none')) (grows-none account out);
     }
 
 -- ---- the script's turns
@@ -165,8 +168,32 @@ HoldAsCertified = (functions : DigestFunctions) (settings : Settings) (script : 
     → ((i : ℕ) → i < length (run_events host (set_up host) events).workers → HasAdvanced host (run_events host (set_up host) events) i 2)
     → ContentsHold settings (run_events host (set_up host) events) (map_certified functions settings.header (logs_of (run_events host (set_up host) events)))
 
-module _ (receipts : Bool) (functions : DigestFunctions) (settings : Settings) (script : List (List Task)) (world : World Content) (rounds : RunsSoFar)
-    (end : Option ClockEnd) (past : List Logs) (outputs : Outputs) (running : IsRunning receipts functions settings script world rounds end past outputs)
+-- ---- what is written at the end
+
+-- Behind what is told before it, the end makes the report whole, and the summary is all that is written.
+ending-written : (account : Account) (functions : DigestFunctions) (header : Header) (logs : Logs) (rounds : RunsSoFar) (result : RunEnd) (a b c : Option (List ℕ))
+    → HaveRun functions header (written_logs header logs) rounds → AllCounted functions header (written_logs header logs) rounds
+    → GrowsFor account a b (lines_due (told_for account functions header) functions header (written_logs header logs)) → Grows b c (ending_for account rounds (status_at result))
+    → Grows a c (account_of account functions header logs result)
+ending-written (accounts.Report receipts) functions header logs rounds result a b c have all told written =
+    Grows-then a b c (lines_due (told_for (accounts.Report receipts) functions header) functions header (written_logs header logs)) (last_line (status_at result)) told written
+ending-written (accounts.Summary load) functions header logs rounds result a b c have all told written =
+    subst (λ (o : Option (List ℕ)). Grows o c (summary_due functions header (written_logs header logs) load.seed load.ops (status_at result))) told
+    (subst (Grows b c) (summary-is functions header (written_logs header logs) rounds load.seed load.ops (status_at result) have all) written)
+
+-- so it is with a front of the end
+ending-front : (account : Account) (functions : DigestFunctions) (header : Header) (logs : Logs) (rounds : RunsSoFar) (result : RunEnd) (a b c : Option (List ℕ))
+    → HaveRun functions header (written_logs header logs) rounds → AllCounted functions header (written_logs header logs) rounds
+    → GrowsFor account a b (lines_due (told_for account functions header) functions header (written_logs header logs)) → GrowsByFront b c (ending_for account rounds (status_at result))
+    → GrowsByFront a c (account_of account functions header logs result)
+ending-front (accounts.Report receipts) functions header logs rounds result a b c have all told written =
+    GrowsByFront-then a b c (lines_due (told_for (accounts.Report receipts) functions header) functions header (written_logs header logs)) (last_line (status_at result)) told written
+ending-front (accounts.Summary load) functions header logs rounds result a b c have all told written =
+    subst (λ (o : Option (List ℕ)). GrowsByFront o c (summary_due functions header (written_logs header logs) load.seed load.ops (status_at result))) told
+    (subst (GrowsByFront b c) (summary-is functions header (written_logs header logs) rounds load.seed load.ops (status_at result) have all) written)
+
+module _ (account : Account) (functions : DigestFunctions) (settings : Settings) (script : List (List Task)) (world : World Content) (rounds : RunsSoFar)
+    (end : Option ClockEnd) (past : List Logs) (outputs : Outputs) (running : IsRunning account functions settings script world rounds end past outputs)
     (at : IsAtEnd (shipped_host functions settings script) world end) where
   abbrev own_host : Host Content Request
   own_host = shipped_host functions settings script
@@ -238,16 +265,16 @@ module _ (receipts : Bool) (functions : DigestFunctions) (settings : Settings) (
   module _ (holding : HoldAsCertified) (digests : GivesDigests functions.digest)
       (all : AllCounted functions settings.header (written_logs settings.header running.logs) rounds) (count : end ≡ None → length past ≡ 2 * length script) where
     -- all that is due is written
-    due-written : Grows outputs.out outputs.out_after (lines_due (told_by receipts functions settings.header) functions settings.header (written_logs settings.header running.logs))
+    due-written : GrowsFor account outputs.out outputs.out_after (lines_due (told_for account functions settings.header) functions settings.header (written_logs settings.header running.logs))
     due-written =
-        subst (Grows outputs.out outputs.out_after)
-        (lines-due (told_by receipts functions settings.header) (scheme_of functions settings.header) settings.header (written_logs settings.header running.logs) rounds.judged (map (λ fed. fed.run) rounds.runs) running.keeps.runs.taken all)
+        subst (GrowsFor account outputs.out outputs.out_after)
+        (lines-due (told_for account functions settings.header) (scheme_of functions settings.header) settings.header (written_logs settings.header running.logs) rounds.judged (map (λ fed. fed.run) rounds.runs) running.keeps.runs.taken all)
         running.written
 
-    -- the last line is written
+    -- the end of what is to be written is
     pub ended-served : (out' : Option (List ℕ)) (result : RunEnd) → result ≡ end_by (length script) end
-        → Grows outputs.out_after out' (last_line (status_at result))
-        → IsServed (accounts.Report receipts) functions settings script result (record outputs { out_after = out' })
+        → Grows outputs.out_after out' (ending_for account rounds (status_at result))
+        → IsServed account functions settings script result (record outputs { out_after = out' })
     ended-served out' result is written = record {
       logs = running.logs;
       end = end;
@@ -255,50 +282,19 @@ module _ (receipts : Bool) (functions : DigestFunctions) (settings : Settings) (
       run = ended-run holding digests count;
       is = is;
       vault = running.keeps.vault;
-      out = Grows-then outputs.out outputs.out_after out' (lines_due (told_by receipts functions settings.header) functions settings.header (written_logs settings.header running.logs)) (last_line (status_at result)) due-written written;
+      out = ending-written account functions settings.header running.logs rounds result outputs.out outputs.out_after out' running.keeps.runs all due-written written;
     }
 
     -- or a front of it
-    pub ended-cut : (out' : Option (List ℕ)) → GrowsByFront outputs.out_after out' (last_line (status_at (end_by (length script) end)))
-        → IsCutAtEnd (accounts.Report receipts) functions settings script (record outputs { out_after = out' })
+    pub ended-cut : (out' : Option (List ℕ)) → GrowsByFront outputs.out_after out' (ending_for account rounds (status_at (end_by (length script) end)))
+        → IsCutAtEnd account functions settings script (record outputs { out_after = out' })
     ended-cut out' written = record {
       logs = running.logs;
       end = end;
       rounds = past;
       run = ended-run holding digests count;
       vault = running.keeps.vault;
-      out = GrowsByFront-then outputs.out outputs.out_after out' (lines_due (told_by receipts functions settings.header) functions settings.header (written_logs settings.header running.logs)) (last_line (status_at (end_by (length script) end))) due-written written;
-    }
-
-    -- the summary is written
-    pub ended-summed : (load : Load) (out out' : Option (List ℕ)) (result : RunEnd) → result ≡ end_by (length script) end
-        → Grows out out' (summary_with_end load.seed load.ops rounds.judged.count rounds.summary.tallies (status_at result))
-        → IsServed (accounts.Summary load) functions settings script result (record outputs { out = out; out_after = out' })
-    ended-summed load out out' result is written = record {
-      logs = running.logs;
-      end = end;
-      rounds = past;
-      run = ended-run holding digests count;
-      is = is;
-      vault = running.keeps.vault;
-      out = subst (Grows out out')
-          (summary-is functions settings.header (written_logs settings.header running.logs) rounds load.seed load.ops (status_at result) running.keeps.runs all) written;
-    }
-
-    -- or a front of it
-    pub ended-cut_summary : (load : Load) (out out' : Option (List ℕ)) (result : RunEnd) → result ≡ end_by (length script) end
-        → GrowsByFront out out' (summary_with_end load.seed load.ops rounds.judged.count rounds.summary.tallies (status_at result))
-        → IsCutAtEnd (accounts.Summary load) functions settings script (record outputs { out = out; out_after = out' })
-    ended-cut_summary load out out' result is written = record {
-      logs = running.logs;
-      end = end;
-      rounds = past;
-      run = ended-run holding digests count;
-      vault = running.keeps.vault;
-      out = subst (GrowsByFront out out')
-          (summary-is functions settings.header (written_logs settings.header running.logs) rounds load.seed load.ops (status_at result) running.keeps.runs all
-          ∙ ap (λ (e : RunEnd). summary_due functions settings.header (written_logs settings.header running.logs) load.seed load.ops (status_at e)) is)
-          written;
+      out = ending-front account functions settings.header running.logs rounds (end_by (length script) end) outputs.out outputs.out_after out' running.keeps.runs all due-written written;
     }
 
 -- ---- how many workers there are
@@ -325,15 +321,15 @@ turns-now old now phase same tasks count =
     (subst (AreTasks old.settings.header) (sym same.requests) tasks)))
 
 -- as many workers as verifiers, where the run goes on
-pub runs-workers : (receipts : Bool) {D : Type 0} (functions : D → DigestFunctions) (runner : WorldRun D) (past : List Logs) (outputs : Outputs) → Runs receipts functions runner past outputs
+pub runs-workers : (account : Account) {D : Type 0} (functions : D → DigestFunctions) (runner : WorldRun D) (past : List Logs) (outputs : Outputs) → Runs account functions runner past outputs
     → length runner.world.workers.items ≡ runner.world.settings.header.verifiers
-runs-workers receipts functions runner past outputs runs = running-workers _ _ _ _ (shown_world runner.world) runner.rounds runner.end past outputs runs.running
+runs-workers account functions runner past outputs runs = running-workers _ _ _ _ (shown_world runner.world) runner.rounds runner.end past outputs runs.running
 
 -- behind the last close it runs to its end
-pub whole-to_end : (receipts : Bool) {D : Type 0} (functions : D → DigestFunctions) (runner : WorldRun D) (phase : ℕ) (outputs : Outputs)
-    → RunsWhole receipts functions runner (suc phase) outputs → IsAtEnd (host_of (functions (digests_of runner.world)) runner.world) (shown_world runner.world) runner.end
-    → (runner.end ≡ None → (shown_world runner.world).phase ≡ phase) → RunsToEnd receipts functions runner outputs
-whole-to_end receipts functions runner phase outputs whole at same = record {
+pub whole-to_end : (account : Account) {D : Type 0} (functions : D → DigestFunctions) (runner : WorldRun D) (phase : ℕ) (outputs : Outputs)
+    → RunsWhole account functions runner (suc phase) outputs → IsAtEnd (host_of (functions (digests_of runner.world)) runner.world) (shown_world runner.world) runner.end
+    → (runner.end ≡ None → (shown_world runner.world).phase ≡ phase) → RunsToEnd account functions runner outputs
+whole-to_end account functions runner phase outputs whole at same = record {
   past = whole.past;
   runs = whole.runs;
   all = whole.all;

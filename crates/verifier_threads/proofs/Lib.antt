@@ -11,4 +11,3 @@ mod EndingLemmas
 mod CutLemmas
 mod CallLemmas
 mod NothingLemmas
-mod SummingLemmas

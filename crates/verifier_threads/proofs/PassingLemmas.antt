@@ -1,11 +1,9 @@
 -- What all workers logged is passed on to the vault and to the runs.
-use Rattle.std.proofs.Common.{◌≡◌, Bool, ℕ, suc, ◌+◌, ◌*◌, ◌≤◌, List, [], ◌∷◌, ◌++◌, length, map, take, Option, Result, Vec, Global, Ok, Err, OnOk, OnErr, refl, sym, ◌∙◌, ap, subst, arith}
+use Rattle.std.proofs.Common.{◌≡◌, ℕ, suc, ◌+◌, ◌*◌, ◌≤◌, List, [], ◌∷◌, ◌++◌, length, map, take, Option, Result, Vec, Global, Ok, Err, OnOk, OnErr, refl, sym, ◌∙◌, ap, subst, arith}
 use Rattle.std.proofs.lemmas.List.{length-map}
-use Rattle.fv_outside.specs.Written.{Grows}
 use Rattle.record_hash.specs.Functions.{DigestFunctions}
 use Rattle.lamport_clocks.specs.declared.header.Header.{Header}
 use Rattle.merkle_records.specs.Scheme.{Scheme, scheme_of}
-use Rattle.bundle_report.specs.Report.{told_by}
 use Rattle.bundle_report.specs.SoFar.{runs_from}
 use Rattle.record_text.specs.declared.request.Request.{Request}
 use Rattle.host_core.specs.Host.{Host}
@@ -25,9 +23,10 @@ use Rattle.host_rounds.specs.Feeding.{AllRead}
 use Rattle.slot_rewriting.specs.Writing.{written_logs, ComeToRestFrom}
 use Rattle.host_rounds.specs.Round.{logs_with}
 use Rattle.host_rounds.specs.SoFar.{RunsSoFar, Keeps, HaveRun, AllCounted, lines_counted, lines_due, with_runs}
+use Rattle.verifier_threads.specs.declared.accounts.Account.{Account}
 use Rattle.verifier_threads.specs.declared.world_run.WorldRun.{WorldRun}
 use Rattle.verifier_threads.specs.InRounds.{Logs, logged_with, IsBehindRounds}
-use Rattle.verifier_threads.specs.Serving.{Outputs, HasToldLines}
+use Rattle.verifier_threads.specs.Serving.{Outputs, GrowsFor, HasTold, told_for}
 use Rattle.verifier_threads.specs.Running.{IsRunning, Runs, RunsBehind, RunsWhole, all_handed_out, with_runs_of}
 use Rattle.host_world.specs.ShippedHost.{shipped_host}
 use Rattle.verifier_threads.proofs.RoundLemmas.{take-all, take-more, length-one_more}
@@ -80,21 +79,21 @@ run-count functions header logs so_far have =
 
 -- ---- a round
 
-module _ (receipts : Bool) (functions : DigestFunctions) (settings : Settings) (script : List (List Task)) (world : World Content) (rounds : RunsSoFar)
-    (end : Option ClockEnd) (past : List Logs) (outputs : Outputs) (running : IsRunning receipts functions settings script world rounds end past outputs) where
+module _ (account : Account) (functions : DigestFunctions) (settings : Settings) (script : List (List Task)) (world : World Content) (rounds : RunsSoFar)
+    (end : Option ClockEnd) (past : List Logs) (outputs : Outputs) (running : IsRunning account functions settings script world rounds end past outputs) where
   -- the vault and the runs take it
   pub running-taken : (later : World Content) (round : List (List ℕ)) (rounds' : RunsSoFar) (vault' : Option (List ℕ))
       → IsBehindRounds (shipped_host functions settings script) (suc (length past)) world → ComeToRestFrom settings.header 0 (logged_with running.logs (logs_of world))
       → later ≡ all_handed_out world → round ≡ written_logs settings.header (logs_of world)
       → Keeps functions settings.header (logs_with (written_logs settings.header running.logs) round) (map (written_logs settings.header) past ++ (round ∷ [])) rounds' outputs.vault vault'
-      → lines_counted (told_by receipts functions settings.header) functions settings.header (logs_with (written_logs settings.header running.logs) round) rounds' ≡ lines_counted (told_by receipts functions settings.header) functions settings.header (written_logs settings.header running.logs) rounds
-      → IsRunning receipts functions settings script later rounds' end (past ++ (logs_of world ∷ [])) (record outputs { vault_after = vault' })
+      → lines_counted (told_for account functions settings.header) functions settings.header (logs_with (written_logs settings.header running.logs) round) rounds' ≡ lines_counted (told_for account functions settings.header) functions settings.header (written_logs settings.header running.logs) rounds
+      → IsRunning account functions settings script later rounds' end (past ++ (logs_of world ∷ [])) (record outputs { vault_after = vault' })
   running-taken later round rounds' vault' stands rests world_is round_is keeps lines =
-      subst (λ (w : World Content). IsRunning receipts functions settings script w rounds' end (past ++ (logs_of world ∷ [])) (record outputs { vault_after = vault' })) (sym world_is)
-      (running-handed receipts functions settings script world rounds end past outputs running rounds' (record outputs { vault_after = vault' }) stands rests
+      subst (λ (w : World Content). IsRunning account functions settings script w rounds' end (past ++ (logs_of world ∷ [])) (record outputs { vault_after = vault' })) (sym world_is)
+      (running-handed account functions settings script world rounds end past outputs running rounds' (record outputs { vault_after = vault' }) stands rests
       (subst (λ (all : List (List ℕ)). Keeps functions settings.header (logs_with (written_logs settings.header running.logs) all) (map (written_logs settings.header) past ++ (all ∷ [])) rounds' outputs.vault vault') round_is keeps)
-      (subst (λ (all : List (List ℕ)). Grows outputs.out outputs.out_after (lines_counted (told_by receipts functions settings.header) functions settings.header (logs_with (written_logs settings.header running.logs) all) rounds')) round_is
-      (subst (Grows outputs.out outputs.out_after) (sym lines) running.written)))
+      (subst (λ (all : List (List ℕ)). GrowsFor account outputs.out outputs.out_after (lines_counted (told_for account functions settings.header) functions settings.header (logs_with (written_logs settings.header running.logs) all) rounds')) round_is
+      (subst (GrowsFor account outputs.out outputs.out_after) (sym lines) running.written)))
 
 -- ---- runs that are lent
 
@@ -115,8 +114,8 @@ took-round {D} functions old middle lent back before after same is takes =
 
 -- ---- runners
 
-module _ (receipts : Bool) {D : Type 0} (functions : D → DigestFunctions) (old : WorldRun D) (past : List Logs) (outputs : Outputs)
-    (runs : Runs receipts functions old past outputs) where
+module _ (account : Account) {D : Type 0} (functions : D → DigestFunctions) (old : WorldRun D) (past : List Logs) (outputs : Outputs)
+    (runs : Runs account functions old past outputs) where
   abbrev pub host_now : Host Content Request
   host_now = host_of (functions (digests_of old.world)) old.world
 
@@ -132,20 +131,20 @@ module _ (receipts : Bool) {D : Type 0} (functions : D → DigestFunctions) (old
 
   -- by other names of what is held
   pub runs-at : (vault out : Option (List ℕ)) → outputs.vault_after ≡ vault → outputs.out_after ≡ out
-      → Runs receipts functions old past (record outputs { vault_after = vault; out_after = out })
+      → Runs account functions old past (record outputs { vault_after = vault; out_after = out })
   runs-at vault out vault_is out_is =
-      subst (λ (o : Option (List ℕ)). Runs receipts functions old past (record outputs { vault_after = vault; out_after = o })) out_is
-      (subst (λ (v : Option (List ℕ)). Runs receipts functions old past (record outputs { vault_after = v })) vault_is runs)
+      subst (λ (o : Option (List ℕ)). Runs account functions old past (record outputs { vault_after = vault; out_after = o })) out_is
+      (subst (λ (v : Option (List ℕ)). Runs account functions old past (record outputs { vault_after = v })) vault_is runs)
 
   -- events lead its world on
   pub runs-led : (world : code.World D) (next end : Option ClockEnd) → AreOfOneHost old.world world
       → GoesOn host_now (shown_world old.world) (shown_world world) old.end next → end ≡ first_of old.end next
-      → Runs receipts functions (record old { world = world; end = end }) past outputs
+      → Runs account functions (record old { world = world; end = end }) past outputs
   runs-led world next end same way is = record {
     running =
         of_one_host functions old.world world same
-        (λ (f : DigestFunctions) (settings : Settings) (script : List (List Task)). IsRunning receipts f settings script (shown_world world) old.rounds end past outputs)
-        (subst (λ (e : Option ClockEnd). IsRunning receipts (functions (digests_of old.world)) old.world.settings (requests_of old.world) (shown_world world) old.rounds e past outputs) (sym is)
+        (λ (f : DigestFunctions) (settings : Settings) (script : List (List Task)). IsRunning account f settings script (shown_world world) old.rounds end past outputs)
+        (subst (λ (e : Option ClockEnd). IsRunning account (functions (digests_of old.world)) old.world.settings (requests_of old.world) (shown_world world) old.rounds e past outputs) (sym is)
         (running-led _ _ _ _ (shown_world old.world) old.rounds old.end past outputs runs.running (shown_world world) next way));
     buffers = runs.buffers ∙ sym (leads-length host_now (shown_world old.world) (shown_world world) next way.leads);
     counts = runs.counts ∙ sym (leads-length host_now (shown_world old.world) (shown_world world) next way.leads);
@@ -155,20 +154,20 @@ module _ (receipts : Bool) {D : Type 0} (functions : D → DigestFunctions) (old
   pub runs-fed : (world : code.World D) (next end : Option ClockEnd) (back : RunsSoFar) (before : List FedRun) (parcels : Vec ℕ Global) → AreOfOneHost old.world world
       → GoesOn host_now (shown_world old.world) (shown_world world) old.end next → end ≡ first_of old.end next → with_runs before back ≡ old.rounds
       → length parcels.items ≡ length old.parcels.items
-      → Runs receipts functions (with_runs_of before (record old { world = world; end = end; rounds = back; parcels = parcels })) past outputs
+      → Runs account functions (with_runs_of before (record old { world = world; end = end; rounds = back; parcels = parcels })) past outputs
   runs-fed world next end back before parcels same way is rounds_are many =
       let led = runs-led world next end same way is in
-      subst (λ (rounds : RunsSoFar). Runs receipts functions (record old { world = world; end = end; rounds = rounds; parcels = parcels }) past outputs) (sym rounds_are)
+      subst (λ (rounds : RunsSoFar). Runs account functions (record old { world = world; end = end; rounds = rounds; parcels = parcels }) past outputs) (sym rounds_are)
       (record { running = led.running; buffers = led.buffers; counts = many ∙ led.counts })
 
   -- what its logs certify is counted and written
   pub runs-certified : (rounds' : RunsSoFar) (out : Option (List ℕ)) (closes : ℕ) → length past ≡ closes + closes
       → HaveRun (functions (digests_of old.world)) old.world.settings.header (written_logs old.world.settings.header runs.running.logs) rounds'
       → AllCounted (functions (digests_of old.world)) old.world.settings.header (written_logs old.world.settings.header runs.running.logs) rounds'
-      → lines_counted (told_by receipts (functions (digests_of old.world)) old.world.settings.header) (functions (digests_of old.world)) old.world.settings.header (written_logs old.world.settings.header runs.running.logs) rounds'
-      ≡ lines_due (told_by receipts (functions (digests_of old.world)) old.world.settings.header) (functions (digests_of old.world)) old.world.settings.header (written_logs old.world.settings.header runs.running.logs)
-      → Grows outputs.out out (lines_due (told_by receipts (functions (digests_of old.world)) old.world.settings.header) (functions (digests_of old.world)) old.world.settings.header (written_logs old.world.settings.header runs.running.logs))
-      → RunsWhole receipts functions (record old { rounds = rounds' }) closes (record outputs { out_after = out })
+      → lines_counted (told_for account (functions (digests_of old.world)) old.world.settings.header) (functions (digests_of old.world)) old.world.settings.header (written_logs old.world.settings.header runs.running.logs) rounds'
+      ≡ lines_due (told_for account (functions (digests_of old.world)) old.world.settings.header) (functions (digests_of old.world)) old.world.settings.header (written_logs old.world.settings.header runs.running.logs)
+      → GrowsFor account outputs.out out (lines_due (told_for account (functions (digests_of old.world)) old.world.settings.header) (functions (digests_of old.world)) old.world.settings.header (written_logs old.world.settings.header runs.running.logs))
+      → RunsWhole account functions (record old { rounds = rounds' }) closes (record outputs { out_after = out })
   runs-certified rounds' out closes count have all counted written = record {
     past = past;
     runs = record {
@@ -184,43 +183,43 @@ module _ (receipts : Bool) {D : Type 0} (functions : D → DigestFunctions) (old
         way = runs.running.way;
         passed = runs.running.passed;
         keeps = record { vault = runs.running.keeps.vault; runs = have };
-        written = subst (Grows outputs.out out) (sym counted) written;
+        written = subst (GrowsFor account outputs.out out) (sym counted) written;
       };
       buffers = runs.buffers;
       counts = runs.counts;
     };
     all = all;
     count = count;
-    told = subst (λ (logs : List (List ℕ)). Grows outputs.out out (lines_due (told_by receipts (functions (digests_of old.world)) old.world.settings.header) (functions (digests_of old.world)) old.world.settings.header logs))
+    told = subst (λ (logs : List (List ℕ)). GrowsFor account outputs.out out (lines_due (told_for account (functions (digests_of old.world)) old.world.settings.header) (functions (digests_of old.world)) old.world.settings.header logs))
         runs.running.keeps.vault.is_bundle.logs_are written;
   }
 
 -- ---- behind phases and closes
 
-module _ (receipts : Bool) {D : Type 0} (functions : D → DigestFunctions) (old : WorldRun D) (phases closes : ℕ) (outputs : Outputs)
-    (behind : RunsBehind receipts functions old phases closes outputs) where
+module _ (account : Account) {D : Type 0} (functions : D → DigestFunctions) (old : WorldRun D) (phases closes : ℕ) (outputs : Outputs)
+    (behind : RunsBehind account functions old phases closes outputs) where
   -- by other names of what is held
   pub behind-at : (vault out : Option (List ℕ)) → outputs.vault_after ≡ vault → outputs.out_after ≡ out
-      → RunsBehind receipts functions old phases closes (record outputs { vault_after = vault; out_after = out })
+      → RunsBehind account functions old phases closes (record outputs { vault_after = vault; out_after = out })
   behind-at vault out vault_is out_is =
-      subst (λ (o : Option (List ℕ)). RunsBehind receipts functions old phases closes (record outputs { vault_after = vault; out_after = o })) out_is
-      (subst (λ (v : Option (List ℕ)). RunsBehind receipts functions old phases closes (record outputs { vault_after = v })) vault_is behind)
+      subst (λ (o : Option (List ℕ)). RunsBehind account functions old phases closes (record outputs { vault_after = vault; out_after = o })) out_is
+      (subst (λ (v : Option (List ℕ)). RunsBehind account functions old phases closes (record outputs { vault_after = v })) vault_is behind)
 
   -- what was told of the one host's world was told of the other's
   told-of : (world : code.World D) → AreOfOneHost old.world world
-      → HasToldLines receipts (functions (digests_of world)) world.settings.header (take (2 * closes) behind.past) outputs
+      → HasTold account (functions (digests_of world)) world.settings.header (take (2 * closes) behind.past) outputs
   told-of world same =
       of_one_host functions old.world world same
-      (λ (f : DigestFunctions) (settings : Settings) (script : List (List Task)). HasToldLines receipts f settings.header (take (2 * closes) behind.past) outputs)
+      (λ (f : DigestFunctions) (settings : Settings) (script : List (List Task)). HasTold account f settings.header (take (2 * closes) behind.past) outputs)
       behind.told
 
   -- events lead its world on
   pub behind-led : (world : code.World D) (next end : Option ClockEnd) → AreOfOneHost old.world world
       → GoesOn (host_of (functions (digests_of old.world)) old.world) (shown_world old.world) (shown_world world) old.end next → end ≡ first_of old.end next
-      → RunsBehind receipts functions (record old { world = world; end = end }) phases closes outputs
+      → RunsBehind account functions (record old { world = world; end = end }) phases closes outputs
   behind-led world next end same way is = record {
     past = behind.past;
-    runs = runs-led receipts functions old behind.past outputs behind.runs world next end same way is;
+    runs = runs-led account functions old behind.past outputs behind.runs world next end same way is;
     count = behind.count;
     told = told-of world same;
   }
@@ -229,18 +228,18 @@ module _ (receipts : Bool) {D : Type 0} (functions : D → DigestFunctions) (old
   pub behind-fed : (world : code.World D) (next end : Option ClockEnd) (back : RunsSoFar) (before : List FedRun) (parcels : Vec ℕ Global) → AreOfOneHost old.world world
       → GoesOn (host_of (functions (digests_of old.world)) old.world) (shown_world old.world) (shown_world world) old.end next → end ≡ first_of old.end next → with_runs before back ≡ old.rounds
       → length parcels.items ≡ length old.parcels.items
-      → RunsBehind receipts functions (with_runs_of before (record old { world = world; end = end; rounds = back; parcels = parcels })) phases closes outputs
+      → RunsBehind account functions (with_runs_of before (record old { world = world; end = end; rounds = back; parcels = parcels })) phases closes outputs
   behind-fed world next end back before parcels same way is rounds_are many = record {
     past = behind.past;
-    runs = runs-fed receipts functions old behind.past outputs behind.runs world next end back before parcels same way is rounds_are many;
+    runs = runs-fed account functions old behind.past outputs behind.runs world next end back before parcels same way is rounds_are many;
     count = behind.count;
     told = told-of world same;
   }
 
   -- one phase more
   pub behind-more : (new : WorldRun D) (round : Logs) (vault : Option (List ℕ)) → AreOfOneHost old.world new.world → closes ≤ phases
-      → Runs receipts functions new (behind.past ++ (round ∷ [])) (record outputs { vault_after = vault })
-      → RunsBehind receipts functions new (suc phases) closes (record outputs { vault_after = vault })
+      → Runs account functions new (behind.past ++ (round ∷ [])) (record outputs { vault_after = vault })
+      → RunsBehind account functions new (suc phases) closes (record outputs { vault_after = vault })
   behind-more new round vault same few runs =
       let size = length-one_more behind.past round in
       let count = behind.count in
@@ -248,17 +247,17 @@ module _ (receipts : Bool) {D : Type 0} (functions : D → DigestFunctions) (old
         past = behind.past ++ (round ∷ []);
         runs = runs;
         count = omega (arith, size, count);
-        told = subst (λ (rounds : List Logs). HasToldLines receipts (functions (digests_of new.world)) new.world.settings.header rounds outputs)
+        told = subst (λ (rounds : List Logs). HasTold account (functions (digests_of new.world)) new.world.settings.header rounds outputs)
             (sym (take-more (2 * closes) behind.past (round ∷ []) (omega (arith, count, few)))) (told-of new.world same);
       }
 
 -- what is whole stands behind as many phases as closes
-pub whole-behind : (receipts : Bool) {D : Type 0} (functions : D → DigestFunctions) (runner : WorldRun D) (closes : ℕ) (outputs : Outputs)
-    → RunsWhole receipts functions runner closes outputs → RunsBehind receipts functions runner closes closes outputs
-whole-behind receipts functions runner closes outputs whole = record {
+pub whole-behind : (account : Account) {D : Type 0} (functions : D → DigestFunctions) (runner : WorldRun D) (closes : ℕ) (outputs : Outputs)
+    → RunsWhole account functions runner closes outputs → RunsBehind account functions runner closes closes outputs
+whole-behind account functions runner closes outputs whole = record {
   past = whole.past;
   runs = whole.runs;
   count = whole.count;
-  told = subst (λ (rounds : List Logs). HasToldLines receipts (functions (digests_of runner.world)) runner.world.settings.header rounds outputs)
+  told = subst (λ (rounds : List Logs). HasTold account (functions (digests_of runner.world)) runner.world.settings.header rounds outputs)
       (sym (take-all (2 * closes) whole.past (omega (arith, whole.count)))) whole.told;
 }

@@ -1,13 +1,11 @@
 -- A run goes on: events lead on, logs are handed out, and where it stops it is cut off.
-use Rattle.std.proofs.Common.{◌≡◌, Bool, inl, inr, ℕ, suc, ◌<◌, List, [], ◌∷◌, ◌++◌, length, map, Option, Result, Ok, Err, IfOk, OnErr, refl, sym, ◌∙◌, ap, subst, arith}
+use Rattle.std.proofs.Common.{◌≡◌, inl, inr, ℕ, suc, ◌<◌, List, [], ◌∷◌, ◌++◌, length, map, Option, Result, Ok, Err, IfOk, OnErr, refl, sym, ◌∙◌, ap, subst, arith}
 use Rattle.std.proofs.lemmas.List.{length-map}
-use Rattle.fv_outside.specs.Written.{Grows}
 use Rattle.record_hash.specs.Functions.{DigestFunctions}
 use Rattle.record_text.specs.declared.request.Request.{Request}
 use Rattle.slot_rewriting.specs.Writing.{written_logs, ComeToRestFrom}
 use Rattle.slot_rewriting.proofs.WritingLaws.{written-length}
 use Rattle.merkle_records.specs.Merkle.{GivesDigests}
-use Rattle.bundle_report.specs.Report.{told_by}
 use Rattle.host_core.specs.Host.{Host}
 use Rattle.host_core.specs.World.{World, logs_of, set_up}
 use Rattle.host_core.specs.WorldEvent.{WorldEvent, AreEnabled, step, run_events}
@@ -32,7 +30,7 @@ use Rattle.host_rounds.specs.SoFar.{RunsSoFar, Keeps, lines_counted}
 use Rattle.verifier_threads.specs.declared.accounts.Account.{Account}
 use Rattle.verifier_threads.specs.declared.accounts.Account.TheVariants as accounts
 use Rattle.verifier_threads.specs.declared.ending.RunEnd.{RunEnd}
-use Rattle.verifier_threads.specs.Serving.{Outputs, IsServed, IsCutOff, IsCutAtEnd, IsCutByVault, IsCutBySink, ServesTo}
+use Rattle.verifier_threads.specs.Serving.{Outputs, GrowsFor, IsServed, IsCutOff, IsCutAtEnd, IsCutByVault, IsCutBySink, ServesTo, told_for}
 use Rattle.verifier_threads.specs.InRounds.{Logs, logged_with, no_logs, IsBehindRounds, LeadThrough}
 use Rattle.verifier_threads.specs.Runners.{TellsLines}
 use Rattle.verifier_threads.specs.Running.{IsRunning, all_handed_out, with_no_log}
@@ -86,8 +84,8 @@ LogsRest = (functions : DigestFunctions) (settings : Settings) (script : List (L
 
 -- ---- a run goes on
 
-module _ (receipts : Bool) (functions : DigestFunctions) (settings : Settings) (script : List (List Task)) (world : World Content) (rounds : RunsSoFar)
-    (end : Option ClockEnd) (past : List Logs) (outputs : Outputs) (running : IsRunning receipts functions settings script world rounds end past outputs) where
+module _ (account : Account) (functions : DigestFunctions) (settings : Settings) (script : List (List Task)) (world : World Content) (rounds : RunsSoFar)
+    (end : Option ClockEnd) (past : List Logs) (outputs : Outputs) (running : IsRunning account functions settings script world rounds end past outputs) where
   abbrev own_host : Host Content Request
   own_host = shipped_host functions settings script
 
@@ -118,7 +116,7 @@ module _ (receipts : Bool) (functions : DigestFunctions) (settings : Settings) (
 
   -- events lead on
   pub running-led : (later : World Content) (next : Option ClockEnd) → GoesOn own_host world later end next
-      → IsRunning receipts functions settings script later rounds (first_of end next) past outputs
+      → IsRunning account functions settings script later rounds (first_of end next) past outputs
   running-led later next way = record {
     settings_fit = running.settings_fit;
     counters = running.counters;
@@ -139,8 +137,8 @@ module _ (receipts : Bool) (functions : DigestFunctions) (settings : Settings) (
   pub running-handed : (rounds' : RunsSoFar) (outputs' : Outputs) → IsBehindRounds own_host (suc (length past)) world
       → ComeToRestFrom settings.header 0 (logged_with running.logs (logs_of world))
       → Keeps functions settings.header (logs_with (written_logs settings.header running.logs) (written_logs settings.header (logs_of world))) (map (written_logs settings.header) past ++ (written_logs settings.header (logs_of world) ∷ [])) rounds' outputs'.vault outputs'.vault_after
-      → Grows outputs'.out outputs'.out_after (lines_counted (told_by receipts functions settings.header) functions settings.header (logs_with (written_logs settings.header running.logs) (written_logs settings.header (logs_of world))) rounds')
-      → IsRunning receipts functions settings script (all_handed_out world) rounds' end (past ++ (logs_of world ∷ [])) outputs'
+      → GrowsFor account outputs'.out outputs'.out_after (lines_counted (told_for account functions settings.header) functions settings.header (logs_with (written_logs settings.header running.logs) (written_logs settings.header (logs_of world))) rounds')
+      → IsRunning account functions settings script (all_handed_out world) rounds' end (past ++ (logs_of world ∷ [])) outputs'
   running-handed rounds' outputs' stands rests keeps written =
       let logs = logged_with running.logs (logs_of world) in
       let texts : logs_with (written_logs settings.header running.logs) (written_logs settings.header (logs_of world)) ≡ written_logs settings.header logs = sym (logged_with-texts settings.header running.logs (logs_of world) running.rests) in
@@ -162,7 +160,7 @@ module _ (receipts : Bool) (functions : DigestFunctions) (settings : Settings) (
             (sym (logs-behind running.logs world.workers running.each) ∙ ap (λ (all : Logs). logged_with all (logs_of world)) running.joined));
         keeps = subst (λ (rs : List (List (List ℕ))). Keeps functions settings.header (written_logs settings.header logs) rs rounds' outputs'.vault outputs'.vault_after) (sym (texts-more settings.header past (logs_of world)))
             (subst (λ (all : List (List ℕ)). Keeps functions settings.header all (map (written_logs settings.header) past ++ (written_logs settings.header (logs_of world) ∷ [])) rounds' outputs'.vault outputs'.vault_after) texts keeps);
-        written = subst (λ (all : List (List ℕ)). Grows outputs'.out outputs'.out_after (lines_counted (told_by receipts functions settings.header) functions settings.header all rounds')) texts written;
+        written = subst (λ (all : List (List ℕ)). GrowsFor account outputs'.out outputs'.out_after (lines_counted (told_for account functions settings.header) functions settings.header all rounds')) texts written;
       }
 
 -- ---- where it stops
@@ -177,7 +175,7 @@ stops-so account functions settings script failures.ReadFault outputs source lim
 stops-so account functions settings script failures.InputLimit outputs source limit cut by_vault lines = absurd (limit refl)
 stops-so account functions settings script failures.VaultFault outputs source limit cut by_vault lines = (cut, by_vault refl)
 stops-so (accounts.Report receipts) functions settings script failures.WriteFault outputs source limit cut by_vault lines = inl cut
-stops-so (accounts.Summary load) functions settings script failures.WriteFault outputs source limit cut by_vault lines = absurd (lines refl)
+stops-so (accounts.Summary load) functions settings script failures.WriteFault outputs source limit cut by_vault lines = absurd (let is = (lines refl).1 in cc)
 
 -- a run that was cut off at its end stops because the sink failed
 ends-so : (account : Account) (functions : DigestFunctions) (settings : Settings) (script : List (List Task)) (outputs : Outputs)

@@ -1,5 +1,5 @@
 -- How a runner stands between two calls, and which call comes next.
-use Rattle.std.specs.Prelude.{◌≡◌, Bool, false, ℕ, suc, ◌-◌, ◌<◌, List, [], length, Option}
+use Rattle.std.specs.Prelude.{◌≡◌, Bool, ℕ, suc, ◌-◌, ◌<◌, List, [], length, Option}
 use Rattle.record_hash.specs.Functions.{DigestFunctions}
 use Rattle.bundle_report.specs.Logs.{empty_logs}
 use Rattle.script_text.specs.Text.{AreTasks}
@@ -41,34 +41,22 @@ phases_left runner = left_by runner.next runner.state
 
 -- ---- a run of a world
 
--- A run before this call, with receipts or without. Before a phase a round is handed out for each phase and each close before it, and
+-- A run before this call, by what is written of it. Before a phase a round is handed out for each phase and each close before it, and
 -- before its close one more, that of the phase; at the end no more can be done.
-abbrev pub StandsBefore : NextCall → Bool → {D : Type 0} → (D → DigestFunctions) → WorldRun D → Outputs → Type 0
-StandsBefore calls.Phase receipts functions run outputs =
-    RunsBehind receipts functions run (shown_world run.world).phase (shown_world run.world).phase outputs
+abbrev pub StandsBefore : NextCall → Account → {D : Type 0} → (D → DigestFunctions) → WorldRun D → Outputs → Type 0
+StandsBefore calls.Phase account functions run outputs =
+    RunsBehind account functions run (shown_world run.world).phase (shown_world run.world).phase outputs
     × IsAtPhase (host_of (functions (digests_of run.world)) run.world) (shown_world run.world) run.end
-StandsBefore calls.Close receipts functions run outputs =
-    RunsBehind receipts functions run (suc (shown_world run.world).phase) (shown_world run.world).phase outputs
+StandsBefore calls.Close account functions run outputs =
+    RunsBehind account functions run (suc (shown_world run.world).phase) (shown_world run.world).phase outputs
     × IsAtClose (host_of (functions (digests_of run.world)) run.world) (shown_world run.world) run.end
-StandsBefore calls.Finish receipts functions run outputs =
-    RunsToEnd receipts functions run outputs
+StandsBefore calls.Finish account functions run outputs =
+    RunsToEnd account functions run outputs
     × IsAtEnd (host_of (functions (digests_of run.world)) run.world) (shown_world run.world) run.end
-
--- The same of a run of which a summary is written: its lines went to another sink, which holds this now, and nothing is written yet.
-pub record StandsUnwritten (call : NextCall) (dropped : Option (List ℕ)) {D : Type 0} (functions : D → DigestFunctions) (run : WorldRun D) (outputs : Outputs) : Type 0 where
-  pub unwritten : outputs.out_after ≡ outputs.out
-  pub before : Option (List ℕ)
-  pub stands : StandsBefore call false functions run (record outputs { out = before; out_after = dropped })
-
--- a run before this call, by what is written of it
-abbrev pub StandsFor : Account → NextCall → Option (List ℕ) → {D : Type 0} → (D → DigestFunctions) → WorldRun D → Outputs → Type 0
-StandsFor (accounts.Report receipts) call dropped functions run outputs = StandsBefore call receipts functions run outputs
-StandsFor (accounts.Summary load) call dropped functions run outputs = StandsUnwritten call dropped functions run outputs
 
 -- whether lines are written along the way: of a report they are
 abbrev pub TellsLines : Account → Type 0
-TellsLines (accounts.Report receipts) = Unit {0}
-TellsLines (accounts.Summary load) = ⊥
+TellsLines account = (receipts : Bool) × (account ≡ accounts.Report receipts)
 
 -- a run of these functions and settings and of this script, whose tasks are its workers'
 pub record IsRunOf {D : Type 0} (functions : D → DigestFunctions) (own : DigestFunctions) (settings : Settings) (script : List (List Task)) (run : WorldRun D) : Type 0 where
@@ -78,10 +66,10 @@ pub record IsRunOf {D : Type 0} (functions : D → DigestFunctions) (own : Diges
   pub tasks : AreTasks settings.header script
 
 -- Such a run stands so before this call.
-pub record IsUnderWayTo (account : Account) (call : NextCall) (dropped : Option (List ℕ)) {D : Type 0} (functions : D → DigestFunctions) (own : DigestFunctions) (settings : Settings)
+pub record IsUnderWayTo (account : Account) (call : NextCall) {D : Type 0} (functions : D → DigestFunctions) (own : DigestFunctions) (settings : Settings)
     (script : List (List Task)) (run : WorldRun D) (outputs : Outputs) : Type 0 where
   pub is_of : IsRunOf functions own settings script run
-  pub stands : StandsFor account call dropped functions run outputs
+  pub stands : StandsBefore call account functions run outputs
 
 -- Counters that don't suffice for the setup: the vault took the header, nothing is written, and the end is to be told.
 pub record IsUnserved (functions : DigestFunctions) (settings : Settings) (rounds : RunsSoFar) (end : ClockEnd) (outputs : Outputs) : Type 0 where
@@ -95,10 +83,10 @@ pub record IsUnserved (functions : DigestFunctions) (settings : Settings) (round
 -- ---- a runner
 
 -- its run stands before this call, or nothing was served and the end is to come
-abbrev pub StateStands : Account → NextCall → Option (List ℕ) → {D : Type 0} → (D → DigestFunctions) → DigestFunctions → Settings → List (List Task) → State D → Outputs → Type 0
-StateStands account call dropped functions own settings script (states.Served run) outputs =
-    IsUnderWayTo account call dropped functions own settings script run outputs
-StateStands account call dropped functions own settings script (states.Unserved rounds end) outputs =
+abbrev pub StateStands : Account → NextCall → {D : Type 0} → (D → DigestFunctions) → DigestFunctions → Settings → List (List Task) → State D → Outputs → Type 0
+StateStands account call functions own settings script (states.Served run) outputs =
+    IsUnderWayTo account call functions own settings script run outputs
+StateStands account call functions own settings script (states.Unserved rounds end) outputs =
     (call ≡ calls.Finish) × IsUnserved own settings rounds end outputs
 
 -- A runner of a script stands before its next call: what is to be written of the run, the digests of its texts, its settings and the
@@ -106,7 +94,7 @@ StateStands account call dropped functions own settings script (states.Unserved 
 pub record Stands (account : Account) {D : Type 0} (functions : D → DigestFunctions) (own : DigestFunctions) (settings : Settings) (script : List (List Task))
     (runner : Runner D) (outputs : Outputs) : Type 0 where
   pub account_is : runner.account ≡ account
-  pub state : StateStands account runner.next runner.dropped.held functions own settings script runner.state outputs
+  pub state : StateStands account runner.next functions own settings script runner.state outputs
 
 -- what is held where all is served: the contents of the run's world hold what is certified
 abbrev pub StateHolds : DigestFunctions → Settings → {D : Type 0} → State D → Outputs → Type 0

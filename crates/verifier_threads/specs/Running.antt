@@ -1,9 +1,11 @@
 -- How a run stands between two calls: its world, the vault, what the verifiers read, and what is written.
-use Rattle.std.specs.Prelude.{◌≡◌, ◌≢◌, ◌⊎◌, Bool, ℕ, suc, ◌+◌, ◌*◌, ◌≤◌, List, [], length, map, take, Option, None}
+use Rattle.std.specs.Prelude.{◌≡◌, ◌≢◌, ◌⊎◌, ℕ, suc, ◌+◌, ◌*◌, ◌≤◌, List, [], length, map, take, Option, None}
 use Rattle.std.specs.List.{AllByRecursion}
-use Rattle.fv_outside.specs.Written.{Grows}
+use Rattle.fv_outside.specs.Written.{GrowsByFront}
 use Rattle.record_hash.specs.Functions.{DigestFunctions}
-use Rattle.bundle_report.specs.Report.{told_by}
+use Rattle.report_text.specs.declared.status.Status.{Status}
+use Rattle.report_text.specs.Status.{last_line}
+use Rattle.load_summary.specs.Summary.{summary_with_end}
 use Rattle.slot_rewriting.specs.Writing.{written_logs, ComeToRestFrom}
 use Rattle.host_core.specs.Host.{Host}
 use Rattle.host_core.specs.World as machine
@@ -22,9 +24,11 @@ use Rattle.worker_threads.specs.Phase.{first_stopped}
 use Rattle.certified_epochs.specs.declared.fed_run.FedRun.{FedRun}
 use Rattle.host_rounds.specs.Feeding.{AllRead}
 use Rattle.host_rounds.specs.SoFar.{RunsSoFar, Keeps, AllCounted, lines_counted, with_runs}
+use Rattle.verifier_threads.specs.declared.accounts.Account.{Account}
+use Rattle.verifier_threads.specs.declared.accounts.Account.TheVariants as accounts
 use Rattle.verifier_threads.specs.declared.world_run.WorldRun.{WorldRun}
 use Rattle.verifier_threads.specs.InRounds.{Logs, logged_behind, no_logs, ArePassed}
-use Rattle.verifier_threads.specs.Serving.{Outputs, HasToldLines}
+use Rattle.verifier_threads.specs.Serving.{Outputs, GrowsFor, HasTold, told_for}
 
 -- ---- logs that are handed out
 
@@ -36,13 +40,25 @@ with_no_log worker = record worker { log = [] }
 abbrev pub all_handed_out : {C : Type 0} → machine.World C → machine.World C
 all_handed_out world = record world { workers = map with_no_log world.workers }
 
+-- ---- what is written
+
+-- what a sink takes before the end where it fails: of a report a front of these lines, and of a summary nothing
+abbrev pub GrowsByFrontFor : Account → Option (List ℕ) → Option (List ℕ) → List ℕ → Type 0
+GrowsByFrontFor (accounts.Report receipts) old new lines = GrowsByFront old new lines
+GrowsByFrontFor (accounts.Summary load) old new lines = new ≡ old
+
+-- what is written at the end of a run that ended so: the last line of its report, or the summary of what was counted
+abbrev pub ending_for : Account → RunsSoFar → Status → List ℕ
+ending_for (accounts.Report receipts) rounds status = last_line status
+ending_for (accounts.Summary load) rounds status = summary_with_end load.seed load.ops rounds.judged.count rounds.summary.tallies status
+
 -- ---- a run
 
 -- Events lead from the setup to this world with the logs in front that were handed out, and this is the first end of a
 -- clock that they come to. They were handed out in these rounds, and they come to rest, so that what comes behind is written as logs of
--- its own. The vault has the bundle of these and the verifiers' runs have taken them, and what is written is the lines of the epochs
--- that are counted, with receipts or without.
-pub record IsRunning (receipts : Bool) (functions : DigestFunctions) (settings : Settings) (script : List (List Task)) (world : machine.World Content) (rounds : RunsSoFar) (end : Option ClockEnd)
+-- its own. The vault has the bundle of these and the verifiers' runs have taken them, and what is told of the epochs that are counted
+-- is written.
+pub record IsRunning (account : Account) (functions : DigestFunctions) (settings : Settings) (script : List (List Task)) (world : machine.World Content) (rounds : RunsSoFar) (end : Option ClockEnd)
     (past : List Logs) (outputs : Outputs) : Type 0 where
   pub settings_fit : IsSettings settings
   pub counters : settings.shards ≤ settings.header.end
@@ -55,43 +71,43 @@ pub record IsRunning (receipts : Bool) (functions : DigestFunctions) (settings :
   pub way : LeadsAs AreInRounds (shipped_host functions settings script) (machine.set_up (shipped_host functions settings script)) (with_logs logs world) end
   pub passed : ArePassed (shipped_host functions settings script) past (with_logs logs world)
   pub keeps : Keeps functions settings.header (written_logs settings.header logs) (map (written_logs settings.header) past) rounds outputs.vault outputs.vault_after
-  pub written : Grows outputs.out outputs.out_after (lines_counted (told_by receipts functions settings.header) functions settings.header (written_logs settings.header logs) rounds)
+  pub written : GrowsFor account outputs.out outputs.out_after (lines_counted (told_for account functions settings.header) functions settings.header (written_logs settings.header logs) rounds)
 
 -- So runs a runner of the code, which has a buffer for each worker, and a count of parcels for its verifier.
-pub record Runs (receipts : Bool) {D : Type 0} (functions : D → DigestFunctions) (runner : WorldRun D) (past : List Logs) (outputs : Outputs) : Type 0 where
-  pub running : IsRunning receipts (functions (digests_of runner.world)) runner.world.settings (requests_of runner.world) (shown_world runner.world) runner.rounds runner.end past outputs
+pub record Runs (account : Account) {D : Type 0} (functions : D → DigestFunctions) (runner : WorldRun D) (past : List Logs) (outputs : Outputs) : Type 0 where
+  pub running : IsRunning account (functions (digests_of runner.world)) runner.world.settings (requests_of runner.world) (shown_world runner.world) runner.rounds runner.end past outputs
   pub buffers : length runner.buffers.items ≡ length runner.world.workers.items
   pub counts : length runner.parcels.items ≡ length runner.world.workers.items
 
--- The same behind so many phases and so many closes: all lines are written that the rounds up to the last close certify.
-pub record RunsBehind (receipts : Bool) {D : Type 0} (functions : D → DigestFunctions) (runner : WorldRun D) (phases closes : ℕ) (outputs : Outputs) : Type 0 where
+-- The same behind so many phases and so many closes: all is written that is told of what the rounds up to the last close certify.
+pub record RunsBehind (account : Account) {D : Type 0} (functions : D → DigestFunctions) (runner : WorldRun D) (phases closes : ℕ) (outputs : Outputs) : Type 0 where
   pub past : List Logs
-  pub runs : Runs receipts functions runner past outputs
+  pub runs : Runs account functions runner past outputs
   pub count : length past ≡ phases + closes
-  pub told : HasToldLines receipts (functions (digests_of runner.world)) runner.world.settings.header (take (2 * closes) past) outputs
+  pub told : HasTold account (functions (digests_of runner.world)) runner.world.settings.header (take (2 * closes) past) outputs
 
 -- The same behind so many closes, and each epoch that the logs certify is counted.
-pub record RunsWhole (receipts : Bool) {D : Type 0} (functions : D → DigestFunctions) (runner : WorldRun D) (closes : ℕ) (outputs : Outputs) : Type 0 where
+pub record RunsWhole (account : Account) {D : Type 0} (functions : D → DigestFunctions) (runner : WorldRun D) (closes : ℕ) (outputs : Outputs) : Type 0 where
   pub past : List Logs
-  pub runs : Runs receipts functions runner past outputs
+  pub runs : Runs account functions runner past outputs
   pub all : AllCounted (functions (digests_of runner.world)) runner.world.settings.header (written_logs runner.world.settings.header runs.running.logs) runner.rounds
   pub count : length past ≡ closes + closes
-  pub told : HasToldLines receipts (functions (digests_of runner.world)) runner.world.settings.header past outputs
+  pub told : HasTold account (functions (digests_of runner.world)) runner.world.settings.header past outputs
 
 -- The same at the end, where each phase and its close had a round of its own if no clock ended.
-pub record RunsToEnd (receipts : Bool) {D : Type 0} (functions : D → DigestFunctions) (runner : WorldRun D) (outputs : Outputs) : Type 0 where
+pub record RunsToEnd (account : Account) {D : Type 0} (functions : D → DigestFunctions) (runner : WorldRun D) (outputs : Outputs) : Type 0 where
   pub past : List Logs
-  pub runs : Runs receipts functions runner past outputs
+  pub runs : Runs account functions runner past outputs
   pub all : AllCounted (functions (digests_of runner.world)) runner.world.settings.header (written_logs runner.world.settings.header runs.running.logs) runner.rounds
   pub count : runner.end ≡ None → length past ≡ 2 * length (requests_of runner.world)
 
 -- so it runs, whatever rounds were handed out
-abbrev pub RunsSome : Bool → {D : Type 0} → (D → DigestFunctions) → WorldRun D → Outputs → Type 0
-RunsSome receipts functions runner outputs = (past : List Logs) × Runs receipts functions runner past outputs
+abbrev pub RunsSome : Account → {D : Type 0} → (D → DigestFunctions) → WorldRun D → Outputs → Type 0
+RunsSome account functions runner outputs = (past : List Logs) × Runs account functions runner past outputs
 
--- So it runs, with receipts or without and whatever the vault and the sink held before, where the vault now holds this.
+-- So it runs, whatever is written of it and whatever the vault and the sink held before, where the vault now holds this.
 abbrev pub IsUnderWay : {D : Type 0} → (D → DigestFunctions) → WorldRun D → Option (List ℕ) → Type 0
-IsUnderWay functions runner held = (receipts : Bool) × (outputs : Outputs) × RunsSome receipts functions runner outputs × (outputs.vault_after ≡ held)
+IsUnderWay functions runner held = (account : Account) × (outputs : Outputs) × RunsSome account functions runner outputs × (outputs.vault_after ≡ held)
 
 -- the runner with other runs of its verifiers
 abbrev pub with_runs_of : {D : Type 0} → List FedRun → WorldRun D → WorldRun D
@@ -105,17 +121,17 @@ HaveReadRound functions before runner =
 -- so it runs, but that its verifiers' runs have taken what its workers logged and the vault doesn't have that yet
 abbrev pub IsFedUnderWay : {D : Type 0} → (D → DigestFunctions) → WorldRun D → Option (List ℕ) → Type 0
 IsFedUnderWay functions runner held =
-    (receipts : Bool) × (outputs : Outputs) × (before : List FedRun) × RunsSome receipts functions (with_runs_of before runner) outputs
+    (account : Account) × (outputs : Outputs) × (before : List FedRun) × RunsSome account functions (with_runs_of before runner) outputs
     × HaveReadRound functions before runner × (outputs.vault_after ≡ held)
 
 -- so it runs behind so many phases and so many closes
 abbrev pub IsUnderWayBehind : {D : Type 0} → (D → DigestFunctions) → WorldRun D → ℕ → ℕ → Option (List ℕ) → Type 0
 IsUnderWayBehind functions runner phases closes held =
-    (receipts : Bool) × (outputs : Outputs) × RunsBehind receipts functions runner phases closes outputs × (outputs.vault_after ≡ held)
+    (account : Account) × (outputs : Outputs) × RunsBehind account functions runner phases closes outputs × (outputs.vault_after ≡ held)
 
 -- so it runs, with all counted that its logs certify
 abbrev pub IsUnderWayWhole : {D : Type 0} → (D → DigestFunctions) → WorldRun D → Type 0
-IsUnderWayWhole functions runner = (receipts : Bool) × (outputs : Outputs) × RunsToEnd receipts functions runner outputs
+IsUnderWayWhole functions runner = (account : Account) × (outputs : Outputs) × RunsToEnd account functions runner outputs
 
 -- ---- where it stands
 

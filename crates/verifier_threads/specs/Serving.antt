@@ -8,8 +8,9 @@ use Rattle.slot_rewriting.specs.Writing.{written_logs}
 use Rattle.report_text.specs.declared.status.Status.{Status}
 use Rattle.report_text.specs.declared.status.Status.TheVariants as statuses
 use Rattle.report_text.specs.Status.{last_line}
-use Rattle.bundle_report.specs.Report.{told_by}
+use Rattle.bundle_report.specs.Report.{EpochText, told_by}
 use Rattle.bundle_report.specs.Answer.{check_answer}
+use Rattle.certified_epochs.specs.Telling.{nothing_told}
 use Rattle.host_core.specs.World.{World, logs_of, set_up}
 use Rattle.host_shard.specs.Content.{Content}
 use Rattle.script_text.specs.declared.task.Task.{Task}
@@ -160,15 +161,21 @@ module _ (account : Account) (functions : DigestFunctions) (settings : Settings)
     pub vault : HasBundle settings.header (written_logs settings.header logs) (map (written_logs settings.header) rounds) outputs.vault outputs.vault_after
     pub out : GrowsByFront outputs.out outputs.out_after (account_of account functions settings.header logs (end_by (length script) end))
 
--- all lines that these rounds certify are written, with receipts or without
-abbrev pub HasToldLines : Bool → DigestFunctions → Header → List Logs → Outputs → Type 0
-HasToldLines receipts functions header rounds outputs =
-    Grows outputs.out outputs.out_after (lines_due (told_by receipts functions header) functions header (logs_in header.verifiers (map (written_logs header) rounds)))
+-- what is told of an epoch once it is certified: of a report its lines, with receipts or without, and of a summary nothing
+abbrev pub told_for : Account → DigestFunctions → Header → EpochText
+told_for (accounts.Report receipts) functions header = told_by receipts functions header
+told_for (accounts.Summary load) functions header = nothing_told
 
--- of a report they are, and of a summary nothing is
+-- What a sink takes before the end: of a report these lines. Of a summary there are none, and the sink is as it was, which says more
+-- than that it took nothing: it still tells its bytes if it did.
+abbrev pub GrowsFor : Account → Option (List ℕ) → Option (List ℕ) → List ℕ → Type 0
+GrowsFor (accounts.Report receipts) old new lines = Grows old new lines
+GrowsFor (accounts.Summary load) old new lines = new ≡ old
+
+-- all that is told before the end of what these rounds certify is written
 abbrev pub HasTold : Account → DigestFunctions → Header → List Logs → Outputs → Type 0
-HasTold (accounts.Report receipts) functions header rounds outputs = HasToldLines receipts functions header rounds outputs
-HasTold (accounts.Summary load) functions header rounds outputs = outputs.out_after ≡ outputs.out
+HasTold account functions header rounds outputs =
+    GrowsFor account outputs.out outputs.out_after (lines_due (told_for account functions header) functions header (logs_in header.verifiers (map (written_logs header) rounds)))
 
 -- It stopped in a round, and the vault held this before the round: the whole bundle of the rounds before. It took a front of that
 -- round's frames, and the sink, of a report, all lines that the rounds up to the last close certify.

@@ -13,9 +13,9 @@ use crate::accounts::Account;
 use crate::ending::RunEnd;
 use crate::laws::a_header_begins_the_bundle;
 use crate::world_run::WorldRun;
-use fv_outside::{Failure, Gate, Sink, SureSink};
+use fv_outside::{Failure, Gate, Sink};
 use host_fits::scripts_ask_for_keys_in_range;
-use host_rounds::{Rounds, write_end};
+use host_rounds::Rounds;
 use host_world::{ClockEnd, Settings, World, WorldFault};
 use record_hash::Digests;
 use run_reports::logs_of_no_bytes_certify_nothing;
@@ -53,8 +53,6 @@ pub(crate) enum State<'a, D> {
 pub struct Runner<'a, D> {
     account: Account,
     next: NextCall,
-    // The lines of a run of which a summary is written go there.
-    dropped: SureSink,
     state: State<'a, D>,
 }
 
@@ -90,14 +88,12 @@ impl<'a, D: Digests> Runner<'a, D> {
         scripts_ask_for_keys_in_range();
         a_header_begins_the_bundle(settings);
         a_script_has_a_phase(requests);
-        let dropped = SureSink::new(alloc, 0, usize::MAX)?;
         match World::new(alloc, d, settings, requests) {
             Ok(world) => {
                 let served = WorldRun::new(alloc, world, vault)?;
                 Ok(Runner {
                     account,
                     next: NextCall::Phase,
-                    dropped,
                     state: State::Served(served),
                 })
             }
@@ -106,7 +102,6 @@ impl<'a, D: Digests> Runner<'a, D> {
                 Ok(Runner {
                     account,
                     next: NextCall::Finish,
-                    dropped,
                     state: State::Unserved { rounds, end },
                 })
             }
@@ -223,7 +218,7 @@ impl<'a, D: Digests + Sync> Runner<'a, D> {
     {
         match &mut self.state {
             State::Served(served) => {
-                self.next = served.close(rt, &self.account, &mut self.dropped, vault, out)?;
+                self.next = served.close(rt, &self.account, vault, out)?;
                 Ok(())
             }
             State::Unserved { .. } => unreachable!(),
@@ -251,16 +246,8 @@ fn end_unserved<O: Sink>(
 {
     logs_of_no_bytes_certify_nothing();
     let ended = RunEnd::ClockEnd(end);
-    match account {
-        Account::Report { .. } => {
-            write_end(&ended.status(), out)?;
-            Ok(ended)
-        }
-        Account::Summary(load) => {
-            rounds.write_summary(load.seed, load.ops, &ended.status(), out)?;
-            Ok(ended)
-        }
-    }
+    account.write_ending(rounds, &ended.status(), out)?;
+    Ok(ended)
 }
 
 // A script has a phase. The function does nothing, and its contract is the law.

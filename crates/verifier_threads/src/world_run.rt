@@ -1,9 +1,8 @@
 //! A run of a script whose world is set up, phase by phase, and what becomes of the logs.
-ghost use Rattle.std.specs.Prelude.{◌≡◌, ◌≢◌, ◌↔◌, ◌⊎◌, ◌≤◌, ◌<◌, Bool, ℕ, suc, true, false, List, [], ◌∷◌, ◌++◌, Option, None, length, map, replicate, OnOk, OnErr, IfOk, Ok, Err};
+ghost use Rattle.std.specs.Prelude.{◌≡◌, ◌≢◌, ◌↔◌, ◌⊎◌, ◌≤◌, ◌<◌, ℕ, suc, true, false, List, [], ◌∷◌, ◌++◌, Option, None, length, map, replicate, OnOk, OnErr, IfOk, Ok, Err};
 ghost use Rattle.std.specs.List.{AllByRecursion};
 ghost use Rattle.fv_outside.specs.Failures.{FailsByOutput, FailsByVault};
 ghost use Rattle.fv_outside.specs.Faults.{Rose};
-ghost use Rattle.bundle_report.specs.Report.{told_by};
 ghost use Rattle.certified_epochs.specs.declared.fed_run.FedRun.{FedRun};
 ghost use Rattle.certified_epochs.specs.Telling.{text_by};
 ghost use Rattle.certified_epochs.specs.Turn.{AreVerdictsOn};
@@ -16,22 +15,21 @@ ghost use Rattle.host_serving.specs.Leading.{first_of};
 ghost use Rattle.host_serving.specs.Standing.{turns_of};
 ghost use Rattle.verifier_threads.specs.declared.runner.State.{State};
 ghost use Rattle.verifier_threads.specs.InRounds.{Logs, IsBehindRounds};
-ghost use Rattle.verifier_threads.specs.Serving.{Outputs, IfDone, HoldsWhatIsCertified, IsServed, IsCutOff, IsCutInHeader, IsCutInRound, IsCutAtEnd, end_by};
-ghost use Rattle.verifier_threads.specs.Runners.{StandsBefore, StandsFor, TellsLines, left_by};
+ghost use Rattle.verifier_threads.specs.Serving.{Outputs, IfDone, HoldsWhatIsCertified, IsServed, IsCutOff, IsCutInHeader, IsCutInRound, IsCutAtEnd, end_by, told_for};
+ghost use Rattle.verifier_threads.specs.Runners.{StandsBefore, TellsLines, left_by};
 ghost use Rattle.verifier_threads.specs.Running.{Runs, RunsSome, RunsBehind, RunsWhole, RunsToEnd, IsUnderWay, IsUnderWayBehind, IsUnderWayWhole, IsFedUnderWay, HaveReadRound, IsAtPhase, IsAtClose, IsAtEnd, all_handed_out, with_runs_of};
 
 use crate::accounts::Account;
 use crate::ending::RunEnd;
 use crate::handing::hand_out_all;
 use crate::laws::{a_header_begins_the_bundle, what_is_due_stays_due};
-use crate::loads::Load;
 use crate::runner::NextCall;
 use base_words::Memory;
 use certified_epochs::Telling;
 use epoch_gather::Verdict;
-use fv_outside::{Failure, Gate, Sink, SureSink};
+use fv_outside::{Failure, Gate, Sink};
 use host_log::LogBuffer;
-use host_rounds::{Rounds, rounds_make_a_bundle, write_end};
+use host_rounds::{Rounds, rounds_make_a_bundle};
 use host_serving::close_phase;
 use host_world::{ClockEnd, World};
 use merkle_records::digests_have_32_bytes;
@@ -73,7 +71,7 @@ impl<'a, D: Digests> WorldRun<'a, D> {
         requires keys { AreInRange (settings_of world).header (requests_of world) }
         requires values { HaveShortValues (settings_of world).header (requests_of world) }
         requires some { 0 < length (requests_of world) }
-        ensures runs { (receipts : Bool) (held : Option (List ℕ)) → IfOk result (λ runner. RunsBehind receipts D.functions runner 0 0
+        ensures runs { (account : Account) (held : Option (List ℕ)) → IfOk result (λ runner. RunsBehind account D.functions runner 0 0
             (record { vault = V.held vault.old; vault_after = V.held vault.new; out = held; out_after = held })) }
         ensures world { IfOk result (λ runner. runner.world ≡ world.entry) }
         ensures begins { IfOk result (λ runner. IsAtPhase (host_of (D.functions (digests_of world.entry)) world.entry)
@@ -104,54 +102,7 @@ impl<'a, D: Digests> WorldRun<'a, D> {
         })
     }
 
-    /// Behind the last close: writes the last line of the report.
-    pub(crate) fn finish<O: Sink>(&mut self, out: &mut O) -> Result<RunEnd, Failure>
-        requires runs { IsUnderWayWhole D.functions self.old }
-        requires ended { IsAtEnd (host_of (D.functions (digests_of self.old.world)) self.old.world) (shown_world self.old.world) self.old.end }
-        ensures served { (receipts : Bool) (outputs : Outputs) → RunsToEnd receipts D.functions self.old outputs → outputs.out_after ≡ O.held out.old
-            → IfOk result (λ end. IsServed (Account.Report receipts) (D.functions (digests_of self.old.world)) (settings_of self.old.world) (requests_of self.old.world) end
-            (record outputs { out_after = O.held out.new })) }
-        ensures cut { (receipts : Bool) (outputs : Outputs) → RunsToEnd receipts D.functions self.old outputs → outputs.out_after ≡ O.held out.old
-            → OnErr result (IsCutAtEnd (Account.Report receipts) (D.functions (digests_of self.old.world)) (settings_of self.old.world) (requests_of self.old.world)
-            (record outputs { out_after = O.held out.new })) }
-        ensures holds { (receipts : Bool) (outputs : Outputs) → RunsToEnd receipts D.functions self.old outputs
-            → IfOk result (λ end. IfDone end (HoldsWhatIsCertified (D.functions (digests_of self.new.world)) (settings_of self.new.world) (shown_world self.new.world) outputs.vault outputs.vault_after)) }
-        ensures world { self.new.world ≡ self.old.world }
-        ensures stop { OnErr result (result ≡ Err Failure.WriteFault) }
-        ensures write_fault { OnErr result (Rose (O.faults out.old) (O.faults out.new)) }
-        ensures never_falls { O.faults out.old ≤ O.faults out.new }
-    {
-        the_contents_hold_what_a_check_certifies();
-        let end = self.conclude();
-        write_end(&end.status(), out)?;
-        Ok(end)
-    }
-
-    /// Behind the last close: writes the summary of a load, in place of the last line of a report.
-    pub(crate) fn sum_up<O: Sink>(&mut self, load: &Load, out: &mut O) -> Result<RunEnd, Failure>
-        requires runs { IsUnderWayWhole D.functions self.old }
-        requires ended { IsAtEnd (host_of (D.functions (digests_of self.old.world)) self.old.world) (shown_world self.old.world) self.old.end }
-        ensures summed { (receipts : Bool) (outputs : Outputs) → RunsToEnd receipts D.functions self.old outputs
-            → IfOk result (λ end. IsServed (Account.Summary load.now) (D.functions (digests_of self.old.world)) (settings_of self.old.world) (requests_of self.old.world) end
-            (record outputs { out = O.held out.old; out_after = O.held out.new })) }
-        ensures cut { (receipts : Bool) (outputs : Outputs) → RunsToEnd receipts D.functions self.old outputs
-            → OnErr result (IsCutAtEnd (Account.Summary load.now) (D.functions (digests_of self.old.world)) (settings_of self.old.world) (requests_of self.old.world)
-            (record outputs { out = O.held out.old; out_after = O.held out.new })) }
-        ensures holds { (receipts : Bool) (outputs : Outputs) → RunsToEnd receipts D.functions self.old outputs
-            → IfOk result (λ end. IfDone end (HoldsWhatIsCertified (D.functions (digests_of self.new.world)) (settings_of self.new.world) (shown_world self.new.world) outputs.vault outputs.vault_after)) }
-        ensures world { self.new.world ≡ self.old.world }
-        ensures stop { OnErr result (result ≡ Err Failure.WriteFault) }
-        ensures write_fault { OnErr result (Rose (O.faults out.old) (O.faults out.new)) }
-        ensures never_falls { O.faults out.old ≤ O.faults out.new }
-    {
-        the_contents_hold_what_a_check_certifies();
-        let end = self.conclude();
-        self.rounds
-            .write_summary(load.seed, load.ops, &end.status(), out)?;
-        Ok(end)
-    }
-
-    /// The same by what is written of it.
+    /// Behind the last close: writes the last line of the report, or the summary of a load.
     pub(crate) fn end_with<O: Sink>(
         &mut self,
         account: &Account,
@@ -159,25 +110,23 @@ impl<'a, D: Digests> WorldRun<'a, D> {
     ) -> Result<RunEnd, Failure>
         requires runs { IsUnderWayWhole D.functions self.old }
         requires ended { IsAtEnd (host_of (D.functions (digests_of self.old.world)) self.old.world) (shown_world self.old.world) self.old.end }
-        ensures served { (dropped : Option (List ℕ)) (outputs : Outputs) → StandsFor account.now NextCall.Finish dropped D.functions self.old outputs
-            → outputs.out_after ≡ O.held out.old
+        ensures served { (outputs : Outputs) → RunsToEnd account.now D.functions self.old outputs → outputs.out_after ≡ O.held out.old
             → IfOk result (λ end. IsServed account.now (D.functions (digests_of self.old.world)) (settings_of self.old.world) (requests_of self.old.world) end
             (record outputs { out_after = O.held out.new })) }
-        ensures cut { (dropped : Option (List ℕ)) (outputs : Outputs) → StandsFor account.now NextCall.Finish dropped D.functions self.old outputs
-            → outputs.out_after ≡ O.held out.old
+        ensures cut { (outputs : Outputs) → RunsToEnd account.now D.functions self.old outputs → outputs.out_after ≡ O.held out.old
             → OnErr result (IsCutAtEnd account.now (D.functions (digests_of self.old.world)) (settings_of self.old.world) (requests_of self.old.world)
             (record outputs { out_after = O.held out.new })) }
-        ensures holds { (receipts : Bool) (outputs : Outputs) → RunsToEnd receipts D.functions self.old outputs
+        ensures holds { (outputs : Outputs) → RunsToEnd account.now D.functions self.old outputs
             → IfOk result (λ end. IfDone end (HoldsWhatIsCertified (D.functions (digests_of self.new.world)) (settings_of self.new.world) (shown_world self.new.world) outputs.vault outputs.vault_after)) }
         ensures world { self.new.world ≡ self.old.world }
         ensures stop { OnErr result (result ≡ Err Failure.WriteFault) }
         ensures write_fault { OnErr result (Rose (O.faults out.old) (O.faults out.new)) }
         ensures never_falls { O.faults out.old ≤ O.faults out.new }
     {
-        match account {
-            Account::Report { .. } => self.finish(out),
-            Account::Summary(load) => self.sum_up(load, out),
-        }
+        the_contents_hold_what_a_check_certifies();
+        let end = self.conclude();
+        account.write_ending(&self.rounds, &end.status(), out)?;
+        Ok(end)
     }
 
     // How it ends, behind the last close: where no clock ended, each phase is certified.
@@ -199,34 +148,37 @@ impl<'a, D: Digests> WorldRun<'a, D> {
         }
     }
 
-    // How the epochs of its report are told.
-    fn telling(&self, receipts: bool) -> Telling<'a, D>
-        ensures text { text_by D.functions result ≡ told_by receipts (D.functions (digests_of self.now.world)) self.now.world.settings.header }
+    // How the epochs are told that a close certifies: of a summary not at all, so that no line is made.
+    fn telling(&self, account: &Account) -> Telling<'a, D>
+        ensures text { text_by D.functions result ≡ told_for account.now (D.functions (digests_of self.now.world)) self.now.world.settings.header }
     {
-        Telling::new(
-            receipts,
-            self.world.digests(),
-            &self.world.settings().header,
-        )
+        match account {
+            Account::Report { receipts } => Telling::new(
+                *receipts,
+                self.world.digests(),
+                &self.world.settings().header,
+            ),
+            Account::Summary(_) => Telling::Nothing,
+        }
     }
 
     // Hands out what all workers logged, where the verifiers' runs have already taken it: it goes to the vault.
     fn set_down<V: Sink>(&mut self, vault: &mut V) -> Result<(), Failure>
         requires runs { IsFedUnderWay D.functions self.old (V.held vault.old) }
-        ensures runs { (receipts : Bool) (outputs : Outputs) (before : List FedRun) (past : List Logs)
-            → Runs receipts D.functions (with_runs_of before self.old) past outputs → HaveReadRound D.functions before self.old
+        ensures runs { (account : Account) (outputs : Outputs) (before : List FedRun) (past : List Logs)
+            → Runs account D.functions (with_runs_of before self.old) past outputs → HaveReadRound D.functions before self.old
             → IsBehindRounds (host_of (D.functions (digests_of self.old.world)) self.old.world) (suc (length past)) (shown_world self.old.world)
             → outputs.vault_after ≡ V.held vault.old
-            → OnOk result (Runs receipts D.functions self.new (past ++ (logs_of (shown_world self.old.world) ∷ [])) (record outputs { vault_after = V.held vault.new })) }
+            → OnOk result (Runs account D.functions self.new (past ++ (logs_of (shown_world self.old.world) ∷ [])) (record outputs { vault_after = V.held vault.new })) }
         ensures handed { OnOk result (shown_world self.new.world ≡ all_handed_out (shown_world self.old.world)) }
         ensures end { self.new.end ≡ self.old.end }
-        ensures cut { (receipts : Bool) (outputs : Outputs) (before : List FedRun) → RunsSome receipts D.functions (with_runs_of before self.old) outputs
+        ensures cut { (account : Account) (outputs : Outputs) (before : List FedRun) → RunsSome account D.functions (with_runs_of before self.old) outputs
             → outputs.vault_after ≡ V.held vault.old
-            → OnErr result (IsCutOff (Account.Report receipts) (D.functions (digests_of self.old.world)) (settings_of self.old.world) (requests_of self.old.world)
+            → OnErr result (IsCutOff account (D.functions (digests_of self.old.world)) (settings_of self.old.world) (requests_of self.old.world)
             (record outputs { vault_after = V.held vault.new })) }
-        ensures cut_round { (receipts : Bool) (outputs : Outputs) (before : List FedRun) (closes : ℕ)
-            → RunsBehind receipts D.functions (with_runs_of before self.old) closes closes outputs → outputs.vault_after ≡ V.held vault.old
-            → OnErr result (IsCutInRound (Account.Report receipts) (D.functions (digests_of self.old.world)) (settings_of self.old.world) (requests_of self.old.world)
+        ensures cut_round { (account : Account) (outputs : Outputs) (before : List FedRun) (closes : ℕ)
+            → RunsBehind account D.functions (with_runs_of before self.old) closes closes outputs → outputs.vault_after ≡ V.held vault.old
+            → OnErr result (IsCutInRound account (D.functions (digests_of self.old.world)) (settings_of self.old.world) (requests_of self.old.world)
             (record outputs { vault_after = V.held vault.new })) }
         ensures host { AreOfOneHost self.old.world self.new.world }
         ensures failure { FailsByVault result }
@@ -244,12 +196,12 @@ impl<'a, D: Digests> WorldRun<'a, D> {
 
 impl<'a, D: Digests + Sync> WorldRun<'a, D> {
     /// A close, the last one or another: the workers move on to the next epoch, what they logged goes to the vault, and the
-    /// lines of all epochs that are now certified are written, with receipts or without. A clock may end in it, and then no more can be done.
+    /// lines of all epochs that are now certified are written, or of a summary nothing. A clock may end in it, and then no more can be done.
     pub(crate) fn close_epoch<R: Threads + Sync, V: Sink, O: Sink>(
         &mut self,
         rt: &R,
         last: bool,
-        receipts: bool,
+        account: &Account,
         vault: &mut V,
         out: &mut O,
     ) -> Result<(), Failure>
@@ -258,9 +210,9 @@ impl<'a, D: Digests + Sync> WorldRun<'a, D> {
             (shown_world self.old.world) self.old.end }
         requires last { (last ≡ true) ↔ IsLast (host_of (D.functions (digests_of self.old.world)) self.old.world)
             (shown_world self.old.world) }
-        ensures runs { (outputs : Outputs) → RunsBehind receipts D.functions self.old (suc (shown_world self.old.world).phase) (shown_world self.old.world).phase outputs
+        ensures runs { (outputs : Outputs) → RunsBehind account.now D.functions self.old (suc (shown_world self.old.world).phase) (shown_world self.old.world).phase outputs
             → outputs.vault_after ≡ V.held vault.old → outputs.out_after ≡ O.held out.old
-            → OnOk result (RunsWhole receipts D.functions self.new (suc (shown_world self.old.world).phase) (record outputs { vault_after = V.held vault.new; out_after = O.held out.new })) }
+            → OnOk result (RunsWhole account.now D.functions self.new (suc (shown_world self.old.world).phase) (record outputs { vault_after = V.held vault.new; out_after = O.held out.new })) }
         ensures ended { (last ≡ true) ⊎ (self.new.end ≢ None)
             → OnOk result (IsAtEnd (host_of (D.functions (digests_of self.new.world)) self.new.world) (shown_world self.new.world) self.new.end
             × (self.new.end ≡ None → (shown_world self.new.world).phase ≡ (shown_world self.old.world).phase)) }
@@ -268,14 +220,15 @@ impl<'a, D: Digests + Sync> WorldRun<'a, D> {
         ensures opened { last ≡ false → self.new.end ≡ None
             → OnOk result (IsAtPhase (host_of (D.functions (digests_of self.new.world)) self.new.world) (shown_world self.new.world) self.new.end
             × ((shown_world self.new.world).phase ≡ suc (shown_world self.old.world).phase)) }
-        ensures cut { (outputs : Outputs) → RunsBehind receipts D.functions self.old (suc (shown_world self.old.world).phase) (shown_world self.old.world).phase outputs → outputs.vault_after ≡ V.held vault.old
+        ensures cut { (outputs : Outputs) → RunsBehind account.now D.functions self.old (suc (shown_world self.old.world).phase) (shown_world self.old.world).phase outputs → outputs.vault_after ≡ V.held vault.old
             → outputs.out_after ≡ O.held out.old
-            → OnErr result (IsCutOff (Account.Report receipts) (D.functions (digests_of self.old.world)) (settings_of self.old.world) (requests_of self.old.world)
+            → OnErr result (IsCutOff account.now (D.functions (digests_of self.old.world)) (settings_of self.old.world) (requests_of self.old.world)
             (record outputs { vault_after = V.held vault.new; out_after = O.held out.new })) }
-        ensures cut_round { (outputs : Outputs) → RunsBehind receipts D.functions self.old (suc (shown_world self.old.world).phase) (shown_world self.old.world).phase outputs
+        ensures cut_round { (outputs : Outputs) → RunsBehind account.now D.functions self.old (suc (shown_world self.old.world).phase) (shown_world self.old.world).phase outputs
             → outputs.vault_after ≡ V.held vault.old → outputs.out_after ≡ O.held out.old → result ≡ Err Failure.VaultFault
-            → IsCutInRound (Account.Report receipts) (D.functions (digests_of self.old.world)) (settings_of self.old.world) (requests_of self.old.world)
+            → IsCutInRound account.now (D.functions (digests_of self.old.world)) (settings_of self.old.world) (requests_of self.old.world)
             (record outputs { vault_after = V.held vault.new; out_after = O.held out.new }) }
+        ensures lines { result ≡ Err Failure.WriteFault → TellsLines account.now }
         ensures host { AreOfOneHost self.old.world self.new.world }
         ensures failure { FailsByOutput result }
         ensures vault_fault { result ≡ Err Failure.VaultFault → Rose (V.faults vault.old) (V.faults vault.new) }
@@ -289,8 +242,9 @@ impl<'a, D: Digests + Sync> WorldRun<'a, D> {
         let end = close_phase(&mut self.world, last)?;
         self.end = earlier_end(self.end, end);
         let settled = self.pass_to_seal(rt, last, vault)?;
-        let telling = self.telling(receipts);
-        self.rounds.certify(rt, &settled, &telling, out)
+        let telling = self.telling(account);
+        let rounds = &mut self.rounds;
+        account.certify(rt, self.alloc, rounds, &settled, &telling, out)
     }
 
     // Hands out what all workers logged in a close: it goes to the vault, and the verifiers' runs take it, each in a thread of its
@@ -302,19 +256,19 @@ impl<'a, D: Digests + Sync> WorldRun<'a, D> {
         vault: &mut V,
     ) -> Result<Vec<Verdict>, Failure>
         requires runs { IsUnderWay D.functions self.old (V.held vault.old) }
-        ensures runs { (receipts : Bool) (outputs : Outputs) (past : List Logs) → Runs receipts D.functions self.old past outputs
+        ensures runs { (account : Account) (outputs : Outputs) (past : List Logs) → Runs account D.functions self.old past outputs
             → IsBehindRounds (host_of (D.functions (digests_of self.old.world)) self.old.world) (suc (length past)) (shown_world self.old.world)
             → outputs.vault_after ≡ V.held vault.old
-            → OnOk result (Runs receipts D.functions self.new (past ++ (logs_of (shown_world self.old.world) ∷ [])) (record outputs { vault_after = V.held vault.new })) }
+            → OnOk result (Runs account D.functions self.new (past ++ (logs_of (shown_world self.old.world) ∷ [])) (record outputs { vault_after = V.held vault.new })) }
         ensures handed { OnOk result (shown_world self.new.world ≡ all_handed_out (shown_world self.old.world)) }
         ensures settled { IfOk result (λ settled. AreVerdictsOn self.new.rounds.judged (map (λ fed. fed.run) self.new.rounds.runs) settled.items) }
         ensures end { self.new.end ≡ self.old.end }
-        ensures cut { (receipts : Bool) (outputs : Outputs) → RunsSome receipts D.functions self.old outputs → outputs.vault_after ≡ V.held vault.old
-            → OnErr result (IsCutOff (Account.Report receipts) (D.functions (digests_of self.old.world)) (settings_of self.old.world) (requests_of self.old.world)
+        ensures cut { (account : Account) (outputs : Outputs) → RunsSome account D.functions self.old outputs → outputs.vault_after ≡ V.held vault.old
+            → OnErr result (IsCutOff account (D.functions (digests_of self.old.world)) (settings_of self.old.world) (requests_of self.old.world)
             (record outputs { vault_after = V.held vault.new })) }
-        ensures cut_round { (receipts : Bool) (outputs : Outputs) (closes : ℕ) → RunsBehind receipts D.functions self.old (suc closes) closes outputs
+        ensures cut_round { (account : Account) (outputs : Outputs) (closes : ℕ) → RunsBehind account D.functions self.old (suc closes) closes outputs
             → outputs.vault_after ≡ V.held vault.old
-            → OnErr result (IsCutInRound (Account.Report receipts) (D.functions (digests_of self.old.world)) (settings_of self.old.world) (requests_of self.old.world)
+            → OnErr result (IsCutInRound account (D.functions (digests_of self.old.world)) (settings_of self.old.world) (requests_of self.old.world)
             (record outputs { vault_after = V.held vault.new })) }
         ensures host { AreOfOneHost self.old.world self.new.world }
         ensures failure { FailsByVault result }
@@ -345,19 +299,19 @@ impl<'a, D: Digests + Sync> WorldRun<'a, D> {
             (shown_world self.old.world) self.old.end }
         requires workers { AllByRecursion (λ turn. turn.0 < length (shown_world self.old.world).workers)
             (turns_of (host_of (D.functions (digests_of self.old.world)) self.old.world) (shown_world self.old.world).phase) }
-        ensures runs { (receipts : Bool) (outputs : Outputs)
-            → RunsBehind receipts D.functions self.old (shown_world self.old.world).phase (shown_world self.old.world).phase outputs → outputs.vault_after ≡ V.held vault.old
-            → OnOk result (RunsBehind receipts D.functions self.new (suc (shown_world self.old.world).phase) (shown_world self.old.world).phase
+        ensures runs { (account : Account) (outputs : Outputs)
+            → RunsBehind account D.functions self.old (shown_world self.old.world).phase (shown_world self.old.world).phase outputs → outputs.vault_after ≡ V.held vault.old
+            → OnOk result (RunsBehind account D.functions self.new (suc (shown_world self.old.world).phase) (shown_world self.old.world).phase
             (record outputs { vault_after = V.held vault.new })) }
         ensures served { OnOk result (IsAtClose (host_of (D.functions (digests_of self.new.world)) self.new.world)
             (shown_world self.new.world) self.new.end) }
         ensures same_phase { OnOk result ((shown_world self.new.world).phase ≡ (shown_world self.old.world).phase) }
-        ensures cut { (receipts : Bool) (outputs : Outputs) → RunsBehind receipts D.functions self.old (shown_world self.old.world).phase (shown_world self.old.world).phase outputs → outputs.vault_after ≡ V.held vault.old
-            → OnErr result (IsCutOff (Account.Report receipts) (D.functions (digests_of self.old.world)) (settings_of self.old.world) (requests_of self.old.world)
+        ensures cut { (account : Account) (outputs : Outputs) → RunsBehind account D.functions self.old (shown_world self.old.world).phase (shown_world self.old.world).phase outputs → outputs.vault_after ≡ V.held vault.old
+            → OnErr result (IsCutOff account (D.functions (digests_of self.old.world)) (settings_of self.old.world) (requests_of self.old.world)
             (record outputs { vault_after = V.held vault.new })) }
-        ensures cut_round { (receipts : Bool) (outputs : Outputs) → RunsBehind receipts D.functions self.old (shown_world self.old.world).phase (shown_world self.old.world).phase outputs
+        ensures cut_round { (account : Account) (outputs : Outputs) → RunsBehind account D.functions self.old (shown_world self.old.world).phase (shown_world self.old.world).phase outputs
             → outputs.vault_after ≡ V.held vault.old
-            → OnErr result (IsCutInRound (Account.Report receipts) (D.functions (digests_of self.old.world)) (settings_of self.old.world) (requests_of self.old.world)
+            → OnErr result (IsCutInRound account (D.functions (digests_of self.old.world)) (settings_of self.old.world) (requests_of self.old.world)
             (record outputs { vault_after = V.held vault.new })) }
         ensures host { AreOfOneHost self.old.world self.new.world }
         ensures failure { FailsByVault result }
@@ -383,64 +337,26 @@ impl<'a, D: Digests + Sync> WorldRun<'a, D> {
     }
 
     /// A close, which is the last one at the script's end, or where a clock ended in its phase. The answer says which call comes next.
-    fn close_next<R: Threads + Sync, V: Sink, O: Sink>(
-        &mut self,
-        rt: &R,
-        receipts: bool,
-        vault: &mut V,
-        out: &mut O,
-    ) -> Result<NextCall, Failure>
-        requires runs { IsUnderWayBehind D.functions self.old (suc (shown_world self.old.world).phase) (shown_world self.old.world).phase (V.held vault.old) }
-        requires served { IsAtClose (host_of (D.functions (digests_of self.old.world)) self.old.world)
-            (shown_world self.old.world) self.old.end }
-        ensures stands { (outputs : Outputs) → StandsBefore NextCall.Close receipts D.functions self.old outputs
-            → outputs.vault_after ≡ V.held vault.old → outputs.out_after ≡ O.held out.old
-            → IfOk result (λ call. StandsBefore call receipts D.functions self.new (record outputs { vault_after = V.held vault.new; out_after = O.held out.new })) }
-        ensures call { result ≢ Ok NextCall.Close }
-        ensures fewer { IfOk result (λ call. left_by call (State.Served self.new) < left_by NextCall.Close (State.Served self.old)) }
-        ensures cut { (outputs : Outputs) → StandsBefore NextCall.Close receipts D.functions self.old outputs
-            → outputs.vault_after ≡ V.held vault.old → outputs.out_after ≡ O.held out.old
-            → OnErr result (IsCutOff (Account.Report receipts) (D.functions (digests_of self.old.world)) (settings_of self.old.world) (requests_of self.old.world)
-            (record outputs { vault_after = V.held vault.new; out_after = O.held out.new })) }
-        ensures cut_round { (outputs : Outputs) → StandsBefore NextCall.Close receipts D.functions self.old outputs
-            → outputs.vault_after ≡ V.held vault.old → outputs.out_after ≡ O.held out.old → result ≡ Err Failure.VaultFault
-            → IsCutInRound (Account.Report receipts) (D.functions (digests_of self.old.world)) (settings_of self.old.world) (requests_of self.old.world)
-            (record outputs { vault_after = V.held vault.new; out_after = O.held out.new }) }
-        ensures host { AreOfOneHost self.old.world self.new.world }
-        ensures failure { FailsByOutput result }
-        ensures vault_fault { result ≡ Err Failure.VaultFault → Rose (V.faults vault.old) (V.faults vault.new) }
-        ensures write_fault { result ≡ Err Failure.WriteFault → Rose (O.faults out.old) (O.faults out.new) }
-        ensures vault_never_falls { V.faults vault.old ≤ V.faults vault.new }
-        ensures never_falls { O.faults out.old ≤ O.faults out.new }
-        ensures name { V.name vault.new ≡ V.name vault.old }
-    {
-        let last = self.is_last_close();
-        self.close_epoch(rt, last, receipts, vault, out)?;
-        Ok(call_behind(last, self.end))
-    }
-
-    /// The same of a run of which this is written: of a summary the lines go to a sink that drops them.
     pub(crate) fn close<R: Threads + Sync, V: Sink, O: Sink>(
         &mut self,
         rt: &R,
         account: &Account,
-        dropped: &mut SureSink,
         vault: &mut V,
         out: &mut O,
     ) -> Result<NextCall, Failure>
         requires runs { IsUnderWayBehind D.functions self.old (suc (shown_world self.old.world).phase) (shown_world self.old.world).phase (V.held vault.old) }
         requires served { IsAtClose (host_of (D.functions (digests_of self.old.world)) self.old.world)
             (shown_world self.old.world) self.old.end }
-        ensures stands { (outputs : Outputs) → StandsFor account.now NextCall.Close dropped.old.held D.functions self.old outputs
+        ensures stands { (outputs : Outputs) → StandsBefore NextCall.Close account.now D.functions self.old outputs
             → outputs.vault_after ≡ V.held vault.old → outputs.out_after ≡ O.held out.old
-            → IfOk result (λ call. StandsFor account.now call dropped.new.held D.functions self.new (record outputs { vault_after = V.held vault.new; out_after = O.held out.new })) }
+            → IfOk result (λ call. StandsBefore call account.now D.functions self.new (record outputs { vault_after = V.held vault.new; out_after = O.held out.new })) }
         ensures call { result ≢ Ok NextCall.Close }
         ensures fewer { IfOk result (λ call. left_by call (State.Served self.new) < left_by NextCall.Close (State.Served self.old)) }
-        ensures cut { (outputs : Outputs) → StandsFor account.now NextCall.Close dropped.old.held D.functions self.old outputs
+        ensures cut { (outputs : Outputs) → StandsBefore NextCall.Close account.now D.functions self.old outputs
             → outputs.vault_after ≡ V.held vault.old → outputs.out_after ≡ O.held out.old
             → OnErr result (IsCutOff account.now (D.functions (digests_of self.old.world)) (settings_of self.old.world) (requests_of self.old.world)
             (record outputs { vault_after = V.held vault.new; out_after = O.held out.new })) }
-        ensures cut_round { (outputs : Outputs) → StandsFor account.now NextCall.Close dropped.old.held D.functions self.old outputs
+        ensures cut_round { (outputs : Outputs) → StandsBefore NextCall.Close account.now D.functions self.old outputs
             → outputs.vault_after ≡ V.held vault.old → outputs.out_after ≡ O.held out.old → result ≡ Err Failure.VaultFault
             → IsCutInRound account.now (D.functions (digests_of self.old.world)) (settings_of self.old.world) (requests_of self.old.world)
             (record outputs { vault_after = V.held vault.new; out_after = O.held out.new }) }
@@ -453,10 +369,9 @@ impl<'a, D: Digests + Sync> WorldRun<'a, D> {
         ensures never_falls { O.faults out.old ≤ O.faults out.new }
         ensures name { V.name vault.new ≡ V.name vault.old }
     {
-        match account {
-            Account::Report { receipts } => self.close_next(rt, *receipts, vault, out),
-            Account::Summary(_) => self.close_next(rt, false, vault, dropped),
-        }
+        let last = self.is_last_close();
+        self.close_epoch(rt, last, account, vault, out)?;
+        Ok(call_behind(last, self.end))
     }
 
     // Whether the close that comes is the last one: at the script's end, or where a clock ended in the phase.

@@ -10,9 +10,9 @@ use Rattle.verifier_threads.specs.declared.runner.NextCall.TheVariants as calls
 use Rattle.verifier_threads.specs.declared.runner.State.{State}
 use Rattle.verifier_threads.specs.declared.runner.State.TheVariants as states
 use Rattle.verifier_threads.specs.Serving.{IsCutOff, IsCutInRound}
-use Rattle.verifier_threads.specs.Runners.{StandsFor, TellsLines, left_by}
+use Rattle.verifier_threads.specs.Runners.{StandsBefore, TellsLines, left_by}
 use Rattle.verifier_threads.proofs.PassingLemmas.{err_any, same-fault}
-use Rattle.verifier_threads.proofs.CallLemmas.{run_of-same, run_of-these, stands-of, close-needs}
+use Rattle.verifier_threads.proofs.CallLemmas.{run_of-same, run_of-these, stands-of}
 use Rattle.verifier_threads.proofs.runner.Runner.close_epoch.Goals as goal
 
 pub close-requires-clause-runs : goal.close-requires-clause-runs
@@ -20,14 +20,14 @@ close-requires-clause-runs g c κs within =
     let serving = c.requires.serving in
     let stands = stands-of g.D.Digests.functions serving.1 serving.2 serving.3 serving.0 c.args.self.now serving.4 calls.Close (states.Served c.in-Served.served)
     c.requires.next c.in-Served.is serving.5 in
-    (close-needs g.D.Digests.functions c.in-Served.served (g.V.Sink.held c.args.vault.now) c.args.self.now.dropped.held serving.0 serving.4 stands.stands serving.6).0
+    (serving.0, serving.4, stands.stands.0, serving.6)
 
 pub close-requires-clause-served : goal.close-requires-clause-served
 close-requires-clause-served g c κs within =
     let serving = c.requires.serving in
     let stands = stands-of g.D.Digests.functions serving.1 serving.2 serving.3 serving.0 c.args.self.now serving.4 calls.Close (states.Served c.in-Served.served)
     c.requires.next c.in-Served.is serving.5 in
-    (close-needs g.D.Digests.functions c.in-Served.served (g.V.Sink.held c.args.vault.now) c.args.self.now.dropped.held serving.0 serving.4 stands.stands serving.6).1
+    stands.stands.1
 
 pub unreachable-requires : goal.unreachable-requires
 unreachable-requires g c =
@@ -45,10 +45,10 @@ returns-clause-stands g c = λ account own settings script outputs stands held w
       account_is = stands.account_is;
       state = record {
         is_of = run_of-same functions own settings script served c.close.new.self c.close.ensures.host was.is_of;
-        stands = subst (λ (a : Account). StandsFor a c.in_ok-self-in-Served.field-0 c.close.new.dropped.held functions c.close.new.self
+        stands = subst (λ (a : Account). StandsBefore c.in_ok-self-in-Served.field-0 a functions c.close.new.self
             (record outputs { vault_after = g.V.Sink.held c.close.new.vault; out_after = g.O.Sink.held c.close.new.out })) stands.account_is
             (c.in_ok-self-in-Served.ensures.stands outputs
-            (subst (λ (a : Account). StandsFor a calls.Close c.args.self.now.dropped.held functions served outputs) (sym stands.account_is) was.stands) held written);
+            (subst (λ (a : Account). StandsBefore calls.Close a functions served outputs) (sym stands.account_is) was.stands) held written);
       };
     }
 
@@ -73,7 +73,7 @@ returns-in_err-self-in-Served-clause-cut g c = λ account own settings script ou
     (record outputs { vault_after = g.V.Sink.held c.close.new.vault; out_after = g.O.Sink.held c.close.new.out }))
     (subst (λ (a : Account). IsCutOff a (functions (digests_of served.world)) served.world.settings (requests_of served.world) (record outputs { vault_after = g.V.Sink.held c.close.new.vault; out_after = g.O.Sink.held c.close.new.out })) stands.account_is
     (c.in_err-self-in-Served.ensures.cut outputs
-    (subst (λ (a : Account). StandsFor a calls.Close c.args.self.now.dropped.held functions served outputs) (sym stands.account_is) was.stands) held written)))
+    (subst (λ (a : Account). StandsBefore calls.Close a functions served outputs) (sym stands.account_is) was.stands) held written)))
 
 pub returns-in_err-self-in-Served-clause-cut_round : goal.returns-in_err-self-in-Served-clause-cut_round
 returns-in_err-self-in-Served-clause-cut_round g c = λ account own settings script outputs stands held written fault.
@@ -86,7 +86,7 @@ returns-in_err-self-in-Served-clause-cut_round g c = λ account own settings scr
     (record outputs { vault_after = g.V.Sink.held c.close.new.vault; out_after = g.O.Sink.held c.close.new.out }))
     (subst (λ (a : Account). IsCutInRound a (functions (digests_of served.world)) served.world.settings (requests_of served.world) (record outputs { vault_after = g.V.Sink.held c.close.new.vault; out_after = g.O.Sink.held c.close.new.out })) stands.account_is
     (c.in_err-self-in-Served.ensures.cut_round outputs
-    (subst (λ (a : Account). StandsFor a calls.Close c.args.self.now.dropped.held functions served outputs) (sym stands.account_is) was.stands) held written
+    (subst (λ (a : Account). StandsBefore calls.Close a functions served outputs) (sym stands.account_is) was.stands) held written
     (same-fault c.from_residual.result p.0 _ fault p.1 p.2)))
 
 pub returns-in_err-self-in-Served-clause-lines : goal.returns-in_err-self-in-Served-clause-lines

@@ -1,4 +1,4 @@
-use Rattle.std.proofs.Common.{◌≡◌, ℕ, List, Option, IfOk, OnErr, sym, subst}
+use Rattle.std.proofs.Common.{◌≡◌, List, IfOk, OnErr, sym, subst}
 use Rattle.record_hash.specs.Functions.{DigestFunctions}
 use Rattle.script_text.specs.declared.task.Task.{Task}
 use Rattle.host_world.specs.declared.settings.Settings.{Settings}
@@ -8,45 +8,39 @@ use Rattle.verifier_threads.specs.declared.runner.NextCall.TheVariants as calls
 use Rattle.verifier_threads.specs.declared.runner.State.TheVariants as states
 use Rattle.verifier_threads.specs.declared.ending.RunEnd.TheVariants as ends
 use Rattle.verifier_threads.specs.Serving.{Outputs, IfDone, HoldsWhatIsCertified, IsServed, IsCutAtEnd}
-use Rattle.verifier_threads.specs.Runners.{StandsFor}
-use Rattle.verifier_threads.proofs.CallLemmas.{run_of-these, stands-of, finish-needs, finish-runs, if_ok-then}
+use Rattle.verifier_threads.specs.Runners.{StandsBefore}
+use Rattle.verifier_threads.proofs.CallLemmas.{run_of-these, stands-of, if_ok-then}
 use Rattle.verifier_threads.proofs.runner.Runner.finish.Goals as goal
 
 pub end_with-requires : goal.end_with-requires
 end_with-requires g c =
-    let held = c.requires.serving.0 in
     let serving = c.requires.serving.1 in
     let functions = g.D.Digests.functions in
     let stands = stands-of functions serving.1 serving.2 serving.3 serving.0 c.args.self.now serving.4 calls.Finish (states.Served c.in-Served.served)
     c.requires.next c.in-Served.is serving.5 in
-    let needs = finish-needs functions c.in-Served.served held c.args.self.now.dropped.held serving.0 serving.4 stands.stands in
-    record { runs = needs.0; ended = needs.1 }
+    record { runs = (serving.0, serving.4, stands.stands.0); ended = stands.stands.1 }
 
 pub returns-in-Served-clause-served : goal.returns-in-Served-clause-served
 returns-in-Served-clause-served g c = λ account own settings script outputs stands written.
     let functions = g.D.Digests.functions in
     let served = c.in-Served.served in
-    let dropped = c.args.self.now.dropped.held in
     let now : Outputs = record outputs { out_after = g.O.Sink.held c.end_with.new.out } in
     let was = stands-of functions own settings script account c.args.self.now outputs calls.Finish (states.Served served) c.requires.next c.in-Served.is stands in
     run_of-these functions own settings script served was.is_of
     (λ (f : DigestFunctions) (s : Settings) (t : List (List Task)). IfOk c.end_with.result (λ end. IsServed account f s t end now))
     (subst (λ (a : Account). IfOk c.end_with.result (λ end. IsServed a (functions (digests_of served.world)) served.world.settings (requests_of served.world) end now)) stands.account_is
-    (c.end_with.ensures.served dropped outputs
-    (subst (λ (a : Account). StandsFor a calls.Finish dropped functions served outputs) (sym stands.account_is) was.stands) written))
+    (c.end_with.ensures.served outputs (subst (λ (a : Account). StandsBefore calls.Finish a functions served outputs) (sym stands.account_is) was.stands).0 written))
 
 pub returns-in-Served-clause-cut : goal.returns-in-Served-clause-cut
 returns-in-Served-clause-cut g c = λ account own settings script outputs stands written.
     let functions = g.D.Digests.functions in
     let served = c.in-Served.served in
-    let dropped = c.args.self.now.dropped.held in
     let now : Outputs = record outputs { out_after = g.O.Sink.held c.end_with.new.out } in
     let was = stands-of functions own settings script account c.args.self.now outputs calls.Finish (states.Served served) c.requires.next c.in-Served.is stands in
     run_of-these functions own settings script served was.is_of
     (λ (f : DigestFunctions) (s : Settings) (t : List (List Task)). OnErr c.end_with.result (IsCutAtEnd account f s t now))
     (subst (λ (a : Account). OnErr c.end_with.result (IsCutAtEnd a (functions (digests_of served.world)) served.world.settings (requests_of served.world) now)) stands.account_is
-    (c.end_with.ensures.cut dropped outputs
-    (subst (λ (a : Account). StandsFor a calls.Finish dropped functions served outputs) (sym stands.account_is) was.stands) written))
+    (c.end_with.ensures.cut outputs (subst (λ (a : Account). StandsBefore calls.Finish a functions served outputs) (sym stands.account_is) was.stands).0 written))
 
 pub returns-in-Unserved-clause-served : goal.returns-in-Unserved-clause-served
 returns-in-Unserved-clause-served g c = λ account own settings script outputs stands written.
@@ -70,18 +64,13 @@ pub returns-in-Served-clause-holds : goal.returns-in-Served-clause-holds
 returns-in-Served-clause-holds g c = λ account own settings script outputs stands.
     let functions = g.D.Digests.functions in
     let served = c.in-Served.served in
-    let dropped = c.args.self.now.dropped.held in
-    let held = c.requires.serving.0 in
     let now = c.end_with.new.self in
     let result = c.end_with.result in
     let was = stands-of functions own settings script account c.args.self.now outputs calls.Finish (states.Served served) c.requires.next c.in-Served.is stands in
-    let runs = finish-runs functions served held dropped account outputs was.stands in
     run_of-these functions own settings script served was.is_of
     (λ (f : DigestFunctions) (s : Settings) (t : List (List Task)). IfOk result (λ end. IfDone end (HoldsWhatIsCertified f s (shown_world now.world) outputs.vault outputs.vault_after)))
     (subst (λ w. IfOk result (λ end. IfDone end (HoldsWhatIsCertified (functions (digests_of w)) w.settings (shown_world now.world) outputs.vault outputs.vault_after))) c.end_with.ensures.world
-    (subst (λ (after : Option (List ℕ)). IfOk result (λ end. IfDone end (HoldsWhatIsCertified (functions (digests_of now.world)) now.world.settings (shown_world now.world) outputs.vault after))) runs.4
-    (subst (λ (vault : Option (List ℕ)). IfOk result (λ end. IfDone end (HoldsWhatIsCertified (functions (digests_of now.world)) now.world.settings (shown_world now.world) vault runs.1.vault_after))) runs.3
-    (c.end_with.ensures.holds runs.0 runs.1 runs.2))))
+    (c.end_with.ensures.holds outputs (subst (λ (a : Account). StandsBefore calls.Finish a functions served outputs) (sym stands.account_is) was.stands).0))
 
 pub returns-in-Unserved-clause-holds : goal.returns-in-Unserved-clause-holds
 returns-in-Unserved-clause-holds g c = λ account own settings script outputs stands.

@@ -15,7 +15,7 @@ use Rattle.host_world.specs.Behind.{AreInRange, HaveShortValues, host_of}
 use Rattle.verifier_threads.specs.Serving.{IsCutOff, IsCutInHeader, setup_end}
 use Rattle.verifier_threads.specs.Running.{RunsBehind, IsAtPhase}
 use Rattle.verifier_threads.proofs.PassingLemmas.{err_any}
-use Rattle.verifier_threads.proofs.CallLemmas.{of-these, new-stands}
+use Rattle.verifier_threads.proofs.CallLemmas.{of-these}
 use Rattle.verifier_threads.proofs.runner.Runner.make.Goals as goal
 
 pub new-requires-in-Ok : goal.new-requires-in-Ok
@@ -25,7 +25,7 @@ new-requires-in-Ok g c =
     let suffices : settings.shards ≤ settings.header.end =
     elim (cases_lt settings.header.end settings.shards) [
       | inl short ↦
-          let end = (c.new-2.ensures.clock_end (setup_end settings)).1 (short, refl) in
+          let end = (c.new.ensures.clock_end (setup_end settings)).1 (short, refl) in
           absurd (let both = sym c.in-Ok.is ∙ end in cc)
       | inr enough ↦ enough
     ] in
@@ -39,16 +39,6 @@ new-requires-in-Ok g c =
           (subst (HaveShortValues settings.header) (sym says.asked) (c.scripts_ask_for_keys_in_range.ensures.values settings.header c.args.requests.now c.requires.tasks));
       some = omega (arith, c.a_script_has_a_phase.ensures.some, ap (λ (script : List (List Task)). length script) says.asked);
     }
-
-pub returns-in_err-dropped-clause-cut : goal.returns-in_err-dropped-clause-cut
-returns-in_err-dropped-clause-cut g c = λ held.
-    let vault = g.V.Sink.held c.args.vault.now in
-    err_any c.from_residual.result
-    (c.a_header_begins_the_bundle.ensures.cut c.args.account (g.D.Digests.functions c.args.d.now) c.args.requests.now vault vault held (GrowsByFront-none vault _))
-
-pub returns-in_err-dropped-clause-header : goal.returns-in_err-dropped-clause-header
-returns-in_err-dropped-clause-header g c = λ held.
-    err_any c.from_residual.result (record { front = GrowsByFront-none (g.V.Sink.held c.args.vault.now) _; out = refl })
 
 pub returns-in-Err-Memory-clause-cut : goal.returns-in-Err-Memory-clause-cut
 returns-in-Err-Memory-clause-cut g c = λ held.
@@ -93,18 +83,16 @@ returns-in_ok-served-in-Ok-clause-stands g c = λ held.
           script_is = ap (λ (w : code.World _). requests_of w) made.world ∙ says.asked;
           tasks = c.requires.tasks;
         };
-        stands = new-stands functions run c.in_ok-dropped.dropped.held vault vault'
-            (λ receipts out. (
-              subst (λ (p : ℕ). RunsBehind receipts functions run p p (record { vault = vault; vault_after = vault'; out = out; out_after = out })) (sym phase) (made.runs receipts out),
-              subst (λ (w : code.World _). IsAtPhase (host_of (functions (digests_of w)) w) (shown_world w) run.end) (sym made.world) made.begins,
-            ))
-            c.args.account held;
+        stands = (
+          subst (λ (p : ℕ). RunsBehind c.args.account functions run p p (record { vault = vault; vault_after = vault'; out = held; out_after = held })) (sym phase) (made.runs c.args.account held),
+          subst (λ (w : code.World _). IsAtPhase (host_of (functions (digests_of w)) w) (shown_world w) run.end) (sym made.world) made.begins,
+        );
       };
     }
 
 pub returns-in_ok-served-in-Ok-clause-unserved : goal.returns-in_ok-served-in-Ok-clause-unserved
 returns-in_ok-served-in-Ok-clause-unserved g c = λ short.
-    let end = (c.new-2.ensures.clock_end (setup_end c.args.settings.now)).1 (short, refl) in
+    let end = (c.new.ensures.clock_end (setup_end c.args.settings.now)).1 (short, refl) in
     absurd (let both = sym c.in-Ok.is ∙ end in cc)
 
 pub returns-in_ok-served-in-Ok-clause-left : goal.returns-in_ok-served-in-Ok-clause-left
@@ -126,7 +114,7 @@ returns-in_err-rounds-in-Err-ClockEnd-clause-header g c = λ held.
 
 pub returns-in_ok-rounds-in-Err-ClockEnd-clause-stands : goal.returns-in_ok-rounds-in-Err-ClockEnd-clause-stands
 returns-in_ok-rounds-in-Err-ClockEnd-clause-stands g c = λ held.
-    let is = (c.new-2.ensures.clock_end c.in-Err-ClockEnd.end).0 (c.in-Err-ClockEnd.is ∙ ap (λ fault. Err fault) c.in-Err-ClockEnd.field-0-is) in
+    let is = (c.new.ensures.clock_end c.in-Err-ClockEnd.end).0 (c.in-Err-ClockEnd.is ∙ ap (λ fault. Err fault) c.in-Err-ClockEnd.field-0-is) in
     record {
       account_is = refl;
       state = (
@@ -144,6 +132,6 @@ returns-in_ok-rounds-in-Err-ClockEnd-clause-stands g c = λ held.
 
 pub returns-in_ok-rounds-in-Err-ClockEnd-clause-begins : goal.returns-in_ok-rounds-in-Err-ClockEnd-clause-begins
 returns-in_ok-rounds-in-Err-ClockEnd-clause-begins g c = λ enough.
-    let is = (c.new-2.ensures.clock_end c.in-Err-ClockEnd.end).0 (c.in-Err-ClockEnd.is ∙ ap (λ fault. Err fault) c.in-Err-ClockEnd.field-0-is) in
+    let is = (c.new.ensures.clock_end c.in-Err-ClockEnd.end).0 (c.in-Err-ClockEnd.is ∙ ap (λ fault. Err fault) c.in-Err-ClockEnd.field-0-is) in
     let short = is.0 in
     absurd (omega (arith, enough, short))

@@ -11,7 +11,7 @@ use Rattle.verifier_threads.specs.Serving.{IsCutOff, IsCutInRound}
 use Rattle.verifier_threads.specs.Running.{RunsBehind}
 use Rattle.verifier_threads.specs.Runners.{left_by}
 use Rattle.verifier_threads.proofs.PassingLemmas.{err_any}
-use Rattle.verifier_threads.proofs.CallLemmas.{run_of-same, run_of-these, run_of-tasks, stands-of, phase-needs, phase-turns, phase-leaves, phase-cut, phase-cut_round}
+use Rattle.verifier_threads.proofs.CallLemmas.{run_of-same, run_of-these, run_of-tasks, stands-of, phase-turns}
 use Rattle.verifier_threads.proofs.runner.Runner.phase.Goals as goal
 
 pub phase-requires-clause-runs : goal.phase-requires-clause-runs
@@ -19,25 +19,24 @@ phase-requires-clause-runs g c κs within =
     let serving = c.requires.serving in
     let stands = stands-of g.D.Digests.functions serving.1 serving.2 serving.3 serving.0 c.args.self.now serving.4 calls.Phase (states.Served c.in-Served.served)
     c.requires.next c.in-Served.is serving.5 in
-    (phase-needs g.D.Digests.functions c.in-Served.served (g.V.Sink.held c.args.vault.now) c.args.self.now.dropped.held serving.0 serving.4 stands.stands serving.6).0
+    (serving.0, serving.4, stands.stands.0, serving.6)
 
 pub phase-requires-clause-begins : goal.phase-requires-clause-begins
 phase-requires-clause-begins g c κs within =
     let serving = c.requires.serving in
     let stands = stands-of g.D.Digests.functions serving.1 serving.2 serving.3 serving.0 c.args.self.now serving.4 calls.Phase (states.Served c.in-Served.served)
     c.requires.next c.in-Served.is serving.5 in
-    (phase-needs g.D.Digests.functions c.in-Served.served (g.V.Sink.held c.args.vault.now) c.args.self.now.dropped.held serving.0 serving.4 stands.stands serving.6).1
+    stands.stands.1
 
 pub phase-requires-clause-workers : goal.phase-requires-clause-workers
 phase-requires-clause-workers g c κs within =
     let serving = c.requires.serving in
     let functions = g.D.Digests.functions in
     let served = c.in-Served.served in
-    let held = g.V.Sink.held c.args.vault.now in
-    let dropped = c.args.self.now.dropped.held in
     let stands = stands-of functions serving.1 serving.2 serving.3 serving.0 c.args.self.now serving.4 calls.Phase (states.Served served) c.requires.next c.in-Served.is serving.5 in
-    phase-turns functions served held dropped (run_of-tasks functions serving.1 serving.2 serving.3 served stands.is_of)
-    (phase-needs functions served held dropped serving.0 serving.4 stands.stands serving.6).0
+    let phase = (shown_world served.world).phase in
+    phase-turns functions served phase phase (g.V.Sink.held c.args.vault.now) (run_of-tasks functions serving.1 serving.2 serving.3 served stands.is_of)
+    (serving.0, serving.4, stands.stands.0, serving.6)
 
 pub unreachable-requires : goal.unreachable-requires
 unreachable-requires g c =
@@ -51,8 +50,6 @@ returns-clause-stands g c = λ account own settings script outputs stands held.
     let functions = g.D.Digests.functions in
     let served = c.in-Served.served in
     let new = c.phase.new.self in
-    let dropped = c.args.self.now.dropped.held in
-    let before = g.V.Sink.held c.args.vault.now in
     let vault' = g.V.Sink.held c.phase.new.vault in
     let says = c.in_ok-phase-in-Served.ensures in
     let was = stands-of functions own settings script account c.args.self.now outputs calls.Phase (states.Served served) c.requires.next c.in-Served.is stands in
@@ -60,12 +57,10 @@ returns-clause-stands g c = λ account own settings script outputs stands held.
       account_is = stands.account_is;
       state = record {
         is_of = run_of-same functions own settings script served new c.phase.ensures.host was.is_of;
-        stands = phase-leaves functions served new before vault' dropped
-            (λ receipts out at vault. (
-              subst (λ (p : ℕ). RunsBehind receipts functions new (suc p) p (record out { vault_after = vault' })) (sym says.same_phase) (says.runs receipts out at.0 vault),
-              says.served,
-            ))
-            account outputs was.stands held;
+        stands = (
+          subst (λ (p : ℕ). RunsBehind account functions new (suc p) p (record outputs { vault_after = vault' })) (sym says.same_phase) (says.runs account outputs was.stands.0 held),
+          says.served,
+        );
       };
     }
 
@@ -83,22 +78,20 @@ pub returns-in_err-phase-in-Served-clause-cut : goal.returns-in_err-phase-in-Ser
 returns-in_err-phase-in-Served-clause-cut g c = λ account own settings script outputs stands held.
     let functions = g.D.Digests.functions in
     let served = c.in-Served.served in
-    let dropped = c.args.self.now.dropped.held in
     let vault' = g.V.Sink.held c.phase.new.vault in
     let was = stands-of functions own settings script account c.args.self.now outputs calls.Phase (states.Served served) c.requires.next c.in-Served.is stands in
     err_any c.from_residual.result
     (run_of-these functions own settings script served was.is_of
     (λ (f : DigestFunctions) (s : Settings) (t : List (List Task)). IsCutOff account f s t (record outputs { vault_after = vault' }))
-    (phase-cut functions served (g.V.Sink.held c.args.vault.now) vault' dropped (λ receipts out at vault. c.in_err-phase-in-Served.ensures.cut receipts out at.0 vault) account outputs was.stands held))
+    (c.in_err-phase-in-Served.ensures.cut account outputs was.stands.0 held))
 
 pub returns-in_err-phase-in-Served-clause-cut_round : goal.returns-in_err-phase-in-Served-clause-cut_round
 returns-in_err-phase-in-Served-clause-cut_round g c = λ account own settings script outputs stands held.
     let functions = g.D.Digests.functions in
     let served = c.in-Served.served in
-    let dropped = c.args.self.now.dropped.held in
     let vault' = g.V.Sink.held c.phase.new.vault in
     let was = stands-of functions own settings script account c.args.self.now outputs calls.Phase (states.Served served) c.requires.next c.in-Served.is stands in
     err_any c.from_residual.result
     (run_of-these functions own settings script served was.is_of
     (λ (f : DigestFunctions) (s : Settings) (t : List (List Task)). IsCutInRound account f s t (record outputs { vault_after = vault' }))
-    (phase-cut_round functions served (g.V.Sink.held c.args.vault.now) vault' dropped (λ receipts out at vault. c.in_err-phase-in-Served.ensures.cut_round receipts out at.0 vault) account outputs was.stands held))
+    (c.in_err-phase-in-Served.ensures.cut_round account outputs was.stands.0 held))

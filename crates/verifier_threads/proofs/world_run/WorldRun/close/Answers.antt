@@ -1,96 +1,63 @@
-use Rattle.std.proofs.Common.{false, IfOk, OnErr, sym, subst, refl}
-use Rattle.host_world.specs.Shown.{digests_of, requests_of}
-use Rattle.verifier_threads.specs.declared.accounts.Account.{Account}
+use Rattle.std.proofs.Common.{◌≡◌, ◌<◌, ◌-◌, ℕ, suc, List, length, map, Ok, sym, ap, subst, arith}
+use Rattle.std.proofs.lemmas.List.{length-map}
+use Rattle.std.proofs.lemmas.Result.{err_from_is_err_and}
+use Rattle.script_text.specs.declared.task.Task.{Task}
+use Rattle.host_world.specs.ShippedHost.{turn_of}
+use Rattle.host_world.specs.Shown.{shown_world, requests_of}
 use Rattle.verifier_threads.specs.declared.runner.NextCall.TheVariants as calls
-use Rattle.verifier_threads.specs.Serving.{IsCutOff, IsCutInRound}
-use Rattle.verifier_threads.specs.Runners.{StandsBefore, StandsFor, StandsUnwritten, TellsLines}
-use Rattle.verifier_threads.proofs.PassingLemmas.{err_then}
-use Rattle.verifier_threads.proofs.CallLemmas.{if_ok-then, never-rose, lines_to, close-leaves, close-cut, close-cut_round}
+use Rattle.verifier_threads.specs.declared.runner.State.TheVariants as states
+use Rattle.verifier_threads.specs.Serving.{Outputs}
+use Rattle.verifier_threads.specs.Running.{RunsBehind}
+use Rattle.verifier_threads.specs.Runners.{StandsBefore, left_by}
+use Rattle.verifier_threads.proofs.PassingLemmas.{err_any, whole-behind, same-fault}
+use Rattle.verifier_threads.proofs.EndingLemmas.{whole-to_end}
+use Rattle.verifier_threads.proofs.PhaseLemmas.{next-by}
 use Rattle.verifier_threads.proofs.world_run.WorldRun.close.Goals as goal
 
-pub returns-in-Report-clause-stands : goal.returns-in-Report-clause-stands
-returns-in-Report-clause-stands g c = λ outputs stands held written.
+pub returns-clause-stands : goal.returns-clause-stands
+returns-clause-stands g c = λ outputs stands held written.
     let functions = g.D.Digests.functions in
-    let dropped = c.args.dropped.now.held in
-    let now = record outputs { vault_after = g.V.Sink.held c.close_next.new.vault; out_after = g.O.Sink.held c.close_next.new.out } in
-    subst (λ (a : Account). IfOk c.close_next.result (λ call. StandsFor a call dropped functions c.close_next.new.self now)) (sym c.in-Report.is)
-    (c.close_next.ensures.stands outputs
-    (subst (λ (a : Account). StandsFor a calls.Close dropped functions c.args.self.now outputs) c.in-Report.is stands) held written)
+    let old = c.args.self.now.world in
+    let new = c.close_epoch.new.self in
+    let phase = (shown_world old).phase in
+    let says = c.in_ok-close_epoch.ensures in
+    let now : Outputs = record outputs { vault_after = g.V.Sink.held c.close_epoch.new.vault; out_after = g.O.Sink.held c.close_epoch.new.out } in
+    let whole = says.runs outputs stands.0 held written in
+    next-by (λ call. StandsBefore call c.args.account.now functions new now) c.is_last_close-last.result new.end c.call_behind.result c.call_behind.ensures.over c.call_behind.ensures.going
+    (λ over. let at = says.ended over in (whole-to_end c.args.account.now functions new phase now whole at.0 at.1, at.0))
+    (λ going none'.
+    let opened = says.opened going none' in (
+      subst (λ (p : ℕ). RunsBehind c.args.account.now functions new p p now) (sym opened.1) (whole-behind c.args.account.now functions new (suc phase) now whole),
+      opened.0,
+    ))
 
-pub returns-in-Report-clause-cut : goal.returns-in-Report-clause-cut
-returns-in-Report-clause-cut g c = λ outputs stands held written.
-    let functions = g.D.Digests.functions in
+pub returns-clause-call : goal.returns-clause-call
+returns-clause-call g c =
+    next-by (λ call. Ok call ≡ Ok calls.Close → ⊥) c.is_last_close-last.result c.close_epoch.new.self.end c.call_behind.result c.call_behind.ensures.over c.call_behind.ensures.going
+    (λ over is. cc) (λ going none' is. cc)
+
+pub returns-clause-fewer : goal.returns-clause-fewer
+returns-clause-fewer g c =
     let old = c.args.self.now in
-    let dropped = c.args.dropped.now.held in
-    let now = record outputs { vault_after = g.V.Sink.held c.close_next.new.vault; out_after = g.O.Sink.held c.close_next.new.out } in
-    subst (λ (a : Account). OnErr c.close_next.result (IsCutOff a (functions (digests_of old.world)) old.world.settings (requests_of old.world) now)) (sym c.in-Report.is)
-    (c.close_next.ensures.cut outputs
-    (subst (λ (a : Account). StandsFor a calls.Close dropped functions old outputs) c.in-Report.is stands) held written)
+    let new = c.close_epoch.new.self in
+    let size = length-map (requests_of old.world) (map turn_of) in
+    let within = c.requires.served.served.served.within in
+    let same : length (requests_of new.world) ≡ length (requests_of old.world) = ap (λ (script : List (List Task)). length script) c.close_epoch.ensures.host.requests in
+    next-by (λ call. left_by call (states.Served new) < length (requests_of old.world) - (shown_world old.world).phase)
+    c.is_last_close-last.result new.end c.call_behind.result c.call_behind.ensures.over c.call_behind.ensures.going
+    (λ over. omega (arith, size, within))
+    (λ going none'. let opened = c.in_ok-close_epoch.ensures.opened going none' in let later = opened.1 in omega (arith, size, within, same, later))
 
-pub returns-in-Report-clause-cut_round : goal.returns-in-Report-clause-cut_round
-returns-in-Report-clause-cut_round g c = λ outputs stands held written fault.
-    let functions = g.D.Digests.functions in
-    let old = c.args.self.now in
-    let dropped = c.args.dropped.now.held in
-    let now = record outputs { vault_after = g.V.Sink.held c.close_next.new.vault; out_after = g.O.Sink.held c.close_next.new.out } in
-    subst (λ (a : Account). IsCutInRound a (functions (digests_of old.world)) old.world.settings (requests_of old.world) now) (sym c.in-Report.is)
-    (c.close_next.ensures.cut_round outputs
-    (subst (λ (a : Account). StandsFor a calls.Close dropped functions old outputs) c.in-Report.is stands) held written fault)
+pub returns-in_err-close_epoch-clause-cut : goal.returns-in_err-close_epoch-clause-cut
+returns-in_err-close_epoch-clause-cut g c = λ outputs stands held written.
+    err_any c.from_residual.result (c.in_err-close_epoch.ensures.cut outputs stands.0 held written)
 
-pub returns-in-Report-clause-lines : goal.returns-in-Report-clause-lines
-returns-in-Report-clause-lines g c = λ fault. subst TellsLines (sym c.in-Report.is) tt
+pub returns-in_err-close_epoch-clause-cut_round : goal.returns-in_err-close_epoch-clause-cut_round
+returns-in_err-close_epoch-clause-cut_round g c = λ outputs stands held written fault.
+    let p = err_from_is_err_and c.from_residual.result c.from_residual.ensures.1 in
+    c.in_err-close_epoch.ensures.cut_round outputs stands.0 held written (same-fault c.from_residual.result p.0 _ fault p.1 p.2)
 
-pub returns-in-Summary-clause-stands : goal.returns-in-Summary-clause-stands
-returns-in-Summary-clause-stands g c = λ outputs stands held written.
-    let functions = g.D.Digests.functions in
-    let old = c.args.self.now in
-    let new = c.close_next-in-Summary.new.self in
-    let dropped = c.args.dropped.now.held in
-    let dropped' = c.close_next-in-Summary.new.out.held in
-    let vault' = g.V.Sink.held c.close_next-in-Summary.new.vault in
-    let out = g.O.Sink.held c.args.out.now in
-    let own = subst (λ (a : Account). StandsFor a calls.Close dropped functions old outputs) c.in-Summary.is stands in
-    let lines = lines_to functions old new c.in-Summary.field-0 outputs dropped dropped' vault' out own written in
-    subst (λ (a : Account). IfOk c.close_next-in-Summary.result (λ call. StandsFor a call dropped' functions new (record outputs { vault_after = vault'; out_after = out }))) (sym c.in-Summary.is)
-    (if_ok-then (λ call. StandsBefore call false functions new (record lines { vault_after = vault'; out_after = dropped' }))
-    (λ call. StandsUnwritten call dropped' functions new (record outputs { vault_after = vault'; out_after = out })) c.close_next-in-Summary.result
-    (c.close_next-in-Summary.ensures.stands lines own.stands held refl)
-    (close-leaves functions old new c.in-Summary.field-0 outputs dropped dropped' vault' out own written))
-
-pub returns-in-Summary-clause-cut : goal.returns-in-Summary-clause-cut
-returns-in-Summary-clause-cut g c = λ outputs stands held written.
-    let functions = g.D.Digests.functions in
-    let old = c.args.self.now in
-    let new = c.close_next-in-Summary.new.self in
-    let f = functions (digests_of old.world) in
-    let dropped = c.args.dropped.now.held in
-    let dropped' = c.close_next-in-Summary.new.out.held in
-    let vault' = g.V.Sink.held c.close_next-in-Summary.new.vault in
-    let out = g.O.Sink.held c.args.out.now in
-    let own = subst (λ (a : Account). StandsFor a calls.Close dropped functions old outputs) c.in-Summary.is stands in
-    let lines = lines_to functions old new c.in-Summary.field-0 outputs dropped dropped' vault' out own written in
-    subst (λ (a : Account). OnErr c.close_next-in-Summary.result (IsCutOff a f old.world.settings (requests_of old.world) (record outputs { vault_after = vault'; out_after = out }))) (sym c.in-Summary.is)
-    (err_then c.close_next-in-Summary.result (c.close_next-in-Summary.ensures.cut lines own.stands held refl)
-    (close-cut functions old new c.in-Summary.field-0 outputs dropped dropped' vault' out own written f old.world.settings (requests_of old.world)))
-
-pub returns-in-Summary-clause-cut_round : goal.returns-in-Summary-clause-cut_round
-returns-in-Summary-clause-cut_round g c = λ outputs stands held written fault.
-    let functions = g.D.Digests.functions in
-    let old = c.args.self.now in
-    let new = c.close_next-in-Summary.new.self in
-    let f = functions (digests_of old.world) in
-    let dropped = c.args.dropped.now.held in
-    let dropped' = c.close_next-in-Summary.new.out.held in
-    let vault' = g.V.Sink.held c.close_next-in-Summary.new.vault in
-    let out = g.O.Sink.held c.args.out.now in
-    let own = subst (λ (a : Account). StandsFor a calls.Close dropped functions old outputs) c.in-Summary.is stands in
-    let lines = lines_to functions old new c.in-Summary.field-0 outputs dropped dropped' vault' out own written in
-    subst (λ (a : Account). IsCutInRound a f old.world.settings (requests_of old.world) (record outputs { vault_after = vault'; out_after = out })) (sym c.in-Summary.is)
-    (close-cut_round functions old new c.in-Summary.field-0 outputs dropped dropped' vault' out own written f old.world.settings (requests_of old.world)
-    (c.close_next-in-Summary.ensures.cut_round lines own.stands held refl fault))
-
-pub returns-in-Summary-clause-lines : goal.returns-in-Summary-clause-lines
-returns-in-Summary-clause-lines g c = λ fault. absurd (never-rose (c.close_next-in-Summary.ensures.write_fault fault))
-
-pub returns-in-Summary-clause-write_fault : goal.returns-in-Summary-clause-write_fault
-returns-in-Summary-clause-write_fault g c = λ fault. absurd (never-rose (c.close_next-in-Summary.ensures.write_fault fault))
+pub returns-in_err-close_epoch-clause-lines : goal.returns-in_err-close_epoch-clause-lines
+returns-in_err-close_epoch-clause-lines g c = λ fault.
+    let p = err_from_is_err_and c.from_residual.result c.from_residual.ensures.1 in
+    c.in_err-close_epoch.ensures.lines (same-fault c.from_residual.result p.0 _ fault p.1 p.2)

@@ -1,7 +1,6 @@
 use Rattle.std.proofs.Common.{◌≡◌, ℕ, suc, ◌+◌, inr, List, [], ◌∷◌, ◌++◌, length, map, Option, Ok, refl, sym, ◌∙◌, ap, subst, arith}
-use Rattle.fv_outside.specs.Written.{Grows, GrowsByFront}
 use Rattle.record_hash.specs.Functions.{DigestFunctions}
-use Rattle.bundle_report.specs.Report.{EpochText, told_by}
+use Rattle.bundle_report.specs.Report.{EpochText}
 use Rattle.certified_epochs.specs.Turn.{AreVerdictsOn}
 use Rattle.record_text.specs.declared.request.Request.{Request}
 use Rattle.host_core.specs.Host.{Host}
@@ -15,11 +14,10 @@ use Rattle.host_world.specs.Behind.{host_of}
 use Rattle.host_serving.specs.Leading.{first_of}
 use Rattle.host_serving.proofs.FormLaws.{on_by_close}
 use Rattle.host_rounds.specs.SoFar.{lines_counted, lines_due}
-use Rattle.verifier_threads.specs.declared.accounts.Account.TheVariants as accounts
 use Rattle.verifier_threads.specs.InRounds.{IsBehindRounds}
 use Rattle.slot_rewriting.specs.Writing.{written_logs}
-use Rattle.verifier_threads.specs.Serving.{IsCutOff, IsCutInRound}
-use Rattle.verifier_threads.specs.Running.{IsAtPhase, IsAtEnd, all_handed_out}
+use Rattle.verifier_threads.specs.Serving.{GrowsFor, IsCutOff, IsCutInRound, told_for}
+use Rattle.verifier_threads.specs.Running.{GrowsByFrontFor, IsAtPhase, IsAtEnd, all_handed_out}
 use Rattle.verifier_threads.proofs.RunningLemmas.{one_host, host_same, of_one_host, host-back}
 use Rattle.verifier_threads.proofs.PassingLemmas.{ok_any, ok_four, err_any, err_then, runs-behind, runs-led, behind-led, runs-certified}
 use Rattle.verifier_threads.proofs.RoundLemmas.{length-one_more}
@@ -70,14 +68,14 @@ certify-requires-clause-settled g c κs within =
 pub returns-in_err-end-clause-cut : goal.returns-in_err-end-clause-cut
 returns-in_err-end-clause-cut g c = λ outputs runs held written.
     err_any c.from_residual.result
-    (runs-cut c.args.receipts g.D.Digests.functions c.args.self.now outputs runs.past runs.runs c.what_is_due_stays_due.ensures.stays c.rounds_make_a_bundle.ensures.more
+    (runs-cut c.args.account.now g.D.Digests.functions c.args.self.now outputs runs.past runs.runs c.what_is_due_stays_due.ensures.stays c.rounds_make_a_bundle.ensures.more
     (g.V.Sink.held c.args.vault.now) (g.O.Sink.held c.args.out.now) held written)
 
 pub returns-in_err-end-clause-cut_round : goal.returns-in_err-end-clause-cut_round
 returns-in_err-end-clause-cut_round g c = λ outputs behind held written fault.
-    subst (λ (o : Option (List ℕ)). IsCutInRound (accounts.Report c.args.receipts) (g.D.Digests.functions (digests_of c.args.self.now.world)) c.args.self.now.world.settings (requests_of c.args.self.now.world)
+    subst (λ (o : Option (List ℕ)). IsCutInRound c.args.account.now (g.D.Digests.functions (digests_of c.args.self.now.world)) c.args.self.now.world.settings (requests_of c.args.self.now.world)
     (record outputs { vault_after = g.V.Sink.held c.args.vault.now; out_after = o })) written
-    (runs-cut_before c.args.receipts g.D.Digests.functions c.args.self.now outputs behind.past behind.runs _ _ behind.count (inr refl) behind.told
+    (runs-cut_before c.args.account.now g.D.Digests.functions c.args.self.now outputs behind.past behind.runs _ _ behind.count (inr refl) behind.told
     (g.V.Sink.held c.args.vault.now) held)
 
 pub returns-in_err-settled-clause-cut : goal.returns-in_err-settled-clause-cut
@@ -87,12 +85,12 @@ returns-in_err-settled-clause-cut g c = λ outputs runs held written.
     let middle = c.close_phase.new.world in
     let vault' = g.V.Sink.held c.pass_to_seal.new.vault in
     err_any _
-    (subst (λ (o : Option (List ℕ)). IsCutOff (accounts.Report c.args.receipts) (functions (digests_of old)) old.settings (requests_of old) (record outputs { vault_after = vault'; out_after = o })) written
+    (subst (λ (o : Option (List ℕ)). IsCutOff c.args.account.now (functions (digests_of old)) old.settings (requests_of old) (record outputs { vault_after = vault'; out_after = o })) written
     (of_one_host functions middle old (host-back old middle c.close_phase.ensures.host)
-    (λ (f : DigestFunctions) (settings : Settings) (script : List (List Task)). IsCutOff (accounts.Report c.args.receipts) f settings script (record outputs { vault_after = vault' }))
-    (c.in_err-settled.ensures.cut c.args.receipts outputs (
+    (λ (f : DigestFunctions) (settings : Settings) (script : List (List Task)). IsCutOff c.args.account.now f settings script (record outputs { vault_after = vault' }))
+    (c.in_err-settled.ensures.cut c.args.account.now outputs (
       runs.past,
-      runs-led c.args.receipts functions c.args.self.now runs.past outputs runs.runs c.close_phase.new.world c.in_ok-end.end c.earlier_end-self.result
+      runs-led c.args.account.now functions c.args.self.now runs.past outputs runs.runs c.close_phase.new.world c.in_ok-end.end c.earlier_end-self.result
           c.close_phase.ensures.host (on_by_close _ _ _ _ _ c.in_ok-end.ensures.form) c.earlier_end-self.ensures.value,
     )
     held)))
@@ -104,11 +102,11 @@ returns-in_err-settled-clause-cut_round g c = λ outputs behind held written fau
     let phase = (shown_world old).phase in
     let middle = c.close_phase.new.world in
     let vault' = g.V.Sink.held c.pass_to_seal.new.vault in
-    subst (λ (o : Option (List ℕ)). IsCutInRound (accounts.Report c.args.receipts) (functions (digests_of old)) old.settings (requests_of old) (record outputs { vault_after = vault'; out_after = o })) written
+    subst (λ (o : Option (List ℕ)). IsCutInRound c.args.account.now (functions (digests_of old)) old.settings (requests_of old) (record outputs { vault_after = vault'; out_after = o })) written
     (of_one_host functions middle old (host-back old middle c.close_phase.ensures.host)
-    (λ (f : DigestFunctions) (settings : Settings) (script : List (List Task)). IsCutInRound (accounts.Report c.args.receipts) f settings script (record outputs { vault_after = vault' }))
-    (c.in_err-settled.ensures.cut_round c.args.receipts outputs phase
-    (behind-led c.args.receipts functions c.args.self.now (suc phase) phase outputs behind c.close_phase.new.world c.in_ok-end.end c.earlier_end-self.result
+    (λ (f : DigestFunctions) (settings : Settings) (script : List (List Task)). IsCutInRound c.args.account.now f settings script (record outputs { vault_after = vault' }))
+    (c.in_err-settled.ensures.cut_round c.args.account.now outputs phase
+    (behind-led c.args.account.now functions c.args.self.now (suc phase) phase outputs behind c.close_phase.new.world c.in_ok-end.end c.earlier_end-self.result
     c.close_phase.ensures.host (on_by_close _ _ _ _ _ c.in_ok-end.ensures.form) c.earlier_end-self.ensures.value)
     held))
 
@@ -123,14 +121,14 @@ returns-clause-runs g c = λ outputs behind held written.
     let middle = c.close_phase.new.world in
     let says = c.in_ok-end.ensures in
     let vault' = g.V.Sink.held c.pass_to_seal.new.vault in
-    let led = behind-led c.args.receipts functions c.args.self.now (suc phase) phase outputs behind c.close_phase.new.world c.in_ok-end.end c.earlier_end-self.result
+    let led = behind-led c.args.account.now functions c.args.self.now (suc phase) phase outputs behind c.close_phase.new.world c.in_ok-end.end c.earlier_end-self.result
     c.close_phase.ensures.host (on_by_close _ _ _ _ _ c.in_ok-end.ensures.form) c.earlier_end-self.ensures.value in
     let stands = subst (λ (h : Host Content Request). IsBehindRounds h (suc (length led.past)) (shown_world middle))
     (sym (host_same functions old middle c.close_phase.ensures.host))
     (subst (λ (n : ℕ). IsBehindRounds (host_of (functions (digests_of old)) old) (suc n) (shown_world middle)) (sym led.count)
     (behind-close (host_of (functions (digests_of old)) old) (shown_world old) (shown_world middle) c.args.last c.args.self.now.end c.in_ok-end.end c.requires.served c.requires.last
     (λ is last. says.rests (ap (λ (e : Option ClockEnd). Ok e) is) last) says.ended (λ is going. says.opened (ap (λ (e : Option ClockEnd). Ok e) is) going))) in
-    let next = c.in_ok-settled.ensures.runs c.args.receipts outputs led.past led.runs stands held in
+    let next = c.in_ok-settled.ensures.runs c.args.account.now outputs led.past led.runs stands held in
     let round = logs_of (shown_world middle) in
     let past = led.past ++ (round ∷ []) in
     let size = length-one_more led.past round in
@@ -140,14 +138,14 @@ returns-clause-runs g c = λ outputs behind held written.
     let header = c.pass_to_seal.new.self.world.settings.header in
     let texts = written_logs header next.running.logs in
     let have = next.running.keeps.runs in
-    let told = told_by c.args.receipts f header in
-    let so_far = subst (λ (tell : EpochText). Grows outputs.out (g.O.Sink.held c.args.out.now) (lines_counted tell f header texts c.pass_to_seal.new.self.rounds)) (sym c.telling-telling.ensures.text)
-    (subst (λ (o : Option (List ℕ)). Grows outputs.out o (lines_counted told f header texts c.pass_to_seal.new.self.rounds)) written next.running.written) in
+    let told = told_for c.args.account.now f header in
+    let so_far = subst (λ (tell : EpochText). GrowsFor c.args.account.now outputs.out (g.O.Sink.held c.args.out.now) (lines_counted tell f header texts c.pass_to_seal.new.self.rounds)) (sym c.telling-telling.ensures.text)
+    (subst (λ (o : Option (List ℕ)). GrowsFor c.args.account.now outputs.out o (lines_counted told f header texts c.pass_to_seal.new.self.rounds)) written next.running.written) in
     let says = c.certify.ensures in
     ok_four c.certify.result (says.runs f header texts have) (says.all f header texts have) (says.counted told f header texts have) (says.due f header texts outputs.out have so_far)
-    (λ have' all counted due. runs-certified c.args.receipts functions c.pass_to_seal.new.self past (record outputs { vault_after = vault' }) next c.certify.new.self (g.O.Sink.held c.certify.new.out)
+    (λ have' all counted due. runs-certified c.args.account.now functions c.pass_to_seal.new.self past (record outputs { vault_after = vault' }) next c.certify.new.rounds (g.O.Sink.held c.certify.new.out)
     (suc phase) twice have' all counted
-    (subst (λ (tell : EpochText). Grows outputs.out (g.O.Sink.held c.certify.new.out) (lines_due tell f header texts)) c.telling-telling.ensures.text due))
+    (subst (λ (tell : EpochText). GrowsFor c.args.account.now outputs.out (g.O.Sink.held c.certify.new.out) (lines_due tell f header texts)) c.telling-telling.ensures.text due))
 
 pub returns-clause-ended : goal.returns-clause-ended
 returns-clause-ended g c = λ over.
@@ -197,28 +195,28 @@ returns-clause-cut g c = λ outputs behind held written.
     let vault' = g.V.Sink.held c.pass_to_seal.new.vault in
     let phase = (shown_world old).phase in
     let says = c.in_ok-end.ensures in
-    let led = behind-led c.args.receipts functions c.args.self.now (suc phase) phase outputs behind c.close_phase.new.world c.in_ok-end.end c.earlier_end-self.result
+    let led = behind-led c.args.account.now functions c.args.self.now (suc phase) phase outputs behind c.close_phase.new.world c.in_ok-end.end c.earlier_end-self.result
     c.close_phase.ensures.host (on_by_close _ _ _ _ _ c.in_ok-end.ensures.form) c.earlier_end-self.ensures.value in
     let stands = subst (λ (h : Host Content Request). IsBehindRounds h (suc (length led.past)) (shown_world middle))
     (sym (host_same functions old middle c.close_phase.ensures.host))
     (subst (λ (n : ℕ). IsBehindRounds (host_of (functions (digests_of old)) old) (suc n) (shown_world middle)) (sym led.count)
     (behind-close (host_of (functions (digests_of old)) old) (shown_world old) (shown_world middle) c.args.last c.args.self.now.end c.in_ok-end.end c.requires.served c.requires.last
     (λ is last. says.rests (ap (λ (e : Option ClockEnd). Ok e) is) last) says.ended (λ is going. says.opened (ap (λ (e : Option ClockEnd). Ok e) is) going))) in
-    let next = c.in_ok-settled.ensures.runs c.args.receipts outputs led.past led.runs stands held in
+    let next = c.in_ok-settled.ensures.runs c.args.account.now outputs led.past led.runs stands held in
     let f = functions (digests_of c.pass_to_seal.new.self.world) in
     let header = c.pass_to_seal.new.self.world.settings.header in
     let texts = written_logs header next.running.logs in
     let have = next.running.keeps.runs in
-    let told = told_by c.args.receipts f header in
-    let so_far = subst (λ (tell : EpochText). Grows outputs.out (g.O.Sink.held c.args.out.now) (lines_counted tell f header texts c.pass_to_seal.new.self.rounds)) (sym c.telling-telling.ensures.text)
-    (subst (λ (o : Option (List ℕ)). Grows outputs.out o (lines_counted told f header texts c.pass_to_seal.new.self.rounds)) written next.running.written) in
+    let told = told_for c.args.account.now f header in
+    let so_far = subst (λ (tell : EpochText). GrowsFor c.args.account.now outputs.out (g.O.Sink.held c.args.out.now) (lines_counted tell f header texts c.pass_to_seal.new.self.rounds)) (sym c.telling-telling.ensures.text)
+    (subst (λ (o : Option (List ℕ)). GrowsFor c.args.account.now outputs.out o (lines_counted told f header texts c.pass_to_seal.new.self.rounds)) written next.running.written) in
     err_then c.certify.result (c.certify.ensures.front f header texts outputs.out have so_far)
     (λ front.
     of_one_host functions new old (host-back old new (one_host old middle new c.close_phase.ensures.host c.pass_to_seal.ensures.host))
-    (λ (f' : DigestFunctions) (settings : Settings) (script : List (List Task)). IsCutOff (accounts.Report c.args.receipts) f' settings script (record outputs { vault_after = vault'; out_after = g.O.Sink.held c.certify.new.out }))
-    (runs-cut_lines c.args.receipts functions c.pass_to_seal.new.self (record outputs { vault_after = vault' }) (led.past ++ (logs_of (shown_world middle) ∷ [])) next c.what_is_due_stays_due.ensures.stays c.rounds_make_a_bundle.ensures.more
+    (λ (f' : DigestFunctions) (settings : Settings) (script : List (List Task)). IsCutOff c.args.account.now f' settings script (record outputs { vault_after = vault'; out_after = g.O.Sink.held c.certify.new.out }))
+    (runs-cut_lines c.args.account.now functions c.pass_to_seal.new.self (record outputs { vault_after = vault' }) (led.past ++ (logs_of (shown_world middle) ∷ [])) next c.what_is_due_stays_due.ensures.stays c.rounds_make_a_bundle.ensures.more
     (g.O.Sink.held c.certify.new.out)
-    (subst (λ (tell : EpochText). GrowsByFront outputs.out (g.O.Sink.held c.certify.new.out) (lines_due tell f header texts)) c.telling-telling.ensures.text front)))
+    (subst (λ (tell : EpochText). GrowsByFrontFor c.args.account.now outputs.out (g.O.Sink.held c.certify.new.out) (lines_due tell f header texts)) c.telling-telling.ensures.text front)))
 
 pub returns-clause-host : goal.returns-clause-host
 returns-clause-host g c = one_host c.args.self.now.world c.close_phase.new.world c.pass_to_seal.new.self.world c.close_phase.ensures.host c.pass_to_seal.ensures.host

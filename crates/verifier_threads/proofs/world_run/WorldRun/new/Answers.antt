@@ -1,7 +1,6 @@
 use Rattle.std.proofs.Common.{◌≡◌, ℕ, List, [], None, length, map, refl, sym, ◌∙◌, ap, subst, arith}
 use Rattle.std.proofs.lemmas.List.{length-map, length-replicate}
-use Rattle.fv_outside.specs.Written.{Grows}
-use Rattle.fv_outside.proofs.WrittenLaws.{Grows-nil, GrowsByFront-none}
+use Rattle.fv_outside.proofs.WrittenLaws.{GrowsByFront-none}
 use Rattle.lamport_clocks.specs.declared.header.Header.{Header}
 use Rattle.bundle_report.specs.Logs.{empty_logs}
 use Rattle.host_core.specs.World.{World}
@@ -10,12 +9,11 @@ use Rattle.host_world.specs.declared.settings.Settings.{Settings}
 use Rattle.host_world.specs.ShippedHost.{turn_of}
 use Rattle.host_world.specs.Shown.{shown_world, digests_of, requests_of}
 use Rattle.host_world.specs.Behind.{host_of}
-use Rattle.bundle_report.specs.Report.{told_by}
 use Rattle.host_rounds.specs.SoFar.{Keeps, lines_due}
-use Rattle.verifier_threads.specs.Serving.{IsCutOff, IsCutInHeader}
+use Rattle.verifier_threads.specs.Serving.{GrowsFor, IsCutOff, IsCutInHeader, told_for}
 use Rattle.verifier_threads.specs.Running.{IsAtPhase}
 use Rattle.verifier_threads.proofs.PassingLemmas.{err_any}
-use Rattle.verifier_threads.proofs.EndingLemmas.{running-new, set_up-begins, set_up-count}
+use Rattle.verifier_threads.proofs.EndingLemmas.{grows-none, running-new, set_up-begins, set_up-count}
 use Rattle.verifier_threads.proofs.NothingLemmas.{empty-are}
 use Rattle.verifier_threads.proofs.world_run.WorldRun.new.Goals as goal
 
@@ -43,19 +41,19 @@ returns-in_err-rounds-clause-cut g c = λ account held.
     (c.a_header_begins_the_bundle.ensures.cut account (g.D.Digests.functions (digests_of c.args.world)) (requests_of c.args.world) _ _ held c.in_err-rounds.ensures.front))
 
 pub returns-clause-runs : goal.returns-clause-runs
-returns-clause-runs g c = λ receipts held.
+returns-clause-runs g c = λ account held.
     let world = c.args.world in
     let f = g.D.Digests.functions (digests_of world) in
     let host = host_of f world in
     let header_is : c.settings-settings.result.header ≡ world.settings.header = ap (λ (s : Settings). s.header) c.settings-settings.ensures.value in
     let count = set_up-count world.settings host (shown_world world) c.requires.settings refl c.requires.setup in
     let header = world.settings.header in
-    let tell = told_by receipts f header in
+    let tell = told_for account f header in
     record {
       past = [];
       runs = record {
         running =
-            running-new receipts f world.settings (requests_of world) (shown_world world) c.in_ok-rounds.rounds (g.V.Sink.held c.args.vault.now) (g.V.Sink.held c.new.new.vault) held
+            running-new account f world.settings (requests_of world) (shown_world world) c.in_ok-rounds.rounds (g.V.Sink.held c.args.vault.now) (g.V.Sink.held c.new.new.vault) held
             (record { settings_fit = c.requires.settings; counters = c.requires.counters; keys = c.requires.keys; values = c.requires.values; is = c.requires.setup; count = count })
             (subst (λ (header : Header). Keeps f header (empty_logs header.verifiers) [] c.in_ok-rounds.rounds (g.V.Sink.held c.args.vault.now) (g.V.Sink.held c.new.new.vault)) header_is
             (c.in_ok-rounds.ensures.keeps f))
@@ -64,9 +62,9 @@ returns-clause-runs g c = λ receipts held.
         counts = ap length c.in_ok-parcels.ensures.none ∙ length-replicate c.settings-settings.result.header.verifiers 0 ∙ ap (λ (header : Header). header.verifiers) header_is ∙ sym count;
       };
       count = refl;
-      told = subst (Grows held held)
+      told = subst (GrowsFor account held held)
           (sym (ap (λ (logs : List (List ℕ)). lines_due tell f header logs) (empty-are header.verifiers) ∙ c.logs_of_no_bytes_certify_nothing.ensures.lines tell f header))
-          (Grows-nil held);
+          (grows-none account held);
     }
 
 pub returns-in_err-buffers-clause-header : goal.returns-in_err-buffers-clause-header

@@ -10,7 +10,7 @@ use Rattle.host_world.specs.declared.settings.Settings.{Settings}
 use Rattle.host_world.specs.Shown.{shown_world, digests_of}
 use Rattle.host_rounds.specs.Round.{logs_with}
 use Rattle.host_rounds.specs.SoFar.{Keeps, HaveRun}
-use Rattle.bundle_report.specs.Report.{told_by}
+use Rattle.verifier_threads.specs.Serving.{told_for}
 use Rattle.verifier_threads.specs.Running.{IsRunning, with_no_log}
 use Rattle.verifier_threads.proofs.HandingLemmas.{texts-length}
 use Rattle.verifier_threads.proofs.RunningLemmas.{of_one_host, running-workers, running-rests}
@@ -50,13 +50,13 @@ seal-requires-clause-runs g c κs within =
     )
 
 pub returns-in_err-hand_out_all-clause-cut : goal.returns-in_err-hand_out_all-clause-cut
-returns-in_err-hand_out_all-clause-cut g c = λ receipts outputs runs held.
+returns-in_err-hand_out_all-clause-cut g c = λ account outputs runs held.
     err_any c.from_residual.result
-    (runs-cut receipts g.D.Digests.functions c.args.self.now outputs runs.0 runs.1 c.what_is_due_stays_due.ensures.stays c.rounds_make_a_bundle.ensures.more
+    (runs-cut account g.D.Digests.functions c.args.self.now outputs runs.0 runs.1 c.what_is_due_stays_due.ensures.stays c.rounds_make_a_bundle.ensures.more
     (g.V.Sink.held c.args.vault.now) outputs.out_after held refl)
 
 pub returns-clause-runs : goal.returns-clause-runs
-returns-clause-runs g c = λ receipts outputs past runs stands held.
+returns-clause-runs g c = λ account outputs past runs stands held.
     let old = c.args.self.now in
     let functions = g.D.Digests.functions in
     let r = runs.running in
@@ -75,11 +75,11 @@ returns-clause-runs g c = λ receipts outputs past runs stands held.
     (subst (λ d. GivesDigests (functions d).digest) d_is c.digests_have_32_bytes.ensures.sized) in
     let keeps = subst (λ d. Keeps (functions d) header before (map (written_logs header) past) old.rounds outputs.vault vault) (sym d_is)
     (subst (λ (h : Option (List ℕ)). Keeps (functions (digests_of old.world)) header before (map (written_logs header) past) old.rounds outputs.vault h) held r.keeps) in
-    ok_both c.seal.result (c.seal.ensures.keeps header before (map (written_logs header) past) outputs.vault keeps) (c.seal.ensures.lines (told_by receipts (functions (digests_of old.world)) header) (functions (digests_of old.world)) header before r.keeps.runs)
+    ok_both c.seal.result (c.seal.ensures.keeps header before (map (written_logs header) past) outputs.vault keeps) (c.seal.ensures.lines (told_for account (functions (digests_of old.world)) header) (functions (digests_of old.world)) header before r.keeps.runs)
     (λ keeps' lines. record {
       running =
           of_one_host functions old.world new host
-          (λ (f : DigestFunctions) (settings : Settings) (script : List (List Task)). IsRunning receipts f settings script (shown_world new) c.seal.new.self old.end (past ++ (logs_of (shown_world old.world) ∷ [])) (record outputs { vault_after = vault' }))
+          (λ (f : DigestFunctions) (settings : Settings) (script : List (List Task)). IsRunning account f settings script (shown_world new) c.seal.new.self old.end (past ++ (logs_of (shown_world old.world) ∷ [])) (record outputs { vault_after = vault' }))
           (running-taken _ _ _ _ (shown_world old.world) old.rounds old.end past outputs r (shown_world new) round c.seal.new.self vault'
           stands rests c.in_ok-hand_out_all.ensures.forgotten round_is
           (subst (λ d. Keeps (functions d) header (logs_with before round) (map (written_logs header) past ++ (round ∷ [])) c.seal.new.self outputs.vault vault') d_is keeps') lines);
@@ -91,27 +91,27 @@ pub returns-clause-handed : goal.returns-clause-handed
 returns-clause-handed g c = ok_any c.seal.result c.in_ok-hand_out_all.ensures.forgotten
 
 pub returns-clause-cut : goal.returns-clause-cut
-returns-clause-cut g c = λ receipts outputs runs held.
+returns-clause-cut g c = λ account outputs runs held.
     let old = c.args.self.now in
     let size : length c.hand_out_all.new.buffers ≡ length old.world.workers.items = ap length c.in_ok-hand_out_all.ensures.handed ∙ texts-length old.world.settings.header old.world.workers.items in
     let items = with_items_is old.buffers c.hand_out_all.new.buffers (size ∙ sym runs.1.buffers ∙ sym old.buffers.ok.0) in
     err_any c.seal.result
-    (runs-cut_round receipts g.D.Digests.functions old outputs runs.0 runs.1 c.what_is_due_stays_due.ensures.stays c.rounds_make_a_bundle.ensures.more
+    (runs-cut_round account g.D.Digests.functions old outputs runs.0 runs.1 c.what_is_due_stays_due.ensures.stays c.rounds_make_a_bundle.ensures.more
     (g.V.Sink.held c.args.vault.now) (g.V.Sink.held c.seal.new.vault) c.as_slice.result.now held
     (c.as_slice.ensures.value ∙ items ∙ c.in_ok-hand_out_all.ensures.handed) c.seal.ensures.grown)
 
 pub returns-in_err-hand_out_all-clause-cut_round : goal.returns-in_err-hand_out_all-clause-cut_round
-returns-in_err-hand_out_all-clause-cut_round g c = λ receipts outputs closes behind held.
+returns-in_err-hand_out_all-clause-cut_round g c = λ account outputs closes behind held.
     err_any c.from_residual.result
-    (runs-cut_before receipts g.D.Digests.functions c.args.self.now outputs behind.past behind.runs (suc closes) closes behind.count (inr refl) behind.told
+    (runs-cut_before account g.D.Digests.functions c.args.self.now outputs behind.past behind.runs (suc closes) closes behind.count (inr refl) behind.told
     (g.V.Sink.held c.args.vault.now) held)
 
 pub returns-clause-cut_round : goal.returns-clause-cut_round
-returns-clause-cut_round g c = λ receipts outputs closes behind held.
+returns-clause-cut_round g c = λ account outputs closes behind held.
     let old = c.args.self.now in
     let size : length c.hand_out_all.new.buffers ≡ length old.world.workers.items = ap length c.in_ok-hand_out_all.ensures.handed ∙ texts-length old.world.settings.header old.world.workers.items in
     let items = with_items_is old.buffers c.hand_out_all.new.buffers (size ∙ sym behind.runs.buffers ∙ sym old.buffers.ok.0) in
     err_any c.seal.result
-    (runs-cut_in_round receipts g.D.Digests.functions old outputs behind.past behind.runs (suc closes) closes behind.count (inr refl) behind.told
+    (runs-cut_in_round account g.D.Digests.functions old outputs behind.past behind.runs (suc closes) closes behind.count (inr refl) behind.told
     (g.V.Sink.held c.args.vault.now) (g.V.Sink.held c.seal.new.vault) c.as_slice.result.now held
     (c.as_slice.ensures.value ∙ items ∙ c.in_ok-hand_out_all.ensures.handed) c.seal.ensures.grown)

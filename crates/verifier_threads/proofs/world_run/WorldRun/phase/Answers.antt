@@ -12,7 +12,6 @@ use Rattle.host_world.specs.Behind.{host_of}
 use Rattle.host_serving.specs.Leading.{first_of}
 use Rattle.host_serving.proofs.FormLaws.{on_by_phase}
 use Rattle.certified_epochs.specs.declared.fed_run.FedRun.{FedRun}
-use Rattle.verifier_threads.specs.declared.accounts.Account.TheVariants as accounts
 use Rattle.verifier_threads.specs.declared.world_run.WorldRun.{WorldRun}
 use Rattle.verifier_threads.specs.InRounds.{IsBehindRounds}
 use Rattle.verifier_threads.specs.Serving.{IsCutOff, IsCutInRound}
@@ -68,26 +67,26 @@ set_down-requires g c =
     }
 
 pub returns-in_err-self-clause-cut : goal.returns-in_err-self-clause-cut
-returns-in_err-self-clause-cut g c = λ receipts outputs runs held.
+returns-in_err-self-clause-cut g c = λ account outputs runs held.
     err_any c.from_residual.result
-    (runs-cut receipts g.D.Digests.functions c.args.self.now outputs runs.past runs.runs c.what_is_due_stays_due.ensures.stays c.rounds_make_a_bundle.ensures.more
+    (runs-cut account g.D.Digests.functions c.args.self.now outputs runs.past runs.runs c.what_is_due_stays_due.ensures.stays c.rounds_make_a_bundle.ensures.more
     (g.V.Sink.held c.args.vault.now) outputs.out_after held refl)
 
 pub returns-in_err-self-clause-cut_round : goal.returns-in_err-self-clause-cut_round
-returns-in_err-self-clause-cut_round g c = λ receipts outputs behind held.
+returns-in_err-self-clause-cut_round g c = λ account outputs behind held.
     err_any c.from_residual.result
-    (runs-cut_before receipts g.D.Digests.functions c.args.self.now outputs behind.past behind.runs _ _ behind.count (inl refl) behind.told
+    (runs-cut_before account g.D.Digests.functions c.args.self.now outputs behind.past behind.runs _ _ behind.count (inl refl) behind.told
     (g.V.Sink.held c.args.vault.now) held)
 
 pub returns-clause-runs : goal.returns-clause-runs
-returns-clause-runs g c = λ receipts outputs behind held.
+returns-clause-runs g c = λ account outputs behind held.
     let functions = g.D.Digests.functions in
     let before = c.lend_runs-runs.result.items in
     let old = c.args.self.now in
     let phase = (shown_world old.world).phase in
     let middle = c.serve_phase_at_once.new.world in
     let lent : WorldRun _ = record old { world = middle; end = c.in_ok-self.field-0; rounds = c.take_back.new.self; parcels = c.serve_phase_at_once.new.parcels } in
-    let fed = behind-fed receipts functions old phase phase outputs behind c.serve_phase_at_once.new.world c.in_ok-self.field-0 c.in_ok-self.field-0
+    let fed = behind-fed account functions old phase phase outputs behind c.serve_phase_at_once.new.world c.in_ok-self.field-0 c.in_ok-self.field-0
     c.take_back.new.self before c.serve_phase_at_once.new.parcels c.serve_phase_at_once.ensures.host (on_by_phase _ _ _ _ _ c.requires.begins.unended c.requires.begins.begins c.requires.begins.running c.in_ok-self.ensures.form)
     (ap (λ (e : Option ClockEnd). first_of e c.in_ok-self.field-0) (sym c.requires.begins.unended))
     (rounds-back c.args.self.now.rounds c.lend_runs-runs.new.self c.take_back.new.self c.serve_phase_at_once.new.runs.items before c.lend_runs-runs.ensures.rest c.take_back.ensures.runs c.lend_runs-runs.ensures.runs)
@@ -97,9 +96,9 @@ returns-clause-runs g c = λ receipts outputs behind held.
     let stands = subst (λ (h : Host Content Request). IsBehindRounds h (suc (length fed.past)) (shown_world middle))
     (sym (host_same functions old.world middle c.serve_phase_at_once.ensures.host)) (inl (omega (arith, same, count), c.in_ok-self.ensures.served)) in
     ok_then c.set_down.result
-    (c.set_down.ensures.runs receipts outputs before fed.past fed.runs (took-round g.D.Digests.functions c.args.self.now.world c.serve_phase_at_once.new.world c.lend_runs-runs.new.self c.take_back.new.self before c.serve_phase_at_once.new.runs.items
+    (c.set_down.ensures.runs account outputs before fed.past fed.runs (took-round g.D.Digests.functions c.args.self.now.world c.serve_phase_at_once.new.world c.lend_runs-runs.new.self c.take_back.new.self before c.serve_phase_at_once.new.runs.items
     c.serve_phase_at_once.ensures.host c.take_back.ensures.runs c.in_ok-self.ensures.taken) stands held)
-    (λ runs. behind-more receipts functions (with_runs_of before lent) phase phase outputs fed c.set_down.new.self (logs_of (shown_world middle)) (g.V.Sink.held c.set_down.new.vault)
+    (λ runs. behind-more account functions (with_runs_of before lent) phase phase outputs fed c.set_down.new.self (logs_of (shown_world middle)) (g.V.Sink.held c.set_down.new.vault)
     c.set_down.ensures.host (omega arith) runs)
 
 pub returns-clause-served : goal.returns-clause-served
@@ -123,16 +122,16 @@ returns-clause-same_phase g c =
     (λ handed. ap (λ (w : World Content). w.phase) handed ∙ c.in_ok-self.ensures.phase)
 
 pub returns-clause-cut : goal.returns-clause-cut
-returns-clause-cut g c = λ receipts outputs runs held.
+returns-clause-cut g c = λ account outputs runs held.
     let functions = g.D.Digests.functions in
     let before = c.lend_runs-runs.result.items in
     let old = c.args.self.now.world in
     let middle = c.serve_phase_at_once.new.world in
     of_one_host functions middle old (host-back old middle c.serve_phase_at_once.ensures.host)
-    (λ (f : DigestFunctions) (settings : Settings) (script : List (List Task)). OnErr c.set_down.result (IsCutOff (accounts.Report receipts) f settings script (record outputs { vault_after = g.V.Sink.held c.set_down.new.vault })))
-    (c.set_down.ensures.cut receipts outputs before (
+    (λ (f : DigestFunctions) (settings : Settings) (script : List (List Task)). OnErr c.set_down.result (IsCutOff account f settings script (record outputs { vault_after = g.V.Sink.held c.set_down.new.vault })))
+    (c.set_down.ensures.cut account outputs before (
       runs.past,
-      runs-fed receipts functions c.args.self.now runs.past outputs runs.runs c.serve_phase_at_once.new.world c.in_ok-self.field-0 c.in_ok-self.field-0
+      runs-fed account functions c.args.self.now runs.past outputs runs.runs c.serve_phase_at_once.new.world c.in_ok-self.field-0 c.in_ok-self.field-0
           c.take_back.new.self before c.serve_phase_at_once.new.parcels c.serve_phase_at_once.ensures.host (on_by_phase _ _ _ _ _ c.requires.begins.unended c.requires.begins.begins c.requires.begins.running c.in_ok-self.ensures.form)
           (ap (λ (e : Option ClockEnd). first_of e c.in_ok-self.field-0) (sym c.requires.begins.unended))
           (rounds-back c.args.self.now.rounds c.lend_runs-runs.new.self c.take_back.new.self c.serve_phase_at_once.new.runs.items before c.lend_runs-runs.ensures.rest c.take_back.ensures.runs c.lend_runs-runs.ensures.runs)
@@ -141,16 +140,16 @@ returns-clause-cut g c = λ receipts outputs runs held.
     held)
 
 pub returns-clause-cut_round : goal.returns-clause-cut_round
-returns-clause-cut_round g c = λ receipts outputs behind held.
+returns-clause-cut_round g c = λ account outputs behind held.
     let functions = g.D.Digests.functions in
     let before = c.lend_runs-runs.result.items in
     let old = c.args.self.now.world in
     let phase = (shown_world old).phase in
     let middle = c.serve_phase_at_once.new.world in
     of_one_host functions middle old (host-back old middle c.serve_phase_at_once.ensures.host)
-    (λ (f : DigestFunctions) (settings : Settings) (script : List (List Task)). OnErr c.set_down.result (IsCutInRound (accounts.Report receipts) f settings script (record outputs { vault_after = g.V.Sink.held c.set_down.new.vault })))
-    (c.set_down.ensures.cut_round receipts outputs before phase
-    (behind-fed receipts functions c.args.self.now phase phase outputs behind c.serve_phase_at_once.new.world c.in_ok-self.field-0 c.in_ok-self.field-0
+    (λ (f : DigestFunctions) (settings : Settings) (script : List (List Task)). OnErr c.set_down.result (IsCutInRound account f settings script (record outputs { vault_after = g.V.Sink.held c.set_down.new.vault })))
+    (c.set_down.ensures.cut_round account outputs before phase
+    (behind-fed account functions c.args.self.now phase phase outputs behind c.serve_phase_at_once.new.world c.in_ok-self.field-0 c.in_ok-self.field-0
     c.take_back.new.self before c.serve_phase_at_once.new.parcels c.serve_phase_at_once.ensures.host (on_by_phase _ _ _ _ _ c.requires.begins.unended c.requires.begins.begins c.requires.begins.running c.in_ok-self.ensures.form)
     (ap (λ (e : Option ClockEnd). first_of e c.in_ok-self.field-0) (sym c.requires.begins.unended))
     (rounds-back c.args.self.now.rounds c.lend_runs-runs.new.self c.take_back.new.self c.serve_phase_at_once.new.runs.items before c.lend_runs-runs.ensures.rest c.take_back.ensures.runs c.lend_runs-runs.ensures.runs)

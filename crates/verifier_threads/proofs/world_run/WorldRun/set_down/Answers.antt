@@ -9,7 +9,7 @@ use Rattle.host_world.specs.declared.settings.Settings.{Settings}
 use Rattle.host_world.specs.Shown.{shown_world, digests_of}
 use Rattle.host_rounds.specs.Feeding.{AllRead}
 use Rattle.host_rounds.specs.SoFar.{RunsSoFar, Keeps, with_runs}
-use Rattle.bundle_report.specs.Report.{told_by}
+use Rattle.verifier_threads.specs.Serving.{told_for}
 use Rattle.verifier_threads.specs.Running.{IsRunning, with_no_log, with_runs_of}
 use Rattle.verifier_threads.proofs.HandingLemmas.{texts-length}
 use Rattle.verifier_threads.proofs.RunningLemmas.{of_one_host, running-workers, running-rests}
@@ -39,13 +39,13 @@ write-requires g c =
     record { few = omega (arith, count, runs.running.settings_fit.header.verifiers) }
 
 pub returns-in_err-hand_out_all-clause-cut : goal.returns-in_err-hand_out_all-clause-cut
-returns-in_err-hand_out_all-clause-cut g c = λ receipts outputs before runs held.
+returns-in_err-hand_out_all-clause-cut g c = λ account outputs before runs held.
     err_any c.from_residual.result
-    (runs-cut receipts g.D.Digests.functions (with_runs_of before c.args.self.now) outputs runs.0 runs.1 c.what_is_due_stays_due.ensures.stays c.rounds_make_a_bundle.ensures.more
+    (runs-cut account g.D.Digests.functions (with_runs_of before c.args.self.now) outputs runs.0 runs.1 c.what_is_due_stays_due.ensures.stays c.rounds_make_a_bundle.ensures.more
     (g.V.Sink.held c.args.vault.now) outputs.out_after held refl)
 
 pub returns-clause-runs : goal.returns-clause-runs
-returns-clause-runs g c = λ receipts outputs before past runs took stands held.
+returns-clause-runs g c = λ account outputs before past runs took stands held.
     let old = c.args.self.now in
     let functions = g.D.Digests.functions in
     let own = functions (digests_of old.world) in
@@ -66,11 +66,11 @@ returns-clause-runs g c = λ receipts outputs before past runs took stands held.
     let keeps = subst (λ (h : Option (List ℕ)). Keeps own header logs (map (written_logs header) past) rounds outputs.vault h) held r.keeps in
     let taken = subst (λ (all : List (List ℕ)). AllRead own all before old.rounds.runs) (sym round_is) took in
     ok_both c.write.result (c.write.ensures.keeps own header logs (map (written_logs header) past) outputs.vault before keeps taken)
-    (c.write.ensures.lines (told_by receipts own header) own header logs before r.keeps.runs)
+    (c.write.ensures.lines (told_for account own header) own header logs before r.keeps.runs)
     (λ keeps' lines. record {
       running =
           of_one_host functions old.world new host
-          (λ (f : DigestFunctions) (settings : Settings) (script : List (List Task)). IsRunning receipts f settings script (shown_world new) c.write.new.self old.end (past ++ (logs_of (shown_world old.world) ∷ [])) (record outputs { vault_after = vault' }))
+          (λ (f : DigestFunctions) (settings : Settings) (script : List (List Task)). IsRunning account f settings script (shown_world new) c.write.new.self old.end (past ++ (logs_of (shown_world old.world) ∷ [])) (record outputs { vault_after = vault' }))
           (running-taken _ _ _ _ (shown_world old.world) rounds old.end past outputs r (shown_world new) round c.write.new.self vault'
           stands rests c.in_ok-hand_out_all.ensures.forgotten round_is keeps' lines);
       buffers = ap length items ∙ size ∙ sym (length-map old.world.workers.items with_no_log) ∙ sym (ap (λ (w : World Content). length w.workers) c.in_ok-hand_out_all.ensures.forgotten);
@@ -81,27 +81,27 @@ pub returns-clause-handed : goal.returns-clause-handed
 returns-clause-handed g c = ok_any c.write.result c.in_ok-hand_out_all.ensures.forgotten
 
 pub returns-clause-cut : goal.returns-clause-cut
-returns-clause-cut g c = λ receipts outputs before runs held.
+returns-clause-cut g c = λ account outputs before runs held.
     let old = c.args.self.now in
     let size : length c.hand_out_all.new.buffers ≡ length old.world.workers.items = ap length c.in_ok-hand_out_all.ensures.handed ∙ texts-length old.world.settings.header old.world.workers.items in
     let items = with_items_is old.buffers c.hand_out_all.new.buffers (size ∙ sym runs.1.buffers ∙ sym old.buffers.ok.0) in
     err_any c.write.result
-    (runs-cut_round receipts g.D.Digests.functions (with_runs_of before old) outputs runs.0 runs.1 c.what_is_due_stays_due.ensures.stays c.rounds_make_a_bundle.ensures.more
+    (runs-cut_round account g.D.Digests.functions (with_runs_of before old) outputs runs.0 runs.1 c.what_is_due_stays_due.ensures.stays c.rounds_make_a_bundle.ensures.more
     (g.V.Sink.held c.args.vault.now) (g.V.Sink.held c.write.new.vault) c.as_slice.result.now held
     (c.as_slice.ensures.value ∙ items ∙ c.in_ok-hand_out_all.ensures.handed) c.write.ensures.grown)
 
 pub returns-in_err-hand_out_all-clause-cut_round : goal.returns-in_err-hand_out_all-clause-cut_round
-returns-in_err-hand_out_all-clause-cut_round g c = λ receipts outputs before closes behind held.
+returns-in_err-hand_out_all-clause-cut_round g c = λ account outputs before closes behind held.
     err_any c.from_residual.result
-    (runs-cut_before receipts g.D.Digests.functions (with_runs_of before c.args.self.now) outputs behind.past behind.runs closes closes behind.count (inl refl) behind.told
+    (runs-cut_before account g.D.Digests.functions (with_runs_of before c.args.self.now) outputs behind.past behind.runs closes closes behind.count (inl refl) behind.told
     (g.V.Sink.held c.args.vault.now) held)
 
 pub returns-clause-cut_round : goal.returns-clause-cut_round
-returns-clause-cut_round g c = λ receipts outputs before closes behind held.
+returns-clause-cut_round g c = λ account outputs before closes behind held.
     let old = c.args.self.now in
     let size : length c.hand_out_all.new.buffers ≡ length old.world.workers.items = ap length c.in_ok-hand_out_all.ensures.handed ∙ texts-length old.world.settings.header old.world.workers.items in
     let items = with_items_is old.buffers c.hand_out_all.new.buffers (size ∙ sym behind.runs.buffers ∙ sym old.buffers.ok.0) in
     err_any c.write.result
-    (runs-cut_in_round receipts g.D.Digests.functions (with_runs_of before old) outputs behind.past behind.runs closes closes behind.count (inl refl) behind.told
+    (runs-cut_in_round account g.D.Digests.functions (with_runs_of before old) outputs behind.past behind.runs closes closes behind.count (inl refl) behind.told
     (g.V.Sink.held c.args.vault.now) (g.V.Sink.held c.write.new.vault) c.as_slice.result.now held
     (c.as_slice.ensures.value ∙ items ∙ c.in_ok-hand_out_all.ensures.handed) c.write.ensures.grown)
