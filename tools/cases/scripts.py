@@ -37,16 +37,20 @@ WRONG_LINES = [
     b"0 get 05",
     b"0 get -5",
     b"0 get 0x5",
-    b"0 get 18446744073709551616",
     b"0 put 05 6",
     b"0 put 5 6",
     b"0 put 5 ..",
     b"0 put 5 6A",
-    b"0 put 5 " + b"00" * 65,
     b"0 put 5 \xff\xff",
     b"\xff get 5",
     b"0 get 5\0",
 ]
+WRONG_BEFORE_VERSION_3 = [b"0 get 18446744073709551616", b"0 put 5 " + b"00" * 65]
+
+
+def wrong_lines(version):
+    """Lines that no script of the version may have. One that may stand in a later version isn't put there: its worker could meet others."""
+    return WRONG_LINES + (WRONG_BEFORE_VERSION_3 if version < 3 else [])
 
 
 def random_words(chance, workers, hot):
@@ -126,7 +130,7 @@ def random_run(chance, workers, hot, shared, version=1):
     if clients:
         lines = signed_lines(chance, lines, options_of(words), workers)
     if chance.random() < 0.15:
-        wrong = WRONG_LINES if not clients or chance.random() < 0.3 else wrong_signed(chance, lines)
+        wrong = wrong_lines(version) if not clients or chance.random() < 0.3 else wrong_signed(chance, lines)
         lines.insert(chance.randrange(len(lines) + 1), chance.choice(wrong))
     ending = b"" if lines and chance.random() < 0.2 else b"\n"
     return words, b"\n".join(lines) + ending if lines else b""

@@ -16,7 +16,7 @@ import sys
 
 from tools.cases.later import LATER, MOST_WORKERS, wanted
 from tools.cases.player import Player, framed
-from tools.cases.scripts import WRONG_LINES, random_run
+from tools.cases.scripts import random_run, wrong_lines
 from tools.cases.words import CASES, SCRIPT
 from tools.slow.bundles import Header, magic_of
 from tools.slow.commands import COMMANDS
@@ -89,8 +89,8 @@ def write_script(folder, chance, name, number, version):
     asked += receipts(number)
     asked += ["--absent"] if number % 4 == 1 and version < 4 and "--absent" not in LATER else []
     asked += ["--rolling"] if number % 8 == 0 and "--rolling" not in LATER else []
-    if version == 1 and number < len(WRONG_LINES):
-        script = SCRIPT + WRONG_LINES[number] + b"\n" + SCRIPT
+    if version == 1 and number < len(wrong_lines(1)):
+        script = SCRIPT + wrong_lines(1)[number] + b"\n" + SCRIPT
     write_case(folder, f"run-{name}", asked, script, stores=number % 5 > 0)
 
 
