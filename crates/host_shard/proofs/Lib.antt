@@ -5,5 +5,6 @@ mod ChainLemmas
 mod RecordLemmas
 mod RehashLemmas
 mod TouchLemmas
+mod TouchedLemmas
 mod ForgetLemmas
 mod OrderLemmas

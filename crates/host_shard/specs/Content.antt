@@ -1,5 +1,5 @@
 -- What a place of the host's table holds.
-use Rattle.std.specs.Prelude.{ℕ, Bool, false, List, Option, Some, None}
+use Rattle.std.specs.Prelude.{Bool, false, List, Option, Some, None}
 use Rattle.record_text.specs.declared.value.Value.TheVariants as values
 use Rattle.tree_keys.specs.Path.{key_path}
 use Rattle.record_text.specs.declared.element.Element.{Element}

@@ -5,5 +5,6 @@ pub mod Shard
 pub mod Content
 pub mod Mirrors
 pub mod Records
+pub mod Touched
 pub mod Shown
 pub use Rattle.merkle_records.specs

@@ -6,12 +6,14 @@
 #![tactic(auto)]
 
 mod chains;
+mod changing;
 mod content;
 mod link;
 mod record;
 mod records;
 mod rehashing;
 mod shard;
+mod touched;
 mod waiting;
 
 pub use chains::{chain, end_path, ends_new, known_links, last_value};

@@ -5,7 +5,9 @@ ghost use Rattle.host_shard.specs.declared.record.Record.{Record};
 ghost use Rattle.host_shard.specs.Records.{record_at, with_kept, new_record, untouched, AreInOrder};
 ghost use Rattle.host_shard.specs.Shard.{one_more};
 
+use crate::changing::{forget_touches, set_at, touch_at};
 use crate::record::Record;
+use crate::touched::Touched;
 use base_words::Memory;
 use record_text::{Value, initial};
 use std::alloc::Global;
@@ -18,14 +20,19 @@ use tree_keys::Path;
 #[derive(Drop)]
 pub struct Records {
     map: BTreeMap<Path, Record>,
+    // Of which records touches are counted, so that they are forgotten in a time that goes by these alone.
+    touched: Touched,
 }
 
 impl Model for Records {
     ghost use Rattle.host_shard.specs.Records.{Listed};
+    ghost use Rattle.host_shard.specs.Touched.{AreNoted};
 
     ghost Value = { Listed };
 
     ghost view = { λ r. r.map.entries };
+
+    ghost invariant = { λ r. AreNoted r.touched r.map.entries };
 }
 
 impl Records {
@@ -35,6 +42,7 @@ impl Records {
     {
         Records {
             map: BTreeMap::new(alloc),
+            touched: Touched::new(alloc),
         }
     }
 
@@ -83,9 +91,7 @@ impl Records {
         ensures set { record_at self.new ≡ with_kept (record_at self.old) path.now
             (option_map (λ r. record { value = value; touches = r.touches }) (record_at self.old path.now)) }
     {
-        if let Some(kept) = self.map.get_mut(path) {
-            kept.value = value;
-        }
+        set_at(&mut self.map, path, value);
     }
 
     /// Counts one touch more of a path that has a record.
@@ -93,8 +99,8 @@ impl Records {
         ensures touched { record_at self.new ≡ with_kept (record_at self.old) path.now
             (option_map (λ r. record { value = r.value; touches = one_more r.touches }) (record_at self.old path.now)) }
     {
-        if let Some(kept) = self.map.get_mut(path) {
-            kept.touches = kept.touches.saturating_add(1);
+        if touch_at(&mut self.map, path) {
+            self.touched.note(path);
         }
     }
 
@@ -102,9 +108,7 @@ impl Records {
     pub fn forget_touches(&mut self)
         ensures forgotten { record_at self.new ≡ untouched (record_at self.old) }
     {
-        self.map.retain(|_, kept| {
-            kept.touches = 0;
-            true
-        });
+        forget_touches(&mut self.map, self.touched.all());
+        self.touched.clear();
     }
 }

@@ -16,87 +16,103 @@ pub const LONGEST_PATH_COMMAND_TEXT: usize = 292;
 pub fn write_path_command(command: &Command) -> ArrayVec<u8, LONGEST_PATH_COMMAND_TEXT>
     ensures text { result.items ≡ path_command_text command.now }
 {
+    let mut text = ArrayVec::new();
+    push_command(&mut text, command);
+    text
+}
+
+// Each of these writes into a text that is empty yet, so that its array is made and cleared once.
+
+fn push_command(text: &mut ArrayVec<u8, LONGEST_PATH_COMMAND_TEXT>, command: &Command)
+    requires empty { text.old.items ≡ [] }
+    ensures text { text.new.items ≡ path_command_text command.now }
+{
     match command {
         Command::AddM {
             path,
             value,
             parent,
         } => {
-            let mut text = with_value(1, path, value);
-            push_path(&mut text, parent);
-            text
+            push_with_value(text, 1, path, value);
+            push_path(text, parent);
         }
-        Command::EvictM { path, parent } => with_parent(2, path, parent),
+        Command::EvictM { path, parent } => push_with_parent(text, 2, path, parent),
         Command::AddB {
             path,
             value,
             stamp,
             verifier,
         } => {
-            let mut text = with_value(3, path, value);
-            push_stamp(&mut text, *stamp);
-            push_u16(&mut text, *verifier);
-            text
+            push_with_value(text, 3, path, value);
+            push_stamp(text, *stamp);
+            push_u16(text, *verifier);
         }
         Command::EvictB { path, stamp } => {
-            let mut text = tagged(4, path);
-            push_stamp(&mut text, *stamp);
-            text
+            push_tagged(text, 4, path);
+            push_stamp(text, *stamp);
         }
         Command::EvictBM {
             path,
             parent,
             stamp,
         } => {
-            let mut text = with_parent(5, path, parent);
-            push_stamp(&mut text, *stamp);
-            text
+            push_with_parent(text, 5, path, parent);
+            push_stamp(text, *stamp);
         }
-        Command::Get { path, value } => with_value(6, path, value),
-        Command::Put { path, value } => with_value(7, path, value),
-        Command::NextEpoch => tag_alone(8),
-        Command::Absent { path, parent } => with_parent(9, path, parent),
+        Command::Get { path, value } => push_with_value(text, 6, path, value),
+        Command::Put { path, value } => push_with_value(text, 7, path, value),
+        Command::NextEpoch => push_tag_alone(text, 8),
+        Command::Absent { path, parent } => push_with_parent(text, 9, path, parent),
     }
 }
 
 // A tag with nothing behind it yet.
-fn tag_alone(tag: u8) -> ArrayVec<u8, LONGEST_PATH_COMMAND_TEXT>
-    ensures text { result.items ≡ tag ∷ [] }
-    ensures len { array_vec_len result ≡ 1 }
+fn push_tag_alone(text: &mut ArrayVec<u8, LONGEST_PATH_COMMAND_TEXT>, tag: u8)
+    requires empty { text.old.items ≡ [] }
+    ensures text { text.new.items ≡ tag ∷ [] }
+    ensures len { array_vec_len text.new ≡ 1 }
 {
-    let mut text = ArrayVec::new();
     text.push(tag);
-    text
 }
 
 // A tag and a path.
-fn tagged(tag: u8, path: &Path) -> ArrayVec<u8, LONGEST_PATH_COMMAND_TEXT>
-    ensures text { result.items ≡ tag ∷ path_text path.now }
-    ensures len { array_vec_len result ≤ 18 }
+fn push_tagged(text: &mut ArrayVec<u8, LONGEST_PATH_COMMAND_TEXT>, tag: u8, path: &Path)
+    requires empty { text.old.items ≡ [] }
+    ensures text { text.new.items ≡ tag ∷ path_text path.now }
+    ensures len { array_vec_len text.new ≤ 18 }
 {
-    let mut text = tag_alone(tag);
-    push_path(&mut text, path);
-    text
+    push_tag_alone(text, tag);
+    push_path(text, path);
 }
 
 // A tag, and the paths of a record and of its parent.
-fn with_parent(tag: u8, path: &Path, parent: &Path) -> ArrayVec<u8, LONGEST_PATH_COMMAND_TEXT>
-    ensures text { result.items
+fn push_with_parent(
+    text: &mut ArrayVec<u8, LONGEST_PATH_COMMAND_TEXT>,
+    tag: u8,
+    path: &Path,
+    parent: &Path,
+)
+    requires empty { text.old.items ≡ [] }
+    ensures text { text.new.items
         ≡ tag ∷ path_text path.now ++ path_text parent.now }
-    ensures len { array_vec_len result ≤ 35 }
+    ensures len { array_vec_len text.new ≤ 35 }
 {
-    let mut text = tagged(tag, path);
-    push_path(&mut text, parent);
-    text
+    push_tagged(text, tag, path);
+    push_path(text, parent);
 }
 
 // A tag, a path and its value.
-fn with_value(tag: u8, path: &Path, value: &Value) -> ArrayVec<u8, LONGEST_PATH_COMMAND_TEXT>
-    ensures text { result.items
+fn push_with_value(
+    text: &mut ArrayVec<u8, LONGEST_PATH_COMMAND_TEXT>,
+    tag: u8,
+    path: &Path,
+    value: &Value,
+)
+    requires empty { text.old.items ≡ [] }
+    ensures text { text.new.items
         ≡ tag ∷ path_text path.now ++ value_text value.now }
-    ensures len { array_vec_len result ≤ 275 }
+    ensures len { array_vec_len text.new ≤ 275 }
 {
-    let mut text = tagged(tag, path);
-    push_value(&mut text, value);
-    text
+    push_tagged(text, tag, path);
+    push_value(text, value);
 }

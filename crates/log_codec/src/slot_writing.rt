@@ -16,6 +16,17 @@ pub const LONGEST_SLOT_COMMAND_TEXT: usize = 287;
 pub fn write_slot_command(command: &SlotCommand) -> ArrayVec<u8, LONGEST_SLOT_COMMAND_TEXT>
     ensures text { result.items ≡ slot_command_text command.now }
 {
+    let mut text = ArrayVec::new();
+    push_command(&mut text, command);
+    text
+}
+
+// Each of these writes into a text that is empty yet, so that its array is made and cleared once.
+
+fn push_command(text: &mut ArrayVec<u8, LONGEST_SLOT_COMMAND_TEXT>, command: &SlotCommand)
+    requires empty { text.old.items ≡ [] }
+    ensures text { text.new.items ≡ slot_command_text command.now }
+{
     match command {
         SlotCommand::AddM {
             slot,
@@ -23,11 +34,10 @@ pub fn write_slot_command(command: &SlotCommand) -> ArrayVec<u8, LONGEST_SLOT_CO
             value,
             parent,
         } => {
-            let mut text = with_value(1, *slot, path, value);
-            push_u16(&mut text, *parent);
-            text
+            push_with_value(text, 1, *slot, path, value);
+            push_u16(text, *parent);
         }
-        SlotCommand::EvictM { slot, parent } => with_parent(2, *slot, *parent),
+        SlotCommand::EvictM { slot, parent } => push_with_parent(text, 2, *slot, *parent),
         SlotCommand::AddB {
             slot,
             path,
@@ -35,94 +45,101 @@ pub fn write_slot_command(command: &SlotCommand) -> ArrayVec<u8, LONGEST_SLOT_CO
             stamp,
             verifier,
         } => {
-            let mut text = with_value(3, *slot, path, value);
-            push_stamp(&mut text, *stamp);
-            push_u16(&mut text, *verifier);
-            text
+            push_with_value(text, 3, *slot, path, value);
+            push_stamp(text, *stamp);
+            push_u16(text, *verifier);
         }
         SlotCommand::EvictB { slot, stamp } => {
-            let mut text = tagged(4, *slot);
-            push_stamp(&mut text, *stamp);
-            text
+            push_tagged(text, 4, *slot);
+            push_stamp(text, *stamp);
         }
         SlotCommand::EvictBM {
             slot,
             parent,
             stamp,
         } => {
-            let mut text = with_parent(5, *slot, *parent);
-            push_stamp(&mut text, *stamp);
-            text
+            push_with_parent(text, 5, *slot, *parent);
+            push_stamp(text, *stamp);
         }
-        SlotCommand::Get { slot, value } => with_blob(6, *slot, value),
-        SlotCommand::Put { slot, value } => with_blob(7, *slot, value),
-        SlotCommand::NextEpoch => tag_alone(8),
-        SlotCommand::Absent { path, parent } => absent(path, *parent),
+        SlotCommand::Get { slot, value } => push_with_blob(text, 6, *slot, value),
+        SlotCommand::Put { slot, value } => push_with_blob(text, 7, *slot, value),
+        SlotCommand::NextEpoch => push_tag_alone(text, 8),
+        SlotCommand::Absent { path, parent } => push_absent(text, path, *parent),
     }
 }
 
 // A tag with nothing behind it yet.
-fn tag_alone(tag: u8) -> ArrayVec<u8, LONGEST_SLOT_COMMAND_TEXT>
-    ensures text { result.items ≡ tag ∷ [] }
-    ensures len { array_vec_len result ≡ 1 }
+fn push_tag_alone(text: &mut ArrayVec<u8, LONGEST_SLOT_COMMAND_TEXT>, tag: u8)
+    requires empty { text.old.items ≡ [] }
+    ensures text { text.new.items ≡ tag ∷ [] }
+    ensures len { array_vec_len text.new ≡ 1 }
 {
-    let mut text = ArrayVec::new();
     text.push(tag);
-    text
 }
 
 // A tag and a slot.
-fn tagged(tag: u8, slot: u16) -> ArrayVec<u8, LONGEST_SLOT_COMMAND_TEXT>
-    ensures text { result.items ≡ tag ∷ slot_text slot }
-    ensures len { array_vec_len result ≡ 3 }
+fn push_tagged(text: &mut ArrayVec<u8, LONGEST_SLOT_COMMAND_TEXT>, tag: u8, slot: u16)
+    requires empty { text.old.items ≡ [] }
+    ensures text { text.new.items ≡ tag ∷ slot_text slot }
+    ensures len { array_vec_len text.new ≡ 3 }
 {
-    let mut text = tag_alone(tag);
-    push_u16(&mut text, slot);
-    text
+    push_tag_alone(text, tag);
+    push_u16(text, slot);
 }
 
 // A tag, and the slots of a record and of its parent.
-fn with_parent(tag: u8, slot: u16, parent: u16) -> ArrayVec<u8, LONGEST_SLOT_COMMAND_TEXT>
-    ensures text { result.items ≡ tag ∷ slot_text slot ++ slot_text parent }
-    ensures len { array_vec_len result ≡ 5 }
+fn push_with_parent(
+    text: &mut ArrayVec<u8, LONGEST_SLOT_COMMAND_TEXT>,
+    tag: u8,
+    slot: u16,
+    parent: u16,
+)
+    requires empty { text.old.items ≡ [] }
+    ensures text { text.new.items ≡ tag ∷ slot_text slot ++ slot_text parent }
+    ensures len { array_vec_len text.new ≡ 5 }
 {
-    let mut text = tagged(tag, slot);
-    push_u16(&mut text, parent);
-    text
+    push_tagged(text, tag, slot);
+    push_u16(text, parent);
 }
 
 // A tag, a slot, a path and its value.
-fn with_value(
+fn push_with_value(
+    text: &mut ArrayVec<u8, LONGEST_SLOT_COMMAND_TEXT>,
     tag: u8,
     slot: u16,
     path: &Path,
     value: &Value,
-) -> ArrayVec<u8, LONGEST_SLOT_COMMAND_TEXT>
-    ensures text { result.items
+)
+    requires empty { text.old.items ≡ [] }
+    ensures text { text.new.items
         ≡ tag ∷ slot_text slot ++ path_text path.now ++ value_text value.now }
-    ensures len { array_vec_len result ≤ 277 }
+    ensures len { array_vec_len text.new ≤ 277 }
 {
-    let mut text = tagged(tag, slot);
-    push_path(&mut text, path);
-    push_value(&mut text, value);
-    text
+    push_tagged(text, tag, slot);
+    push_path(text, path);
+    push_value(text, value);
 }
 
 // The absence of a path, by the slot of its parent.
-fn absent(path: &Path, parent: u16) -> ArrayVec<u8, LONGEST_SLOT_COMMAND_TEXT>
-    ensures text { result.items ≡ 9 ∷ path_text path.now ++ slot_text parent }
+fn push_absent(text: &mut ArrayVec<u8, LONGEST_SLOT_COMMAND_TEXT>, path: &Path, parent: u16)
+    requires empty { text.old.items ≡ [] }
+    ensures text { text.new.items ≡ 9 ∷ path_text path.now ++ slot_text parent }
 {
-    let mut text = tag_alone(9);
-    push_path(&mut text, path);
-    push_u16(&mut text, parent);
-    text
+    push_tag_alone(text, 9);
+    push_path(text, path);
+    push_u16(text, parent);
 }
 
 // A tag, a slot and a data value.
-fn with_blob(tag: u8, slot: u16, value: &Blob) -> ArrayVec<u8, LONGEST_SLOT_COMMAND_TEXT>
-    ensures text { result.items ≡ tag ∷ slot_text slot ++ blob_text value.now }
+fn push_with_blob(
+    text: &mut ArrayVec<u8, LONGEST_SLOT_COMMAND_TEXT>,
+    tag: u8,
+    slot: u16,
+    value: &Blob,
+)
+    requires empty { text.old.items ≡ [] }
+    ensures text { text.new.items ≡ tag ∷ slot_text slot ++ blob_text value.now }
 {
-    let mut text = tagged(tag, slot);
-    push_blob(&mut text, &value.by_ref());
-    text
+    push_tagged(text, tag, slot);
+    push_blob(text, &value.by_ref());
 }

@@ -10,23 +10,23 @@ use std::marker::Brand;
 use std::sync::ledger::{Blank, Ledger};
 use tree_keys::Path;
 
-// How one path lies to another in the order of an index: shorter ones first, those of one length by their words, and those of
-// one word by their trees.
+// How one path lies to another in the order of an index: shorter ones first, those of one length by the number that their bits
+// spell, and those of one number by their trees.
 fn order(one: &Path, other: &Path) -> Ordering
     ensures order { Compared result one.now other.now }
 {
-    let (len, word, wide) = (one.len(), one.word(), one.is_wide());
-    let (others_len, others_word, others_wide) = (other.len(), other.word(), other.is_wide());
+    let (len, bits, wide) = (one.len(), one.bits(), one.is_wide());
+    let (others_len, others_bits, others_wide) = (other.len(), other.bits(), other.is_wide());
     if len < others_len {
         return Ordering::Less;
     }
     if others_len < len {
         return Ordering::Greater;
     }
-    if word < others_word {
+    if bits < others_bits {
         return Ordering::Less;
     }
-    if others_word < word {
+    if others_bits < bits {
         return Ordering::Greater;
     }
     if wide == others_wide {

@@ -1,9 +1,9 @@
 -- Of which tree paths are, and which of them are data paths and which are nodes.
-use Rattle.std.proofs.Common.{◌≡◌, ◌≢◌, ℕ, suc, ◌+◌, ◌-◌, ◌*◌, ◌/◌, ◌^◌, ◌<◌, Bool, true, false, List, [], ◌∷◌, ◌++◌, length, Some, refl, sym, ◌∙◌, ap, subst, arith}
+use Rattle.std.proofs.Common.{◌≡◌, ◌≢◌, ℕ, suc, ◌+◌, ◌-◌, ◌*◌, ◌^◌, ◌<◌, Bool, true, false, List, [], ◌∷◌, ◌++◌, length, Some, refl, sym, ◌∙◌, ap, subst, arith}
 use Rattle.std.proofs.lemmas.Bool.{false≢true, eq-eqb, eqb-true, ne_eqb}
 use Rattle.std.proofs.lemmas.Option.{none-some}
 use Rattle.std.proofs.lemmas.List.{length-append}
-use Rattle.std.proofs.lemmas.Nat.{shl-shr, shl_below}
+use Rattle.std.proofs.lemmas.Nat.{shl_below}
 use Rattle.tree_keys.specs.Bits.{bits_of, number_of}
 use Rattle.tree_keys.specs.BitsLaws.{length-bits_of, number_back}
 use Rattle.tree_keys.specs.Path.{key_bits, depth, tree_of, IsIn, IsPath, IsData, is_data, IsNodePath, key_path, key_of, side, is_prefix, word_of}
@@ -138,15 +138,11 @@ word_of-lt (wide ∷ bits) fits =
     subst (λ (n : ℕ). number_of bits * 2 ^ (key_bits wide - length bits) < 2 ^ n) whole
     (shl_below (number_of bits) (length bits) (key_bits wide - length bits) (number_of-lt bits))
 
--- a path of a tree is told by its depth and its word
-pub one_word : (wide : Bool) (p k : List Bool) → IsIn wide p → IsIn wide k → depth p ≡ depth k → word_of p ≡ word_of k → p ≡ k
-one_word wide [] k within also deep word = absurd within
-one_word wide (first ∷ p) [] within also deep word = absurd also
-one_word wide (first ∷ p) (second ∷ k) within also deep word =
-    let shift : ℕ = key_bits first - length p in
+-- a path of a tree is told by its depth and the number that its bits spell
+pub one_number : (wide : Bool) (p k : List Bool) → IsIn wide p → IsIn wide k → depth p ≡ depth k → key_of p ≡ key_of k → p ≡ k
+one_number wide [] k within also deep number = absurd within
+one_number wide (first ∷ p) [] within also deep number = absurd also
+one_number wide (first ∷ p) (second ∷ k) within also deep number =
     let trees : first ≡ second = within ∙ sym also in
-    let words : number_of p * 2 ^ shift ≡ number_of k * 2 ^ shift =
-    word ∙ (ap (λ (n : ℕ). number_of k * 2 ^ (key_bits second - n)) (sym deep) ∙ ap (λ (b : Bool). number_of k * 2 ^ (key_bits b - length p)) (sym trees)) in
-    let numbers : number_of p ≡ number_of k = sym (shl-shr (number_of p) shift) ∙ (ap (λ (n : ℕ). n / 2 ^ shift) words ∙ shl-shr (number_of k) shift) in
-    let bits : p ≡ k = sym (bits_of-number_of p) ∙ (ap (bits_of (length p)) numbers ∙ (ap (λ (n : ℕ). bits_of n (number_of k)) deep ∙ bits_of-number_of k)) in
+    let bits : p ≡ k = sym (bits_of-number_of p) ∙ (ap (bits_of (length p)) number ∙ (ap (λ (n : ℕ). bits_of n (number_of k)) deep ∙ bits_of-number_of k)) in
     cc

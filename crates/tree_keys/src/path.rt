@@ -107,8 +107,8 @@ impl Path {
         }
     }
 
-    // The bits that lead to it, as a number.
-    fn bits(&self) -> u128
+    /// The number that the bits that lead to it spell: 0 for a root.
+    pub fn bits(&self) -> u128
         ensures value { result ≡ key_of self.now }
         ensures small { result < 2 ^ depth self.now }
     {

@@ -1,13 +1,16 @@
-use Rattle.std.proofs.Common.{rules, ◌∙◌, ap}
-use Rattle.std.proofs.lemmas.Map.Made.{map_same_pairs}
+use Rattle.std.proofs.Common.{◌∙◌, ap}
 use Rattle.host_shard.specs.Records.{Listed, record_at, untouched}
-use Rattle.host_shard.proofs.ForgetLemmas.{forgotten, record_at-forgotten}
+use Rattle.host_shard.proofs.TouchedLemmas.{noted_none}
 use Rattle.host_shard.proofs.records.Records.forget_touches.Goals as goal
+
+pub forget_touches-requires : goal.forget_touches-requires
+forget_touches-requires c = record { all = c.all.ensures.all c.self.inside.map.entries c.self.invariant }
+
+pub invariant_of-self : goal.invariant_of-self
+invariant_of-self c =
+    noted_none c.clear.new.self c.forget_touches.new.map.entries (record_at c.self.inside.map.entries) c.forget_touches.ensures.forgotten
 
 pub returns : goal.returns
 returns c = record {
-  forgotten = ap record_at
-      (map_same_pairs _ forgotten _ (λ k v b w f' t. search rules) c.self.inside.map.entries c.retain.new.self.entries c.retain.ensures.filtered)
-      ∙ record_at-forgotten c.self.inside.map.entries
-      ∙ ap (λ (listed : Listed). untouched (record_at listed)) c.self.view_is;
+  forgotten = c.forget_touches.ensures.forgotten ∙ ap (λ (listed : Listed). untouched (record_at listed)) c.self.view_is;
 }
