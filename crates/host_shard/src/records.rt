@@ -1,9 +1,10 @@
 //! The records of a shard by their paths.
-ghost use Rattle.std.specs.Prelude.{◌≡◌, [], not, is_some, unwrap_or, Some, None, IsSome, IfOk, OnOk, OnErr};
+ghost use Rattle.std.specs.Prelude.{◌≡◌, [], not, is_some, unwrap_or, Some, None, IsSome, IfOk, IfSome, OnOk, OnErr};
 ghost use Rattle.std.specs.Option.{option_copied, option_map};
 ghost use Rattle.host_shard.specs.declared.record.Record.{Record};
 ghost use Rattle.host_shard.specs.Records.{record_at, with_kept, new_record, untouched, AreInOrder};
 ghost use Rattle.host_shard.specs.Shard.{one_more};
+ghost use Rattle.host_shard.specs.Touched.{AreAmong};
 
 use crate::changing::{forget_touches, set_at, touch_at};
 use crate::record::Record;
@@ -59,6 +60,14 @@ impl Records {
         ensures in_order { AreInOrder self.now }
     {
         self.map.iter()
+    }
+
+    /// The paths of the records that are touched, or none where there was no memory to list them all. One may be there more than
+    /// once, and one may have lost its record since.
+    pub fn touched(&self) -> Option<&[Path]>
+        ensures all { IfSome result (λ paths. AreAmong paths.now self.now) }
+    {
+        self.touched.all()
     }
 
     /// Makes sure that a path has a record, and answers whether it is a new one. For want of memory all is as before.
