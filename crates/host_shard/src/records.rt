@@ -62,12 +62,17 @@ impl Records {
         self.map.iter()
     }
 
-    /// The paths of the records that are touched, or none where there was no memory to list them all. One may be there more than
-    /// once, and one may have lost its record since.
-    pub fn touched(&self) -> Option<&[Path]>
+    /// The paths of the records that are touched, where they are listed and few beside all records: one in sixteen at most. A path
+    /// may be there more than once, and may have lost its record since.
+    pub fn few_touched(&self) -> Option<&[Path]>
         ensures all { IfSome result (λ paths. AreAmong paths.now self.now) }
+        ensures in_order { AreInOrder self.now }
     {
-        self.touched.all()
+        let most = self.map.len() / 16;
+        match self.touched.all() {
+            Some(paths) if paths.len() <= most => Some(paths),
+            _ => None,
+        }
     }
 
     /// Makes sure that a path has a record, and answers whether it is a new one. For want of memory all is as before.
