@@ -6,6 +6,7 @@ mod CountingLemmas
 mod PlaceLemmas
 mod SavingLemmas
 mod PromotableLemmas
+mod LowestLemmas
 mod DescentLemmas
 mod DoneLemmas
 mod MoveLemmas

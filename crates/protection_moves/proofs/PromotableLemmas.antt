@@ -24,14 +24,14 @@ use Rattle.protection_moves.specs.Promotable.{is_hot, key_in, promotable_key, li
 
 -- ---- lists and tests
 
-none≢some : {X : Type 0} (x : X) → None ≡ Some x → ⊥
+pub none≢some : {X : Type 0} (x : X) → None ≡ Some x → ⊥
 none≢some {X} x is = false≢true (ap there is)
   where
     there : Option X → Bool
     there None = false
     there (Some y) = true
 
-some_of : {X : Type 0} (x y : X) → Some x ≡ Some y → x ≡ y
+pub some_of : {X : Type 0} (x y : X) → Some x ≡ Some y → x ≡ y
 some_of {X} x y is = ap (or x) is
   where
     or : X → Option X → X
@@ -174,10 +174,10 @@ module _ (least : ℕ) (frontier : List Bool) (places : List Content) where
       some None h = absurd (true≢false h)
       some (Some x) h = refl
 
-  promotable_at : (path : List Bool) (kept : Record) (key : ℕ) → promotable_key least frontier places path kept ≡ Some key → IsPromotableAt least frontier places path kept key
+  pub promotable_at : (path : List Bool) (kept : Record) (key : ℕ) → promotable_key least frontier places path kept ≡ Some key → IsPromotableAt least frontier places path kept key
   promotable_at path kept key is = opened path kept key (nat_lt kept.touches least) (is_none (side frontier path)) (is_hot path places) refl refl refl is
 
-  is_promotable_at : (path : List Bool) (kept : Record) (key : ℕ) → IsPromotableAt least frontier places path kept key → promotable_key least frontier places path kept ≡ Some key
+  pub is_promotable_at : (path : List Bool) (kept : Record) (key : ℕ) → IsPromotableAt least frontier places path kept key → promotable_key least frontier places path kept ≡ Some key
   is_promotable_at path kept key promotable =
       ap (λ (b : Bool). chosen b (is_none (side frontier path) || is_hot path places) (key_in (tree_of frontier) path)) (le-ltb kept.touches least promotable.often)
       ∙ ap (λ (b : Bool). chosen false (b || is_hot path places) (key_in (tree_of frontier) path)) (there (side frontier path) promotable.below)

@@ -1,7 +1,7 @@
 -- The keys that are promotable, read off the records one by one.
-use Rattle.std.specs.Prelude.{◌≡◌, ℕ, ◌<◌, ◌&&◌, ◌||◌, Bool, false, List, [], ◌∷◌, ◌++◌, take, Option, Some, None, is_none, nat_lt, if◌then◌else◌}
-use Rattle.std.specs.List.{AllByRecursion}
-use Rattle.tree_keys.specs.Path.{tree_of, is_data, key_of, same_bit, same_path, side}
+use Rattle.std.specs.Prelude.{◌≡◌, ℕ, ◌<◌, ◌≤◌, ◌&&◌, ◌||◌, Bool, true, false, List, [], ◌∷◌, ◌++◌, take, Option, Some, None, is_none, nat_lt, if◌then◌else◌}
+use Rattle.std.specs.List.{AllByRecursion, IsAmong, list_any}
+use Rattle.tree_keys.specs.Path.{tree_of, is_data, key_of, key_path, same_bit, same_path, side}
 use Rattle.host_shard.specs.declared.record.Record.{Record}
 use Rattle.host_shard.specs.Content.{hot_path, Content, cold, hot, vacant}
 use Rattle.host_shard.specs.Records.{Listed}
@@ -46,3 +46,26 @@ pub record AreFirstPromotable (stage : Stage) (threshold : Option ℕ) (room : �
   pub promotable : List ℕ
   pub are_promotable : ArePromotable stage threshold promotable
   pub first : keys ≡ take room promotable
+
+-- ---- where few were touched
+
+-- a key is above another, if there is one
+abbrev pub IsAbove : Option ℕ → ℕ → Type 0
+IsAbove None key = Unit {0}
+IsAbove (Some other) key = other < key
+
+-- the path of a key of a tree is one of these
+abbrev pub IsAt : Bool → List (List Bool) → ℕ → Type 0
+IsAt wide paths key = list_any (same_path (key_path wide key)) paths ≡ true
+
+-- the lower of two keys
+abbrev pub lower_of : Option ℕ → ℕ → Option ℕ
+lower_of None key = Some key
+lower_of (Some other) key = if nat_lt key other then Some key else Some other
+
+-- It is the lowest of the keys that is above another, of those whose paths are among these; or there is none.
+abbrev pub IsLowest : List ℕ → Bool → Option ℕ → List (List Bool) → Option ℕ → Type 0
+IsLowest keys wide above paths None = (key : ℕ) → IsAmong keys key → IsAbove above key → IsAt wide paths key → ⊥
+IsLowest keys wide above paths (Some lowest) =
+    IsAmong keys lowest × IsAbove above lowest
+    × ((key : ℕ) → IsAmong keys key → IsAbove above key → IsAt wide paths key → lowest ≤ key)

@@ -8,6 +8,7 @@ mod counting;
 mod demoting;
 mod descents;
 mod fault;
+mod few_touched;
 mod hot_places;
 mod migrating;
 mod promotable;

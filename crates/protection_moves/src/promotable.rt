@@ -10,6 +10,7 @@ ghost use Rattle.host_shard.specs.Shard.{wide_in, key_path_in};
 ghost use Rattle.protection_moves.specs.Promotable.{key_in, promotable_key, is_hot, AreFirstPromotable, AreRising};
 ghost use Rattle.protection_moves.specs.Shown.{shown_stage};
 
+use crate::few_touched::touched_often_at;
 use crate::hot_places::HOT_PLACES;
 use arrayvec::ArrayVec;
 use host_shard::{Content, Record, Shard};
@@ -41,7 +42,7 @@ fn key_in(wide: bool, path: &Path) -> Option<u128>
 }
 
 // The key of this record, if it is promotable: it was touched so often, lies below the shard's frontier and isn't hot.
-fn promotable_key(
+pub(crate) fn promotable_key(
     shard: &Shard,
     places: &[Content],
     least: u32,
@@ -99,8 +100,11 @@ pub(crate) fn promotable_keys(
     ensures in_range { AllByRecursion (λ key. key < 2 ^ key_bits (wide_in (shown shard.now))) result.items }
     ensures rising { AreRising result.items }
 {
-    match threshold {
-        Some(least) => touched_often(shard, places, least, room),
-        None => ArrayVec::new(),
+    let Some(least) = threshold else {
+        return ArrayVec::new();
+    };
+    match shard.records.few_touched() {
+        Some(paths) => touched_often_at(shard, places, least, room, paths),
+        None => touched_often(shard, places, least, room),
     }
 }
