@@ -1,7 +1,7 @@
 """Random scripts, each with the words of `run` that it is served by.
 
-There are few keys, so that requests meet; counters that end early and epochs that end late, so that clocks end; and
-scripts with a line that is none.
+There are few keys, so that requests meet, but for some scripts that begin with many keys of a shard; counters that end early and
+epochs that end late, so that clocks end; and scripts with a line that is none.
 """
 from tools.slow import fastver
 from tools.slow.digests import ShaDigests
@@ -9,6 +9,7 @@ from tools.slow.script import signing
 from tools.slow.words import options_of
 
 TAILS = [0, 1, 5, 2**53]  # of keys, behind their shard's frontier
+MANY = 64  # keys of one shard, so that fewer than one in sixteen are touched in a later phase
 VALUES = [".", "00", "61", "6162", "ff" * 64]
 LONG_VALUES = ["ff" * 255, "00" * 65]  # from version 3 on
 WRONG_LINES = [
@@ -69,23 +70,32 @@ def random_words(chance, workers, hot):
     return ["run"] + [word for pair in words for word in pair], shards
 
 
-def request_line(chance, worker, shards, own, bits, values):
+def request_line(chance, worker, shards, own, bits, tails, values):
     """A request of a worker, for a key of one of its shards."""
-    key = (chance.choice(own) << bits) // shards + chance.choice(TAILS + [(2**bits - 1) // shards])
+    key = (chance.choice(own) << bits) // shards + chance.choice(tails)
     kind = chance.choice(["get", "get", "put", "put", "del"])
     value = " " + chance.choice(values) if kind == "put" else ""
     return f"{worker} {kind} {key}{value}".encode()
 
 
+def many_puts(worker, shard, shards, bits):
+    """A phase that puts many keys of a shard, of which a later one touches few, and their tails."""
+    tails = [(2 * number + 1) * 2**bits // (2 * MANY * shards) for number in range(MANY)]
+    return [f"{worker} put {(shard << bits) // shards + tail} 61".encode() for tail in tails] + [b"epoch"], tails
+
+
 def random_script(chance, workers, shards, shared, bits, values):
     """A script of a few phases. In each a shard is one worker's alone, unless the shards are shared."""
-    lines = []
+    lines, tails = [], TAILS + [(2**bits - 1) // shards]
+    if chance.random() < 0.2:
+        lines, many = many_puts(chance.randrange(workers), chance.randrange(shards), shards, bits)
+        tails += chance.sample(many, 3)
     for _ in range(chance.choice([1, 1, 2, 3, 5])):
         owner = [chance.randrange(workers) for _ in range(shards)]
         for _ in range(chance.choice([0, 3, 12, 12 * workers])):
             worker = chance.randrange(workers)
             own = [shard for shard in range(shards) if shared or owner[shard] == worker]
-            lines += [request_line(chance, worker, shards, own, bits, values)] if own else []
+            lines += [request_line(chance, worker, shards, own, bits, tails, values)] if own else []
         lines.append(b"epoch")
     return lines[:-1]
 
