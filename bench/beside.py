@@ -3,13 +3,13 @@
 usage: tools/run bench.beside FOLDER OLD NEW [SIZE [TURNS]]
 
 OLD and NEW are programs, as crates/fastver_cli/out/fastver_cli of two commits. Bundles of SIZE MiB, 16 where none is named, are
-checked and audited, and a load of 50,000 requests of one worker is served, plainly and with `--hot 2`; the bundles are made in
-FOLDER where they aren't there (bench/bundles.py says what they are). The two take turns, TURNS times, 11 where none is named, in
-turns forwards and backwards, so that what else is at work on the machine hits both. Processor time, which the system counts for
-the program alone, swings less on a busy machine than wall time does, and instructions don't swing at all: where valgrind is there,
-those of a check and an audit of 1 MiB of one verifier are counted too.
+checked and audited, and 50,000 requests of one worker at 1,000 keys are served as a script and as a load, plainly and with `--hot 2`;
+bundles and script are made in FOLDER where they aren't there (bench/bundles.py and bench/runs.py say what they are). The two take
+turns, TURNS times, 11 where none is named, forwards and backwards, so that what else is at work on the machine hits both. Processor
+time, which the system counts for the program alone, swings less on a busy machine than wall time does, and instructions don't swing
+at all: where valgrind is there, those of a check and an audit of 1 MiB of one verifier are counted too.
 
-A line has the least processor time of the old and of the new program and the second by the first, in nanoseconds a byte or of a load in
+A line has the least processor time of the old and of the new program and the second by the first, in nanoseconds a byte or in
 microseconds a request, then the same of wall time; or instructions a byte. Behind the checks it says how many times as fast each
 program checks with four verifiers as with one, by wall time.
 """
@@ -18,10 +18,11 @@ import sys
 
 from bench import bundles
 from bench.run import words
-from bench.runs import HOST
+from bench.runs import HOST, script_of
 from bench.spent import instructions, least
 
-SIZE, TURNS, REQUESTS = 16, 11, 50000  # MiB, runs of each
+SIZE, TURNS = 16, 11  # MiB, runs of each
+REQUESTS, KEYS = 50000, 1000
 
 
 def bundle(folder, mix, verifiers, size):
@@ -55,10 +56,12 @@ def count(programs, command, path):
         print(f"{f'{command} {os.path.basename(path)}':30} {old / size:8.2f} {new / size:8.2f} {new / old:6.3f}  instructions", flush=True)
 
 
-def measure_load(programs, name, more, turns):
-    """Prints a line of a load."""
-    load = ["gen", *HOST, "--seed", "1", "--ops", str(REQUESTS), "--keys", "1000", *more]
-    tell(name, least([([program, *load], os.devnull) for program in programs], turns), 1e6 / REQUESTS)
+def measure_host(programs, folder, more, turns):
+    """Prints a line of a script and one of a load."""
+    load = ["--seed", "1", "--ops", str(REQUESTS), "--keys", str(KEYS)]
+    for command, own, given in (("run", [], script_of(folder, KEYS, REQUESTS)), ("gen", load, os.devnull)):
+        asked = [command, *HOST, *own, *more]
+        tell(" ".join([command, *more]), least([([program, *asked], given) for program in programs], turns), 1e6 / REQUESTS)
 
 
 def main():
@@ -73,8 +76,8 @@ def main():
         measure(programs, "audit", bundle(folder, mix, 1, size), turns)
         for command in ("check", "audit"):
             count(programs, command, bundle(folder, mix, 1, 1))
-    measure_load(programs, "gen, cold", [], turns)
-    measure_load(programs, "gen, hot", ["--hot", "2"], turns)
+    measure_host(programs, folder, [], turns)
+    measure_host(programs, folder, ["--hot", "2"], turns)
     return 0
 
 
