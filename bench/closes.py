@@ -2,9 +2,9 @@
 
 usage: tools/run bench.closes FOLDER OLD NEW [RECORDS [TURNS]]    (FOLDER lies outside the repository)
 
-OLD and NEW are built programs. A script puts RECORDS keys, 200,000 where none is named, by epochs of 10,000; another goes on with 200
-epochs of ten gets each. One worker serves both over 16 shards, plainly and with `--hot 2`. What the second takes more than the first is
-what these 200 epochs take: least processor time of TURNS runs of each, 5 where none is named, in microseconds an epoch.
+OLD and NEW are built programs. A script puts RECORDS keys, 100,000 where none is named, by epochs of 10,000; another goes on with
+1,000 epochs of ten gets each. One worker serves both over 16 shards, plainly and with `--hot 2`. What the second takes more than
+the first is what these 1,000 epochs take: least processor time of TURNS runs of each, 5 where none is named, in microseconds an epoch.
 
 Run it when nothing else is at work on the machine.
 """
@@ -14,7 +14,7 @@ import sys
 from bench.runs import KEY
 from bench.spent import least
 
-EVERY, EPOCHS, GETS = 10000, 200, 10
+EVERY, EPOCHS, GETS = 10000, 1000, 10
 
 
 def write_scripts(folder, records):
@@ -32,7 +32,7 @@ def write_scripts(folder, records):
 
 def main():
     folder, programs = sys.argv[1], [os.path.abspath(program) for program in sys.argv[2:4]]
-    records, turns = (int(word) for word in (sys.argv[4:] + ["200000", "5"][len(sys.argv) - 4 :])[:2])
+    records, turns = (int(word) for word in (sys.argv[4:] + ["100000", "5"][len(sys.argv) - 4 :])[:2])
     os.makedirs(folder, exist_ok=True)
     paths = write_scripts(folder, records)
     for name, more in (("plain", []), ("--hot 2", ["--hot", "2"])):
