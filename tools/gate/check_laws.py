@@ -1,9 +1,11 @@
 """Looks which lemmas the crates use of one another. Run at the top of the repository.
 
 A file crates/X/proofs/NAME.antt that another crate uses is public (`pub mod NAME` in crates/X/proofs/Lib.antt) and its
-name ends in Laws, so that a reader sees what the crates above rest on; all others are private (`mod NAME`). It writes a
-line for each file that is otherwise, and fails where there is one.
+name ends in Laws, so that a reader sees what the crates above rest on; all others are private (`mod NAME`). Names without such
+a file are of what Rattle makes beside a type, as that it may be sent. It writes a line for each file that is otherwise, and fails
+where there is one.
 """
+import os
 import re
 import sys
 
@@ -23,7 +25,7 @@ def users_of(crates):
     for crate in crates:
         for text in sources(crate):
             for owner, name in uses(text):
-                if owner in crates and owner != crate:
+                if owner in crates and owner != crate and os.path.isfile(f"crates/{owner}/proofs/{name}.antt"):
                     found.setdefault((owner, name), set()).add(crate)
     return found
 

@@ -9,7 +9,7 @@ ghost use Rattle.bundle_upgrade.specs.Upgraded.{path_commands, upgraded_header, 
 
 use base_words::Memory;
 use lamport_clocks::Header;
-use log_codec::{Command, LogCommand, read_command_into};
+use log_codec::{Command, CommandText, LogCommand, read_command_into};
 use slot_rewriting::CommandWriter;
 use std::alloc::Global;
 
@@ -66,11 +66,13 @@ fn rewrite_log(alloc: Global, header: &Header, number: u16, log: &[u8]) -> Resul
     let mut writer = CommandWriter::new(alloc, number, &upgraded_header(header))?;
     let mut text = Vec::new(alloc);
     let mut command = LogCommand::ByPath(Command::NextEpoch);
+    let mut piece = CommandText::new();
     let mut at = 0;
     while at < log.len() {
         match read_command_into(header, &log[at..], &mut command) {
             Ok(taken) => {
-                write_command(&mut writer, &command, &mut text)?;
+                write_command(&mut writer, &command, &mut piece);
+                text.extend_from_slice(piece.as_slice())?;
                 at += taken;
             }
             Err(_) => break,
@@ -79,17 +81,13 @@ fn rewrite_log(alloc: Global, header: &Header, number: u16, log: &[u8]) -> Resul
     Ok(text)
 }
 
-// Adds the text of a command that names paths.
-fn write_command(
-    writer: &mut CommandWriter,
-    command: &LogCommand,
-    text: &mut Vec<u8>,
-) -> Result<(), Memory>
-    ensures written { OnOk result (text.new.items ≡ text.old.items ++ text_from writer.old (path_commands (command.now ∷ []))) }
-    ensures after { OnOk result (writer.new ≡ writer_behind writer.old (path_commands (command.now ∷ []))) }
+// Writes the text of a command that names paths in place of what a text held. Of one that names slots there is none.
+fn write_command(writer: &mut CommandWriter, command: &LogCommand, text: &mut CommandText)
+    ensures written { text.new.items ≡ text_from writer.old (path_commands (command.now ∷ [])) }
+    ensures after { writer.new ≡ writer_behind writer.old (path_commands (command.now ∷ [])) }
 {
     match command {
         LogCommand::ByPath(command) => writer.write(command, text),
-        LogCommand::BySlot(_) => Ok(()),
+        LogCommand::BySlot(_) => text.clear(),
     }
 }

@@ -1,10 +1,7 @@
-//! The bytes of a log that grows command by command.
-ghost use Rattle.std.specs.Prelude.{◌≡◌, [], ◌++◌, take, OnOk, OnErr};
-ghost use Rattle.slot_rewriting.specs.Writing.{text_by, writer_after};
+//! The bytes of a log that grows.
+ghost use Rattle.std.specs.Prelude.{◌≡◌, [], ◌++◌, IfOk, OnOk, OnErr};
 
 use base_words::Memory;
-use log_codec::Command;
-use slot_rewriting::CommandWriter;
 use std::alloc::Global;
 use std::marker::Model;
 use std::mem;
@@ -33,13 +30,21 @@ impl LogBuffer {
         }
     }
 
-    /// Adds a command, as its log's writer writes it. For want of memory the bytes are as before, and the writer is of no more use.
-    pub fn push(&mut self, writer: &mut CommandWriter, command: &Command) -> Result<(), Memory>
-        ensures pushed { OnOk result (self.new ≡ self.old ++ text_by writer.old command.now) }
-        ensures after { OnOk result (writer.new ≡ writer_after writer.old command.now) }
-        ensures err { OnErr result (self.new ≡ self.old) }
+    /// These bytes, and nothing else.
+    pub fn of(alloc: Global, bytes: &[u8]) -> Result<Self, Memory>
+        ensures value { IfOk result (λ buffer. buffer ≡ bytes.now) }
     {
-        writer.write(command, &mut self.bytes)
+        let mut buffer = LogBuffer::new(alloc);
+        buffer.push(bytes)?;
+        Ok(buffer)
+    }
+
+    /// Adds bytes: the texts of one command or of many. For want of memory all is as before.
+    pub fn push(&mut self, bytes: &[u8]) -> Result<(), Memory>
+        ensures pushed { OnOk result (self.new ≡ self.old ++ bytes.now) }
+        ensures as_before { OnErr result (self.new ≡ self.old) }
+    {
+        Ok(self.bytes.extend_from_slice(bytes)?)
     }
 
     /// What was pushed.
@@ -49,29 +54,13 @@ impl LogBuffer {
         self.bytes.as_slice()
     }
 
-    /// What was pushed, for the taker's own. This buffer goes on with nothing in it, and takes memory anew.
-    pub fn take(&mut self) -> LogBuffer
-        ensures taken { result ≡ self.old }
+    /// What was pushed goes to another buffer, in place of what that held. This one goes on with the other's memory.
+    pub fn hand_over(&mut self, to: &mut LogBuffer)
+        ensures handed { to.new ≡ self.old }
         ensures empty { self.new ≡ [] }
     {
-        let alloc = *self.bytes.allocator();
-        self.exchange(LogBuffer::new(alloc))
-    }
-
-    /// The same, where this buffer goes on with the memory of a spare one, whatever that held.
-    pub fn exchange(&mut self, mut spare: LogBuffer) -> LogBuffer
-        ensures taken { result ≡ self.old }
-        ensures empty { self.new ≡ [] }
-    {
-        spare.clear();
-        mem::replace(self, spare)
-    }
-
-    /// Lets all go but the first so many bytes.
-    pub fn truncate(&mut self, len: usize)
-        ensures front { self.new ≡ take len self.old }
-    {
-        self.bytes.truncate(len);
+        to.clear();
+        mem::swap(self, to);
     }
 
     /// Lets what was pushed go, and keeps the memory.

@@ -1,7 +1,6 @@
-//! A log as a host writes it: commands that become bytes, and bytes that become frames of a bundle.
+//! A log as a host writes it: bytes that grow by the texts of commands, and that become frames of a bundle.
 //!
-//! The crate stands on `slot_rewriting` for the commands' texts, in any version, and on `bundle_frames` for a frame's. Begin with `LogBuffer`
-//! in `buffer.rt`, then `frames` in `framing.rt`, beside `specs/Frames.antt`, which says into which frames bytes are
+//! The crate stands on `bundle_frames` for a frame's text. Begin with `LogBuffer` in `buffer.rt`, then `frames` in `framing.rt`, beside `specs/Frames.antt`, which says into which frames bytes are
 //! cut. `laws.rt` says that the frames of pieces of logs are read back as these logs.
 #![tactic(auto)]
 

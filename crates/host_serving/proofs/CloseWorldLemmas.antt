@@ -148,10 +148,10 @@ shards_are shards is = ap (λ (n : ℕ). 2 ^ frontier_bits n) is.power ∙ ap (�
 
 module _ {D : Type 0} (functions : DigestFunctions) (world : code.World D) (logs : List (List Command)) (stands : StandsWith functions world logs) where
   -- as many workers as the header says
-  pub workers_are : length world.workers.items ≡ world.settings.header.verifiers
+  pub workers_are : length (shown_world world).workers ≡ world.settings.header.verifiers
   workers_are =
       let host = shipped_host functions world.settings (requests_of world) in
-      sym (length-before_each logs world.workers.items)
+      sym (length-before_each logs (shown_world world).workers)
       ∙ ap (λ (w : World Content). length w.workers) stands.behind.is
       ∙ count_run host (set_up host) stands.behind.events
       ∙ omega (arith, length-replicate (world.settings.header.verifiers - 1) (fresh world.settings.header), stands.behind.settings_fit.header.some_verifiers)
@@ -170,7 +170,7 @@ module _ {D : Type 0} (functions : DigestFunctions) (world : code.World D) (logs
     pub clocks_stand : (i : ℕ) → i < length (shown_world world).workers → HasAdvanced (host_of functions world) (shown_world world) i 0
     clocks_stand i within =
         ap (λ clock. clock.at.epoch) (sym (clock_with (host_of functions world) logs (shown_world world) i))
-        ∙ orderly.clocked phase i (subst (λ (n : ℕ). i < n) (sym (length-before_each logs world.workers.items)) within)
+        ∙ orderly.clocked phase i (subst (λ (n : ℕ). i < n) (sym (length-before_each logs (shown_world world).workers)) within)
         ∙ omega arith
 
     pub none_is_moved : (s : ℕ) → s < length (shown_world world).shards → (shard_at (shown_world world) s).moved ≡ false

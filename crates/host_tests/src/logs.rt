@@ -7,6 +7,7 @@ use bundle_rows::{command_of, log_of};
 use fv_outside::{Failed, MemorySink};
 use host_log::{LogBuffer, frames};
 use lamport_clocks::Header;
+use log_codec::CommandText;
 use slot_rewriting::CommandWriter;
 use std::alloc::Global;
 use std::process::Abort;
@@ -71,9 +72,11 @@ pub(crate) fn write_rows(
     log: &mut LogBuffer,
     rows: &str,
 ) {
+    let mut text = CommandText::new();
     for row in rows.trim().lines() {
         let command = command_of(row).expect(rt, "a row of no command");
-        log.push(writer, &command).expect(rt, "memory");
+        writer.write(&command, &mut text);
+        log.push(text.as_slice()).expect(rt, "memory");
     }
 }
 
@@ -83,19 +86,18 @@ fn push_rows(rt: &impl Abort, log: &mut LogBuffer, rows: &str) {
     write_rows(rt, &mut writer, log, rows);
 }
 
-// Writes the commands of rows as frames of verifier 0, from a log that takes a spare one's place, which it answers.
+// Writes the commands of rows as frames of verifier 0, once the log has handed them to another buffer.
 fn write_round(
     rt: &impl Abort,
     log: &mut LogBuffer,
-    spare: LogBuffer,
+    taken: &mut LogBuffer,
     rows: &str,
     sink: &mut MemorySink,
-) -> LogBuffer {
+) {
     push_rows(rt, log, rows);
-    let taken = log.exchange(spare);
+    log.hand_over(taken);
     same(rt, rows, &log.bytes().len(), &0);
     same(rt, rows, &frames(0, taken.bytes(), sink), &Ok(()));
-    taken
 }
 
 #[test]
@@ -105,10 +107,10 @@ fn the_rounds_of_an_empty_script_are_its_bundle(rt: HostRuntime) {
     let header = write_header(&setup_header(), &mut sink);
     same(&rt, "header", &header, &Ok(()));
     let mut log = LogBuffer::new(rt.alloc());
-    let spare = LogBuffer::new(rt.alloc());
-    let spare = write_round(&rt, &mut log, spare, FIRST_ROUND, &mut sink);
-    let spare = write_round(&rt, &mut log, spare, "", &mut sink);
-    let _ = write_round(&rt, &mut log, spare, LAST_CLOSE, &mut sink);
+    let mut taken = LogBuffer::new(rt.alloc());
+    write_round(&rt, &mut log, &mut taken, FIRST_ROUND, &mut sink);
+    write_round(&rt, &mut log, &mut taken, "", &mut sink);
+    write_round(&rt, &mut log, &mut taken, LAST_CLOSE, &mut sink);
     same_bytes(&rt, "bundle", sink.bytes(), &bundle);
 }
 
@@ -128,14 +130,12 @@ fn a_buffer_goes_on_when_it_was_emptied(rt: HostRuntime) {
     log.clear();
     same_bytes(&rt, "clear", log.bytes(), b"");
     push_rows(&rt, &mut log, LAST_CLOSE);
-    let taken = log.take();
+    let mut taken = LogBuffer::of(rt.alloc(), b"what it held").expect(&rt, "memory");
+    log.hand_over(&mut taken);
     assert_log(&rt, "last", &taken, &bundle, (126, 208));
-    same_bytes(&rt, "take", log.bytes(), b"");
+    same_bytes(&rt, "hand_over", log.bytes(), b"");
     push_rows(&rt, &mut log, FIRST_ROUND);
     assert_log(&rt, "again", &log, &bundle, (24, 120));
-    push_rows(&rt, &mut log, LAST_CLOSE);
-    log.truncate(96);
-    assert_log(&rt, "truncate", &log, &bundle, (24, 120));
 }
 
 // The header of the same host's bundle where its commands name slots.

@@ -8,7 +8,7 @@ ghost use Rattle.host_world.specs.Shown.{shown_event};
 ghost use Rattle.host_world.specs.Worked.{AreEnabledBehind, two_shards, most, two_at_five, serving, close_of_two, put_five, get_five, between_events, before_events, behind_events};
 
 use crate::rows::{same, same_at, same_bytes};
-use crate::shards::{bytes_of_rows, push_all};
+use crate::shards::bytes_of_rows;
 use host_world::{Event, Settings, Worker, World, orders_of_two_workers_are_enabled};
 use lamport_clocks::Header;
 use record_hash::ToyDigests;
@@ -132,12 +132,13 @@ fn put_behind(rt: &impl Abort, alloc: Global) -> Vec<Event>
 }
 
 // The bytes that a worker logged.
-fn log_of(rt: &impl Abort, alloc: Global, worker: &Worker) -> Vec<u8> {
-    let mut log = Vec::new(alloc);
-    for commands in worker.log() {
-        push_all(rt, &mut log, commands.as_slice());
-    }
-    log
+fn log_of(rt: &impl Abort, alloc: Global, worker: &mut Worker) -> Vec<u8> {
+    let mut bytes = Vec::new(alloc);
+    worker.log.settle().expect(rt, "memory");
+    bytes
+        .extend_from_slice(worker.log.bytes())
+        .expect(rt, "memory");
+    bytes
 }
 
 // The logs of a world of the script that runs these events to their end.
@@ -154,8 +155,9 @@ fn logs_behind(rt: &impl Abort, alloc: Global, events: &[Event]) -> Vec<Vec<u8>>
         panic!(rt; "events are left");
     }
     let mut logs = Vec::new(alloc);
-    for worker in world.workers() {
-        logs.push(log_of(rt, alloc, worker)).expect(rt, "memory");
+    for mut worker in world.lend_workers() {
+        logs.push(log_of(rt, alloc, &mut worker))
+            .expect(rt, "memory");
     }
     logs
 }

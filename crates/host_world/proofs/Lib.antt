@@ -4,6 +4,7 @@ mod PromotableLemmas
 pub mod DescentLaws
 pub mod PlaceLaws
 pub mod FrontLaws
+pub mod BegunLaws
 mod ServeLemmas
 pub mod PlannedLaws
 pub mod SeatLaws

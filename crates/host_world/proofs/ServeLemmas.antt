@@ -1,10 +1,7 @@
 -- A plan is what the shipped host serves.
-use Rattle.std.proofs.Common.{◌≡◌, ℕ, suc, Bool, true, false, List, [], ◌∷◌, ◌++◌, nat_lt, Some, None, is_some, if◌then◌else◌, refl, sym, ◌∙◌, ap}
-use Rattle.std.specs.List.{flat_map, AllByRecursion}
+use Rattle.std.proofs.Common.{◌≡◌, ℕ, suc, Bool, true, false, List, ◌++◌, nat_lt, Some, None, is_some, if◌then◌else◌, refl, sym, ◌∙◌, ap}
 use Rattle.std.proofs.lemmas.Bool.{false≢true, lt-ltb, ltb-true}
 use Rattle.std.proofs.lemmas.Option.{same_Some}
-use Rattle.std.proofs.lemmas.Grind.{flat_map-append}
-use Rattle.std.proofs.lemmas.List.{append-nil}
 use Rattle.lamport_clocks.specs.Reading.{Reading}
 use Rattle.record_text.specs.declared.request.Request.{Request}
 use Rattle.record_text.specs.Longest.{longest_blob}
@@ -18,7 +15,6 @@ use Rattle.host_shard.specs.Content.{Content, cold, hot, vacant}
 use Rattle.host_shard.specs.Shard.{key_path_in}
 use Rattle.host_plan.specs.declared.plans.Plan.{Plan}
 use Rattle.host_plan.specs.Plan.{Owns, AreLinks, IsPastEnd, IsPlan, clock_after, commands_of, content_after}
-use Rattle.host_laws.proofs.ToldLaws.{all-append}
 use Rattle.host_world.specs.Links.{links_of}
 use Rattle.host_world.specs.ShippedHost.{serve_at}
 use Rattle.host_world.proofs.LinkLaws.{shard_chain_is}
@@ -76,42 +72,30 @@ done_is absent digest i clock content request done is = go (nat_lt clock.end (cl
     go true is = absurd (false≢true (ap is_some is))
     go false is = sym (same_Some _ _ is)
 
--- one deed more in a log
-pub one_deed_more : (log : List (List Command)) (deed : List Command) → flat_map (λ commands. commands) (log ++ deed ∷ []) ≡ flat_map (λ commands. commands) log ++ deed
-one_deed_more log deed = flat_map-append (λ commands. commands) log (deed ∷ []) ∙ ap (λ more. flat_map (λ commands. commands) log ++ more) (append-nil deed)
-
 -- the worker with a deed more in its log
-pub having_logged : (old : Worker) (log new : List (List Command)) (deed : List Command) (clock : Reading) (served : ℕ) (place : Place)
-    → old.log ≡ flat_map (λ commands. commands) log → new ≡ log ++ deed ∷ [] → served ≡ suc old.served
+pub having_logged : (old : Worker) (log deed : List Command) (clock : Reading) (served : ℕ) (place : Place)
+    → log ≡ old.log ++ deed → served ≡ suc old.served
     → record {
-      log = flat_map (λ commands. commands) new;
+      log = log;
       clock = clock;
       served = served;
       holds = Some (record { place = place; used = true });
       stopped = old.stopped;
       stuck = old.stuck;
     } ≡ having_served (logging old deed clock) place
-having_logged old log new deed clock served place was is counted =
-    ap (λ (all : List Command). record { log = all; clock = clock; served = served; holds = Some (record { place = place; used = true }); stopped = old.stopped; stuck = old.stuck })
-    (ap (flat_map (λ commands. commands)) is ∙ one_deed_more log deed ∙ ap (λ (all : List Command). all ++ deed) (sym was))
+having_logged old log deed clock served place is counted =
+    ap (λ (all : List Command). record { log = all; clock = clock; served = served; holds = Some (record { place = place; used = true }); stopped = old.stopped; stuck = old.stuck }) is
     ∙ ap (λ (n : ℕ). record { log = old.log ++ deed; clock = clock; served = n; holds = Some (record { place = place; used = true }); stopped = old.stopped; stuck = old.stuck }) counted
 
 -- the same where it serves nothing
-pub just_logged : (old : Worker) (log new : List (List Command)) (deed : List Command) (clock : Reading)
-    → old.log ≡ flat_map (λ commands. commands) log → new ≡ log ++ deed ∷ []
+pub just_logged : (old : Worker) (log deed : List Command) (clock : Reading) → log ≡ old.log ++ deed
     → record {
-      log = flat_map (λ commands. commands) new;
+      log = log;
       clock = clock;
       served = old.served;
       holds = old.holds;
       stopped = old.stopped;
       stuck = old.stuck;
     } ≡ logging old deed clock
-just_logged old log new deed clock was is =
-    ap (λ (all : List Command). record { log = all; clock = clock; served = old.served; holds = old.holds; stopped = old.stopped; stuck = old.stuck })
-    (ap (flat_map (λ commands. commands)) is ∙ one_deed_more log deed ∙ ap (λ (all : List Command). all ++ deed) (sym was))
-
--- what holds of each command of each deed holds of all
-pub all_joined : (P : Command → Type 0) (log : List (List Command)) → AllByRecursion (AllByRecursion P) log → AllByRecursion P (flat_map (λ commands. commands) log)
-all_joined P [] all = tt
-all_joined P (commands ∷ log) all = all-append P commands (flat_map (λ commands. commands) log) all.0 (all_joined P log all.1)
+just_logged old log deed clock is =
+    ap (λ (all : List Command). record { log = all; clock = clock; served = old.served; holds = old.holds; stopped = old.stopped; stuck = old.stuck }) is

@@ -95,11 +95,11 @@ module _ {D : Type 0} (functions : D → DigestFunctions) (old new : code.World 
       let handed = set logs i (get_or logs i [] ++ log_at old i) in
       record {
         each = length-set logs i (get_or logs i [] ++ log_at old i) ∙ stands.each
-            ∙ sym (length-set old.workers.items i (unlogged (worker_at host (shown_world old) i))) ∙ ap (λ (w : World Content). length w.workers) (sym is);
+            ∙ sym (length-set (shown_world old).workers i (unlogged (worker_at host (shown_world old) i))) ∙ ap (λ (w : World Content). length w.workers) (sym is);
         behind = other_world (with_logs handed (shown_world new))
             (subst (λ (w : World Content). IsBehindSetup (functions (digests_of old)) old.settings (requests_of old) w)
             (sym (ap (λ (w : World Content). with_logs handed w) is
-            ∙ ap (λ (ws : List Worker). record (shown_world old) { workers = ws }) (before_each-handed logs old.workers.items i (fresh old.settings.header) stands.each)))
+            ∙ ap (λ (ws : List Worker). record (shown_world old) { workers = ws }) (before_each-handed logs (shown_world old).workers i (fresh old.settings.header) stands.each)))
             stands.behind);
       }
 

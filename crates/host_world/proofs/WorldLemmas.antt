@@ -1,13 +1,17 @@
 -- What the code writes is what the machine's step changes.
-use Rattle.std.proofs.Common.{◌≡◌, ℕ, suc, ◌<◌, ◌≤◌, Bool, true, false, List, [], ◌∷◌, length, get_or, set, map, take, drop, ◌++◌, Option, Some, None, is_some, Result, Ok, Err, OnErr, refl, sym, ◌∙◌, ap, arith}
-use Rattle.std.proofs.lemmas.Bool.{false≢true}
-use Rattle.std.proofs.lemmas.List.{map-set, get_or-map, set-get_or, get_or-set_same, length-set, take_all, drop_all, append-nil}
+use Rattle.std.proofs.Common.{◌≡◌, ℕ, suc, ◌+◌, ◌==◌, ◌<◌, ◌≤◌, Bool, true, false, List, [], ◌∷◌, length, get_or, set, map, replicate, take, drop, ◌++◌, if◌then◌else◌, Option, Some, None, is_some, Result, Ok, Err, OnErr, refl, sym, ◌∙◌, ap, arith}
+use Rattle.std.proofs.lemmas.Bool.{false≢true, eqb-true, eq-eqb}
+use Rattle.std.proofs.lemmas.List.{map-set, get_or-map, set-get_or, get_or-set_same, length-set, map-append, replicate-append-replicate, take_all, drop_all, append-nil}
 use Rattle.host_core.specs.Host.{Done}
 use Rattle.host_core.specs.World.{Place, Worker, Seats, World, unmoved}
-use Rattle.host_core.specs.WorldEvent.{after_serve, after_move, logging, having_served}
+use Rattle.lamport_clocks.specs.Clock.{last_epoch}
+use Rattle.log_codec.specs.declared.command.Command.TheVariants.{NextEpoch}
+use Rattle.host_core.specs.WorldEvent.{after_serve, after_move, after_advance, with_worker, next_clock, logging, having_served}
 use Rattle.host_shard.specs.Content.{Content, vacant}
 use Rattle.host_world.specs.declared.seats.Seats as code
+use Rattle.host_world.specs.declared.worker.Worker as worker
 use Rattle.host_world.specs.Shown.{contents_of, shown_seats}
+use Rattle.host_world.specs.Workers.{shown_worker}
 use Rattle.host_world.specs.Doing.{HasDone, HasServed}
 
 module _ {X Y : Type 0} (shown : X → Y) where
@@ -32,6 +36,39 @@ module _ {X Y : Type 0} (shown : X → Y) where
   pub set_same : (xs : List X) (i : ℕ) (x c : X) → x ≡ get_or xs i x → shown c ≡ shown x → map shown (set xs i c) ≡ map shown xs
   set_same xs i x c is same =
       map-set shown xs i c ∙ ap (set (map shown xs) i) (same ∙ ap shown is) ∙ sym (map-set shown xs i (get_or xs i x)) ∙ ap (map shown) (set-get_or xs i x)
+
+-- a worker that was changed
+pub changed-worker : (items : List worker.Worker) (i : ℕ) (x now : worker.Worker) (d : Worker) (f : Worker → Worker) → i < length items → x ≡ get_or items i x
+    → shown_worker now ≡ f (shown_worker x) → map shown_worker (set items i now) ≡ set (map shown_worker items) i (f (get_or (map shown_worker items) i d))
+changed-worker items i x now d f there is same =
+    map-set shown_worker items i now ∙ ap (set (map shown_worker items) i) (same ∙ ap f (sym (read_shown shown_worker items i x d there is)))
+
+-- a worker that joined others like it
+pub joined-worker : (items new : List worker.Worker) (now : worker.Worker) (first fresh : Worker) (k n : ℕ) → new ≡ items ++ now ∷ []
+    → map shown_worker items ≡ first ∷ replicate k fresh → shown_worker now ≡ fresh → n ≡ k + 1 → map shown_worker new ≡ first ∷ replicate n fresh
+joined-worker items new now first fresh k n new_is were is count =
+    ap (map shown_worker) new_is
+    ∙ map-append shown_worker items (now ∷ [])
+    ∙ ap (λ (workers : List Worker). workers ++ shown_worker now ∷ []) were
+    ∙ ap (λ (w : Worker). first ∷ (replicate k fresh ++ w ∷ [])) is
+    ∙ ap (λ (workers : List Worker). first ∷ workers) (replicate-append-replicate k 1 fresh)
+    ∙ ap (λ (m : ℕ). first ∷ replicate m fresh) (sym count)
+
+-- a worker that went to the next epoch, and one for which there is none
+pub after_advanced : (world : World Content) (i : ℕ) (w : Worker) → (w.clock.at.epoch ≡ last_epoch → ⊥)
+    → record (with_worker world i (logging w (NextEpoch ∷ []) (next_clock w.clock))) { closing = true } ≡ after_advance world i w
+after_advanced world i w other = go (w.clock.at.epoch == last_epoch) refl
+  where
+    go : (b : Bool) → (w.clock.at.epoch == last_epoch) ≡ b
+        → record (with_worker world i (logging w (NextEpoch ∷ []) (next_clock w.clock))) { closing = true }
+        ≡ (if b then record world { over = true } else record (with_worker world i (logging w (NextEpoch ∷ []) (next_clock w.clock))) { closing = true })
+    go true is = absurd (other (eqb-true w.clock.at.epoch last_epoch is))
+    go false is = refl
+
+pub after_last : (world : World Content) (i : ℕ) (w : Worker) → w.clock.at.epoch ≡ last_epoch → record world { over = true } ≡ after_advance world i w
+after_last world i w last =
+    sym (ap (λ (b : Bool). if b then record world { over = true } else record (with_worker world i (logging w (NextEpoch ∷ []) (next_clock w.clock))) { closing = true })
+    (eq-eqb w.clock.at.epoch last_epoch last))
 
 -- a request that was served
 pub after_served : (world : World Content) (i : ℕ) (place : Place) (worker now : Worker) (seats new : Seats Content) (what : Option (Done Content))

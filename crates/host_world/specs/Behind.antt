@@ -61,7 +61,7 @@ with_logs logs world = record world { workers = before_each logs world.workers }
 
 -- The world of the code stands behind its host's setup, where its workers have handed out these logs.
 pub record StandsWith {D : Type 0} (functions : DigestFunctions) (world : World D) (logs : List (List Command)) : Type 0 where
-  pub each : length logs ≡ length world.workers.items
+  pub each : length logs ≡ length (shown_world world).workers
   pub behind : IsBehindSetup functions world.settings (requests_of world) (with_logs logs (shown_world world))
 
 -- The world of the code stands behind its host's setup, whatever its workers have handed out of their logs.
@@ -81,4 +81,4 @@ pub record CanTakeSeats (digest : Digest) (clock : Reading) (seats : List Conten
 
 -- what a worker of the world has logged and not handed out
 abbrev pub log_at : {D : Type 0} → World D → ℕ → List Command
-log_at world i = (get_or world.workers.items i (machine.fresh world.settings.header)).log
+log_at world i = (get_or (shown_world world).workers i (machine.fresh world.settings.header)).log

@@ -7,6 +7,7 @@ pub mod ShippedHost
 pub mod Seated
 pub mod Planned
 pub mod Places
+pub mod Workers
 pub mod Doing
 pub mod Shown
 pub mod Lending

@@ -13,6 +13,7 @@ use Rattle.host_world.specs.declared.seats.Seats.{Seats}
 use Rattle.host_world.specs.declared.settings.Settings.{Settings}
 use Rattle.host_world.specs.declared.world.World.{World}
 use Rattle.host_world.specs.Places.{place_of}
+use Rattle.host_world.specs.Workers.{shown_worker}
 
 -- the event, with the place of each number
 abbrev pub shown_event : Event → WorldEvent Request
@@ -32,11 +33,11 @@ contents_of seats = shown_content seats.first ∷ map shown_content seats.hot.it
 abbrev pub shown_seats : Seats → machine.Seats Content
 shown_seats seats = record { contents = contents_of seats; moved = seats.moved }
 
--- the world, with the shards so
+-- the world, with the shards and workers so
 abbrev pub shown_world : {D : Type 0} → World D → machine.World Content
 shown_world world = record {
   shards = map shown_seats world.shards.items;
-  workers = world.workers.items;
+  workers = map shown_worker world.workers.items;
   phase = world.phase;
   closing = world.closing;
   over = world.over;

@@ -9,6 +9,7 @@ ghost use Rattle.host_world.specs.Behind.{host_of, StandsBehind, AreOfOneHost};
 
 use crate::fault::ClockEnd;
 use crate::seats::reopen;
+use crate::worker::Held;
 use crate::world::World;
 use base_words::Memory;
 use record_hash::Digests;
@@ -26,7 +27,7 @@ impl<'a, D: Digests> World<'a, D> {
             (shown_world self.old) (takes worker (place_of place)) }
         ensures host { AreOfOneHost self.old self.new }
     {
-        self.workers[worker as usize].take(place);
+        self.workers[worker as usize].holds = Some(Held { place, used: false });
     }
 
     // A worker gives its place back.
@@ -37,7 +38,7 @@ impl<'a, D: Digests> World<'a, D> {
             (shown_world self.old) (gives worker (place_of place)) }
         ensures host { AreOfOneHost self.old self.new }
     {
-        self.workers[worker as usize].give();
+        self.workers[worker as usize].holds = None;
     }
 
     // A worker serves a request at the place that it holds, or its clock ends.
@@ -74,8 +75,8 @@ impl<'a, D: Digests> World<'a, D> {
         )? {
             return Ok(None);
         }
-        let at = self.workers[number].clock().at();
-        self.workers[number].stop();
+        let at = self.workers[number].clock.at();
+        self.workers[number].stopped = true;
         Ok(Some(ClockEnd { worker, at }))
     }
 
@@ -94,7 +95,7 @@ impl<'a, D: Digests> World<'a, D> {
             return Ok(None);
         }
         self.over = true;
-        let at = self.workers[0].clock().at();
+        let at = self.workers[0].clock.at();
         Ok(Some(ClockEnd { worker: 0, at }))
     }
 
@@ -115,8 +116,8 @@ impl<'a, D: Digests> World<'a, D> {
         if seats.move_by(self.alloc, self.d, mover, worker, self.settings.hot)? {
             return Ok(None);
         }
-        let at = self.workers[number].clock().at();
-        self.workers[number].get_stuck();
+        let at = self.workers[number].clock.at();
+        self.workers[number].stuck = true;
         Ok(Some(ClockEnd { worker, at }))
     }
 

@@ -4,7 +4,8 @@ ghost use Rattle.host_shard.specs.Content.{vacant};
 ghost use Rattle.host_shard.specs.Shown.{shown_content};
 ghost use Rattle.host_world.specs.Behind.{AreOfOneHost};
 ghost use Rattle.host_world.specs.Lending.{all_contents, filled};
-ghost use Rattle.host_world.specs.Shown.{contents_of, shown_seats, shown_world};
+ghost use Rattle.host_world.specs.Shown.{contents_of, shown_seats, shown_world, settings_of};
+ghost use Rattle.host_world.specs.Workers.{shown_worker, AreBegun};
 
 use crate::seats::Seats;
 use crate::worker::Worker;
@@ -96,16 +97,18 @@ impl<'a, D> World<'a, D> {
 
     /// Its workers. It has none then.
     pub fn lend_workers(&mut self) -> Vec<Worker>
-        ensures lent { result.items ≡ (shown_world self.old).workers }
+        ensures lent { map shown_worker result.items ≡ (shown_world self.old).workers }
+        ensures begun { AreBegun (settings_of self.old).header result.items }
         ensures left { shown_world self.new ≡ record (shown_world self.old) { workers = [] } }
         ensures host { AreOfOneHost self.old self.new }
     {
         replace(&mut self.workers, Vec::new(self.alloc))
     }
 
-    /// These are its workers.
+    /// These are its workers. The log of each is one of its own, from the first command on.
     pub fn take_workers(&mut self, workers: Vec<Worker>)
-        ensures taken { shown_world self.new ≡ record (shown_world self.old) { workers = workers.items } }
+        requires begun { AreBegun (settings_of self.old).header workers.items }
+        ensures taken { shown_world self.new ≡ record (shown_world self.old) { workers = map shown_worker workers.items } }
         ensures host { AreOfOneHost self.old self.new }
     {
         self.workers = workers;

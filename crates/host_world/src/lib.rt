@@ -12,6 +12,7 @@ mod placing;
 mod seats;
 mod settings;
 mod stepping;
+mod telling;
 mod worker;
 mod world;
 

@@ -11,6 +11,7 @@ ghost use Rattle.host_world.specs.Doing.{HasDone, HasServed};
 ghost use Rattle.host_world.specs.Moving.{stage_of, move_seats};
 ghost use Rattle.host_world.specs.ShippedHost.{serve_at, new_seats};
 ghost use Rattle.host_world.specs.Shown.{contents_of, shown_seats};
+ghost use Rattle.host_world.specs.Workers.{shown_worker, writer_in};
 
 use crate::worker::Worker;
 use base_words::Memory;
@@ -68,11 +69,12 @@ impl Seats {
         ensures served { result ≡ Ok true
             → HasServed (place_of place) (serve_at absent (D.functions d.now).digest
             number worker.old.clock (get_or (contents_of self.old) seat vacant) request.now)
-            worker.old (get_or (contents_of self.new) seat vacant) worker.new }
+            (shown_worker worker.old) (get_or (contents_of self.new) seat vacant) (shown_worker worker.new) }
         ensures seat_alone { contents_of self.new
             ≡ set (contents_of self.old) seat (get_or (contents_of self.new) seat vacant) }
         ensures same_close { self.new.moved ≡ self.old.moved }
-        ensures worker_as_before { result ≢ Ok true → worker.new ≡ worker.old }
+        ensures worker_as_before { result ≢ Ok true → shown_worker worker.new ≡ shown_worker worker.old }
+        ensures writer { writer_in worker.new ≡ writer_in worker.old }
         ensures as_before { result ≢ Ok true → contents_of self.new ≡ contents_of self.old }
     {
         if seat == 0 {
@@ -106,9 +108,10 @@ impl Seats {
         ensures moved { result ≡ Ok true
             → HasDone (move_seats (D.functions d.now).digest
             number threshold (stage_of worker.old.clock (contents_of self.old)))
-            worker.old (contents_of self.new) worker.new }
+            (shown_worker worker.old) (contents_of self.new) (shown_worker worker.new) }
         ensures counted { result ≡ Ok true → self.new.moved ≡ true }
-        ensures worker_as_before { result ≢ Ok true → worker.new ≡ worker.old }
+        ensures worker_as_before { result ≢ Ok true → shown_worker worker.new ≡ shown_worker worker.old }
+        ensures writer { writer_in worker.new ≡ writer_in worker.old }
         ensures as_before { result ≢ Ok true → shown_seats self.new ≡ shown_seats self.old }
     {
         let moved = worker.move_seats(

@@ -1,6 +1,5 @@
 //! Worlds.
-ghost use Rattle.std.specs.Prelude.{◌≡◌};
-ghost use Rattle.host_world.specs.Shown.{shown_world, digests_of, requests_of, settings_of};
+ghost use Rattle.host_world.specs.Workers.{AreBegun};
 
 use crate::seats::Seats;
 use crate::settings::Settings;
@@ -20,41 +19,6 @@ pub struct World<'a, D> {
     pub(crate) phase: usize,
     pub(crate) closing: bool,
     pub(crate) over: bool,
-}
-
-impl<'a, D> World<'a, D> {
-    /// The workers, in the order of their numbers.
-    pub fn workers(&self) -> &[Worker]
-        ensures value { result.now ≡ (shown_world self.now).workers }
-    {
-        self.workers.as_slice()
-    }
-
-    /// What its workers are asked.
-    pub fn requests(&self) -> &'a Requests
-        ensures value { result.now ≡ requests_of self.now }
-    {
-        self.requests
-    }
-
-    /// The digests of its texts.
-    pub fn digests(&self) -> &'a D
-        ensures value { result.now ≡ digests_of self.now }
-    {
-        self.d
-    }
-
-    /// The numbers of its host.
-    pub fn settings(&self) -> Settings
-        ensures value { result ≡ settings_of self.now }
-    {
-        self.settings
-    }
-
-    /// The number of its phase, from 0.
-    pub fn phase(&self) -> usize
-        ensures value { result ≡ (shown_world self.now).phase }
-    {
-        self.phase
-    }
+    // Each worker's log is one of its own, from the first command on.
+    ghost begun: { AreBegun settings.header workers.items },
 }

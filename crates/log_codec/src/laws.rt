@@ -17,7 +17,7 @@ ghost use Rattle.log_codec.specs.LogCommand.{command_text, command_at, IsCommand
 ghost use Rattle.log_codec.specs.Lengths.{longest_command_text};
 ghost use Rattle.log_codec.specs.Log.{Log, whole, faulty, log_text, path_log_text, with_command, with_commands, log_up_to, read_log, IsLeft, IsLog};
 
-use crate::reading::LONGEST_COMMAND_TEXT;
+use crate::command_text::LONGEST_COMMAND_TEXT;
 
 /// A command is read of its text, whatever follows; and what is read as a command is its text.
 pub fn commands_are_read_as_spelled()

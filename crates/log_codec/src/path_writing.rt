@@ -5,7 +5,7 @@ ghost use Rattle.record_text.specs.Texts.{path_text, value_text};
 ghost use Rattle.log_codec.specs.Command.{path_command_text};
 
 use crate::command::Command;
-use arrayvec::ArrayVec;
+use crate::command_text::CommandText;
 use record_text::{Value, push_path, push_stamp, push_u16, push_value};
 use tree_keys::Path;
 
@@ -13,17 +13,16 @@ use tree_keys::Path;
 pub const LONGEST_PATH_COMMAND_TEXT: usize = 292;
 
 /// The text of a command: its tag, and its fields.
-pub fn write_path_command(command: &Command) -> ArrayVec<u8, LONGEST_PATH_COMMAND_TEXT>
+pub fn write_path_command(command: &Command) -> CommandText
     ensures text { result.items ≡ path_command_text command.now }
 {
-    let mut text = ArrayVec::new();
-    push_command(&mut text, command);
+    let mut text = CommandText::new();
+    push_path_command(&mut text, command);
     text
 }
 
-// Each of these writes into a text that is empty yet, so that its array is made and cleared once.
-
-fn push_command(text: &mut ArrayVec<u8, LONGEST_PATH_COMMAND_TEXT>, command: &Command)
+/// Writes the text of a command into one that is empty yet, so that many can be written with one array.
+pub fn push_path_command(text: &mut CommandText, command: &Command)
     requires empty { text.old.items ≡ [] }
     ensures text { text.new.items ≡ path_command_text command.now }
 {
@@ -67,7 +66,7 @@ fn push_command(text: &mut ArrayVec<u8, LONGEST_PATH_COMMAND_TEXT>, command: &Co
 }
 
 // A tag with nothing behind it yet.
-fn push_tag_alone(text: &mut ArrayVec<u8, LONGEST_PATH_COMMAND_TEXT>, tag: u8)
+fn push_tag_alone(text: &mut CommandText, tag: u8)
     requires empty { text.old.items ≡ [] }
     ensures text { text.new.items ≡ tag ∷ [] }
     ensures len { array_vec_len text.new ≡ 1 }
@@ -76,7 +75,7 @@ fn push_tag_alone(text: &mut ArrayVec<u8, LONGEST_PATH_COMMAND_TEXT>, tag: u8)
 }
 
 // A tag and a path.
-fn push_tagged(text: &mut ArrayVec<u8, LONGEST_PATH_COMMAND_TEXT>, tag: u8, path: &Path)
+fn push_tagged(text: &mut CommandText, tag: u8, path: &Path)
     requires empty { text.old.items ≡ [] }
     ensures text { text.new.items ≡ tag ∷ path_text path.now }
     ensures len { array_vec_len text.new ≤ 18 }
@@ -86,12 +85,7 @@ fn push_tagged(text: &mut ArrayVec<u8, LONGEST_PATH_COMMAND_TEXT>, tag: u8, path
 }
 
 // A tag, and the paths of a record and of its parent.
-fn push_with_parent(
-    text: &mut ArrayVec<u8, LONGEST_PATH_COMMAND_TEXT>,
-    tag: u8,
-    path: &Path,
-    parent: &Path,
-)
+fn push_with_parent(text: &mut CommandText, tag: u8, path: &Path, parent: &Path)
     requires empty { text.old.items ≡ [] }
     ensures text { text.new.items
         ≡ tag ∷ path_text path.now ++ path_text parent.now }
@@ -102,12 +96,7 @@ fn push_with_parent(
 }
 
 // A tag, a path and its value.
-fn push_with_value(
-    text: &mut ArrayVec<u8, LONGEST_PATH_COMMAND_TEXT>,
-    tag: u8,
-    path: &Path,
-    value: &Value,
-)
+fn push_with_value(text: &mut CommandText, tag: u8, path: &Path, value: &Value)
     requires empty { text.old.items ≡ [] }
     ensures text { text.new.items
         ≡ tag ∷ path_text path.now ++ value_text value.now }

@@ -14,10 +14,6 @@ use crate::slot_reading::slot_command;
 use lamport_clocks::Header;
 use record_text::{Reader, TextFault, longest_of, wide_of};
 
-/// The most bytes of a command's text, whatever it names: an add of the longest data value by its parent, whose paths are of
-/// the tree whose keys have 128 bits.
-pub const LONGEST_COMMAND_TEXT: usize = 292;
-
 /// The command whose text these bytes of a log begin with, in a bundle with this header, and the length of its text.
 /// Others may follow it.
 pub fn read_command(header: &Header, bytes: &[u8]) -> Decoded<LogCommand>

@@ -4,8 +4,8 @@ ghost use Rattle.arrayvec.specs.ArrayVec.{array_vec_len};
 ghost use Rattle.record_text.specs.Texts.{path_text, value_text, blob_text};
 ghost use Rattle.log_codec.specs.SlotCommand.{slot_text, slot_command_text};
 
+use crate::command_text::CommandText;
 use crate::slot_command::SlotCommand;
-use arrayvec::ArrayVec;
 use record_text::{Blob, Value, push_blob, push_path, push_stamp, push_u16, push_value};
 use tree_keys::Path;
 
@@ -13,17 +13,16 @@ use tree_keys::Path;
 pub const LONGEST_SLOT_COMMAND_TEXT: usize = 287;
 
 /// The text of a command: its tag, and its fields.
-pub fn write_slot_command(command: &SlotCommand) -> ArrayVec<u8, LONGEST_SLOT_COMMAND_TEXT>
+pub fn write_slot_command(command: &SlotCommand) -> CommandText
     ensures text { result.items ≡ slot_command_text command.now }
 {
-    let mut text = ArrayVec::new();
-    push_command(&mut text, command);
+    let mut text = CommandText::new();
+    push_slot_command(&mut text, command);
     text
 }
 
-// Each of these writes into a text that is empty yet, so that its array is made and cleared once.
-
-fn push_command(text: &mut ArrayVec<u8, LONGEST_SLOT_COMMAND_TEXT>, command: &SlotCommand)
+/// Writes the text of a command into one that is empty yet, so that many can be written with one array.
+pub fn push_slot_command(text: &mut CommandText, command: &SlotCommand)
     requires empty { text.old.items ≡ [] }
     ensures text { text.new.items ≡ slot_command_text command.now }
 {
@@ -69,7 +68,7 @@ fn push_command(text: &mut ArrayVec<u8, LONGEST_SLOT_COMMAND_TEXT>, command: &Sl
 }
 
 // A tag with nothing behind it yet.
-fn push_tag_alone(text: &mut ArrayVec<u8, LONGEST_SLOT_COMMAND_TEXT>, tag: u8)
+fn push_tag_alone(text: &mut CommandText, tag: u8)
     requires empty { text.old.items ≡ [] }
     ensures text { text.new.items ≡ tag ∷ [] }
     ensures len { array_vec_len text.new ≡ 1 }
@@ -78,7 +77,7 @@ fn push_tag_alone(text: &mut ArrayVec<u8, LONGEST_SLOT_COMMAND_TEXT>, tag: u8)
 }
 
 // A tag and a slot.
-fn push_tagged(text: &mut ArrayVec<u8, LONGEST_SLOT_COMMAND_TEXT>, tag: u8, slot: u16)
+fn push_tagged(text: &mut CommandText, tag: u8, slot: u16)
     requires empty { text.old.items ≡ [] }
     ensures text { text.new.items ≡ tag ∷ slot_text slot }
     ensures len { array_vec_len text.new ≡ 3 }
@@ -88,12 +87,7 @@ fn push_tagged(text: &mut ArrayVec<u8, LONGEST_SLOT_COMMAND_TEXT>, tag: u8, slot
 }
 
 // A tag, and the slots of a record and of its parent.
-fn push_with_parent(
-    text: &mut ArrayVec<u8, LONGEST_SLOT_COMMAND_TEXT>,
-    tag: u8,
-    slot: u16,
-    parent: u16,
-)
+fn push_with_parent(text: &mut CommandText, tag: u8, slot: u16, parent: u16)
     requires empty { text.old.items ≡ [] }
     ensures text { text.new.items ≡ tag ∷ slot_text slot ++ slot_text parent }
     ensures len { array_vec_len text.new ≡ 5 }
@@ -103,13 +97,7 @@ fn push_with_parent(
 }
 
 // A tag, a slot, a path and its value.
-fn push_with_value(
-    text: &mut ArrayVec<u8, LONGEST_SLOT_COMMAND_TEXT>,
-    tag: u8,
-    slot: u16,
-    path: &Path,
-    value: &Value,
-)
+fn push_with_value(text: &mut CommandText, tag: u8, slot: u16, path: &Path, value: &Value)
     requires empty { text.old.items ≡ [] }
     ensures text { text.new.items
         ≡ tag ∷ slot_text slot ++ path_text path.now ++ value_text value.now }
@@ -121,7 +109,7 @@ fn push_with_value(
 }
 
 // The absence of a path, by the slot of its parent.
-fn push_absent(text: &mut ArrayVec<u8, LONGEST_SLOT_COMMAND_TEXT>, path: &Path, parent: u16)
+fn push_absent(text: &mut CommandText, path: &Path, parent: u16)
     requires empty { text.old.items ≡ [] }
     ensures text { text.new.items ≡ 9 ∷ path_text path.now ++ slot_text parent }
 {
@@ -131,12 +119,7 @@ fn push_absent(text: &mut ArrayVec<u8, LONGEST_SLOT_COMMAND_TEXT>, path: &Path, 
 }
 
 // A tag, a slot and a data value.
-fn push_with_blob(
-    text: &mut ArrayVec<u8, LONGEST_SLOT_COMMAND_TEXT>,
-    tag: u8,
-    slot: u16,
-    value: &Blob,
-)
+fn push_with_blob(text: &mut CommandText, tag: u8, slot: u16, value: &Blob)
     requires empty { text.old.items ≡ [] }
     ensures text { text.new.items ≡ tag ∷ slot_text slot ++ blob_text value.now }
 {

@@ -20,7 +20,7 @@ pub struct Receiver {
 }
 
 impl Sender {
-    ghost use Rattle.std.specs.Prelude.{◌≡◌, ◌+◌, ◌<◌, ◌≤◌, ◌↔◌, [], ◌∷◌, ◌++◌, IsTrue, IsNone, IfNone, IfSome};
+    ghost use Rattle.std.specs.Prelude.{◌≡◌, ◌+◌, ◌<◌, ◌≤◌, [], ◌∷◌, ◌++◌, IsNone, IfNone, IfSome};
     ghost use Rattle.log_rings.specs.Lanes.{sent, room, SameSender};
 
     /// Sends a parcel, or hands it back where this end knows of no room.
@@ -38,14 +38,14 @@ impl Sender {
         }
     }
 
-    /// Whether this end knows of room for one more, once it has looked.
-    pub fn has_room(&mut self) -> bool
+    /// For how many parcels this end knows of room, once it has looked. The other end may make more at any time.
+    pub fn room(&mut self) -> usize
         ensures lane { SameSender self.old self.new }
         ensures sent { sent self.new ≡ sent self.old }
-        ensures room { IsTrue result ↔ (0 < room self.new) }
+        ensures room { result ≡ room self.new }
         ensures known { room self.old ≤ room self.new }
     {
-        !self.ring.is_full()
+        self.ring.slots()
     }
 
     /// Sends a parcel where there is known to be room.

@@ -4,7 +4,8 @@
 //! A contract sees a `Slots` as a list that says which path stands in each slot. All memory is taken when it is made. A path's
 //! slot is found by an index of paths, and the lowest empty one is known at once. The crate stands on `log_codec` for
 //! commands of both kinds, on `path_index` and on `free_numbers`. Begin with `specs/Rewriting.antt`, then `Slots` in
-//! `slots.rt`. `CommandWriter` in `writer.rt` writes a host's log, of any version; `specs/Writing.antt` says which bytes that is.
+//! `slots.rt`. `CommandWriter` in `writer.rt` writes the commands of a host's log, of any version; `specs/Writing.antt` says which
+//! bytes that is.
 #![tactic(auto)]
 
 mod slots;

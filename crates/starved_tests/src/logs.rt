@@ -6,6 +6,7 @@ use crate::seat::END;
 use bundle_rows::{command_of, log_of};
 use host_log::LogBuffer;
 use lamport_clocks::Header;
+use log_codec::CommandText;
 use slot_rewriting::CommandWriter;
 use std::alloc::Global;
 
@@ -66,11 +67,13 @@ fn write_again(alloc: Global, log: &mut LogBuffer, wanted: &[u8]) -> Result<Outc
 // Writes the commands with a new writer.
 fn write_all(alloc: Global, log: &mut LogBuffer) -> Result<(), Fault> {
     let mut writer = CommandWriter::new(alloc, 0, &header())?;
+    let mut text = CommandText::new();
     for row in BY_PATH.trim().lines() {
         let Some(command) = command_of(row) else {
             return Err(Fault::Amiss("a row of no command"));
         };
-        log.push(&mut writer, &command)?;
+        writer.write(&command, &mut text);
+        log.push(text.as_slice())?;
     }
     Ok(())
 }

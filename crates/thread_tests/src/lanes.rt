@@ -4,21 +4,16 @@ ghost use Rattle.log_rings.specs.Lanes.{SameSender, SameReceiver};
 
 use base_words::Memory;
 use host_log::LogBuffer;
-use log_codec::Command;
 use log_rings::{Lane, Parcel, Receiver, Sender, Settled};
-use slot_rewriting::CommandWriter;
 use std::alloc::Global;
 use std::test::Fail;
 use std::thread::join_mut;
 
 // A parcel whose buffer has the one byte of a next epoch.
 fn parcel(alloc: Global, number: u64, last: bool) -> Result<Parcel, Memory> {
-    let mut buffer = LogBuffer::new(alloc);
-    let mut writer = CommandWriter::ByPath;
-    buffer.push(&mut writer, &Command::NextEpoch)?;
     Ok(Parcel {
         number,
-        buffer,
+        buffer: LogBuffer::of(alloc, b"\x08")?,
         last,
     })
 }
@@ -57,11 +52,11 @@ fn what_finds_no_slot_is_handed_back(rt: HostRuntime) -> Result<(), Fail> {
 #[test]
 fn room_comes_back_once_a_parcel_is_received(rt: HostRuntime) -> Result<(), Fail> {
     let (mut sender, mut receiver) = Lane::new(rt.alloc(), 1)?;
-    assert!(rt; sender.has_room());
+    assert_eq!(rt; sender.room(), 1);
     sender.send(parcel(rt.alloc(), 7, true)?);
-    assert!(rt; !sender.has_room());
+    assert_eq!(rt; sender.room(), 0);
     assert_eq!(rt; told(receiver.poll()), Some((7, 1, true)));
-    assert!(rt; sender.has_room());
+    assert_eq!(rt; sender.room(), 1);
     Ok(())
 }
 

@@ -1,15 +1,10 @@
--- What a run has read, piece by piece, and what a worker put in.
-use Rattle.std.proofs.Common.{◌≡◌, ℕ, suc, ◌+◌, ◌-◌, ◌^◌, ◌<◌, ◌≤◌, false, min, length-append, List, [], ◌∷◌, ◌++◌, length, take, get_or, Option, Some, refl, sym, ◌∙◌, ap, subst, append_assoc, append-nil, arith}
-use Rattle.std.specs.List.{All}
-use Rattle.std.specs.Option.{option_to_list}
-use Rattle.std.proofs.lemmas.List.Elements.{All-push}
+-- What a run has read, piece by piece, and what a worker sent of its log.
+use Rattle.std.proofs.Common.{◌≡◌, ℕ, ◌+◌, ◌-◌, ◌^◌, ◌<◌, false, min, length-append, List, [], ◌∷◌, ◌++◌, length, take, drop, refl, sym, ◌∙◌, ap, subst, append_assoc, append-nil, arith}
+use Rattle.std.proofs.Math.Seq.{drop-append_seam}
+use Rattle.std.proofs.lemmas.List.{take-append-drop, take_all}
 use Rattle.std.proofs.lemmas.Grind.{flat_map-append}
 use Rattle.record_hash.specs.Functions.{DigestFunctions}
 use Rattle.record_text.specs.declared.operation.Operation.{Operation}
-use Rattle.log_codec.specs.declared.command.Command.{Command}
-use Rattle.slot_rewriting.specs.declared.writer.CommandWriter.{CommandWriter}
-use Rattle.slot_rewriting.specs.Writing.{text_by, text_from, writer_behind}
-use Rattle.slot_rewriting.proofs.WritingLaws.{text_from-next}
 use Rattle.merkle_records.specs.Scheme.{Scheme, scheme_of}
 use Rattle.lamport_clocks.specs.declared.header.Header.{Header}
 use Rattle.verifier_run.specs.Kept.{keeps_operations}
@@ -17,7 +12,6 @@ use Rattle.verifier_run.specs.Progress.{Progress, fed}
 use Rattle.certified_epochs.specs.declared.fed_run.FedRun.{FedRun}
 use Rattle.log_rings.specs.declared.parcel.Parcel.{Parcel}
 use Rattle.host_rounds.specs.Feeding.{Reads}
-use Rattle.verifier_feeds.specs.Parcels.{IsLongEnough}
 use Rattle.verifier_feeds.specs.declared.inbox.Inbox.{Inbox}
 use Rattle.verifier_feeds.specs.Feeds.{HasRead, GoesOnBy, ReadsOn, bytes_of, counted_on, run_of, is_wanting}
 
@@ -85,44 +79,37 @@ module _ (functions : DigestFunctions) where
         taken = subst (λ (h : Header). new.fed.run ≡ fed keeps_operations (scheme_of functions h) old.fed.run piece) has.header one.read ∙ has.goes_on piece;
       }
 
--- what was received, what was left in the lane, what waited for room and what is in no parcel is all that was put in
-pub all-put : (received left sent backlog : List Parcel) (rest : List ℕ) → received ++ left ≡ sent
-    → ((bytes_of received ++ bytes_of left) ++ bytes_of backlog) ++ rest ≡ bytes_of (sent ++ backlog) ++ rest
-all-put received left sent backlog rest is =
-    let bytes = λ (p : Parcel). p.buffer in
-    ap (λ (xs : List ℕ). xs ++ rest)
-    (ap (λ (xs : List ℕ). xs ++ bytes_of backlog) (sym (flat_map-append bytes received left) ∙ ap bytes_of is)
-    ∙ sym (flat_map-append bytes sent backlog))
-
 -- where none is left behind some, these are all
 pub none-left : {X : Type 0} (some all rest : List X) → all ≡ some ++ rest → length rest ≡ 0 → all ≡ some
 none-left some all [] is count = is ∙ append-nil some
 none-left some all (x ∷ rest) is count = absurd (omega (arith, count))
 
--- what was the oldest
-pub oldest : {X : Type 0} (old new : List X) (found : Option X) (x : X) → found ≡ Some x → old ≡ option_to_list found ++ new → old ≡ x ∷ new
-oldest old new found x some is = is ∙ ap (λ (o : Option _). option_to_list o ++ new) some
+-- ---- what was sent
 
--- commands that are written, with one more
-pub written-more : (writer : CommandWriter) (commands : List Command) (k n : ℕ) (command : Command) (queued buffer after first : List ℕ) → n ≡ suc k → k < length commands
-    → command ≡ get_or commands k command → queued ++ buffer ≡ first ++ text_from writer (take k commands)
-    → after ≡ buffer ++ text_by (writer_behind writer (take k commands)) command → queued ++ after ≡ first ++ text_from writer (take n commands)
-written-more writer commands k n command queued buffer after first next there is so_far pushed =
-    let text : List ℕ = text_by (writer_behind writer (take k commands)) command in
-    ap (λ (bytes : List ℕ). queued ++ bytes) pushed
-    ∙ sym (append_assoc queued buffer text)
-    ∙ ap (λ (bytes : List ℕ). bytes ++ text) so_far
-    ∙ append_assoc first (text_from writer (take k commands)) text
-    ∙ ap (λ (bytes : List ℕ). first ++ bytes) (sym (text_from-next writer commands k n command next there is))
+-- one parcel more
+pub bytes-more : (parcels all : List Parcel) (parcel : Parcel) (piece : List ℕ) → all ≡ parcels ++ parcel ∷ [] → parcel.buffer ≡ piece
+    → bytes_of all ≡ bytes_of parcels ++ piece
+bytes-more parcels all parcel piece are is =
+    ap bytes_of are ∙ flat_map-append (λ (p : Parcel). p.buffer) parcels (parcel ∷ [])
+    ∙ ap (λ (xs : List ℕ). bytes_of parcels ++ xs) (append-nil parcel.buffer ∙ is)
 
--- ---- how long parcels are
+-- what stands behind a front
+pub behind-front : (front rest log : List ℕ) (n : ℕ) → log ≡ front ++ rest → n ≡ length front → drop n log ≡ rest
+behind-front front rest log n is count = ap (λ (k : ℕ). drop k log) count ∙ ap (drop (length front)) is ∙ drop-append_seam front rest
 
--- one parcel more, which is long enough or its worker's last
-pub enough-more : (sent backlog pushed queued : List Parcel) (parcel : Parcel) (rest : List ℕ) → All IsLongEnough (sent ++ backlog)
-    → (parcel.last ≡ false → 4096 ≤ length rest) → parcel.buffer ≡ rest → pushed ≡ backlog ++ parcel ∷ [] → queued ≡ sent ++ pushed → All IsLongEnough queued
-enough-more sent backlog pushed queued parcel rest all one is more are =
-    subst (All IsLongEnough) (sym (are ∙ ap (λ (ps : List Parcel). sent ++ ps) more ∙ sym (append_assoc sent backlog (parcel ∷ []))))
-    (All-push IsLongEnough (sent ++ backlog) parcel all (λ going. subst (λ (bytes : List ℕ). 4096 ≤ length bytes) (sym is) (one going)))
+-- the same as a slice shows it
+pub behind-front_slice : (front rest log : List ℕ) (n : ℕ) → log ≡ front ++ rest → n ≡ length front → take (length log - n) (drop n log) ≡ rest
+behind-front_slice front rest log n is count =
+    ap (take (length log - n)) (behind-front front rest log n is count)
+    ∙ take_all (length log - n) rest (omega (arith, ap length is, length-append front rest, count))
+
+-- a longer front
+pub front-longer : (front rest log piece : List ℕ) (n count : ℕ) → log ≡ front ++ rest → n ≡ length front → piece ≡ take count (drop n log)
+    → log ≡ (front ++ piece) ++ drop count rest
+front-longer front rest log piece n count is at piece_is =
+    is ∙ ap (λ (xs : List ℕ). front ++ xs) (sym (take-append-drop count rest))
+    ∙ sym (append_assoc front (take count rest) (drop count rest))
+    ∙ ap (λ (xs : List ℕ). (front ++ xs) ++ drop count rest) (ap (take count) (sym (behind-front front rest log n is at)) ∙ sym piece_is)
 
 -- ---- how many parcels a verifier took
 

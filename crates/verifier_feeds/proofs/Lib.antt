@@ -1,2 +1,3 @@
--- Proofs of the calls on feeds. No other crate uses them.
+-- Proofs of the calls on feeds. Other crates use `FrontLaws` alone.
 mod FeedLemmas
+pub mod FrontLaws

@@ -1,8 +1,7 @@
--- The two ends of a feed: what a worker has put in, and what its verifier's run has read.
-use Rattle.std.specs.Prelude.{◌≡◌, ℕ, ◌+◌, ◌-◌, ◌^◌, ◌≤◌, Bool, true, false, List, [], ◌∷◌, ◌++◌, length, min}
-use Rattle.std.specs.List.{All, flat_map}
+-- The two ends of a feed: what a worker has sent of its log, and what its verifier's run has read.
+use Rattle.std.specs.Prelude.{◌≡◌, ℕ, ◌+◌, ◌-◌, ◌^◌, ◌<◌, ◌≤◌, Bool, true, false, List, [], ◌∷◌, ◌++◌, length, min}
+use Rattle.std.specs.List.{All}
 use Rattle.record_hash.specs.Functions.{DigestFunctions}
-use Rattle.slot_rewriting.specs.declared.writer.CommandWriter.{CommandWriter}
 use Rattle.merkle_records.specs.Scheme.{scheme_of}
 use Rattle.verifier_run.specs.Kept.{keeps_operations}
 use Rattle.verifier_run.specs.Progress.{fed, weight}
@@ -10,31 +9,21 @@ use Rattle.certified_epochs.specs.declared.fed_run.FedRun.{FedRun}
 use Rattle.log_rings.specs.declared.parcel.Parcel.{Parcel}
 use Rattle.log_rings.specs.Lanes.{sent, received_by, AreEnds, SameSender, SameReceiver}
 use Rattle.log_rings.specs.Lanes as lanes
-use Rattle.verifier_feeds.specs.Parcels.{IsLongEnough, WaitForRoom}
+use Rattle.verifier_feeds.specs.Parcels.{IsLongEnough, IsShortEnough}
+pub use Rattle.verifier_feeds.specs.Parcels.{bytes_of}
 use Rattle.verifier_feeds.specs.declared.outbox.Outbox.{Outbox}
 use Rattle.verifier_feeds.specs.declared.inbox.Inbox.{Inbox}
 
 -- ---- the worker's end
 
--- the bytes of parcels, one behind another
-abbrev pub bytes_of : List Parcel → List ℕ
-bytes_of parcels = flat_map (λ parcel. parcel.buffer) parcels
+-- the bytes of its log that were sent
+abbrev pub sent_bytes : Outbox → List ℕ
+sent_bytes outbox = bytes_of (sent outbox.sender)
 
--- the parcels that were sent, and then those that wait
-abbrev pub queued : Outbox → List Parcel
-queued outbox = sent outbox.sender ++ outbox.backlog.items
-
--- the bytes that are in no parcel yet
-abbrev pub rest_of : Outbox → List ℕ
-rest_of outbox = outbox.buffer
-
--- all bytes that were put in
-abbrev pub put_in : Outbox → List ℕ
-put_in outbox = bytes_of (queued outbox) ++ outbox.buffer
-
--- what writes the next command
-abbrev pub writer_of : Outbox → CommandWriter
-writer_of outbox = outbox.writer
+-- What was sent is a front of this log, and the rest stands behind it.
+pub record HasSentFrontOf (outbox : Outbox) (log : List ℕ) : Type 0 where
+  pub rest : List ℕ
+  pub is : log ≡ sent_bytes outbox ++ rest
 
 -- both are the sending end of one lane
 abbrev pub SameOutbox : Outbox → Outbox → Type 0
@@ -44,21 +33,32 @@ SameOutbox old new = SameSender old.sender new.sender
 abbrev pub free_room : Outbox → ℕ
 free_room outbox = lanes.room outbox.sender
 
--- each of these that isn't its worker's last of the round has 4,096 bytes or more
+-- there is a place for the last parcel of the round
+abbrev pub KeepsPlace : Outbox → Type 0
+KeepsPlace outbox = 0 < free_room outbox
+
+-- where 4,096 bytes or more of this log wait, the sender knows of no room but the kept place
+abbrev pub WaitsForRoom : Outbox → List ℕ → Type 0
+WaitsForRoom outbox log = 4096 ≤ length log - length (sent_bytes outbox) → free_room outbox ≤ 1
+
+-- each parcel that was sent and isn't its worker's last of the round has 4,096 bytes or more
 abbrev pub AreLongEnough : Outbox → Type 0
-AreLongEnough outbox = All IsLongEnough (queued outbox)
+AreLongEnough outbox = All IsLongEnough (sent outbox.sender)
 
--- what waits does so only where the sender knows of no room
-abbrev pub WaitsForRoom : Outbox → Type 0
-WaitsForRoom outbox = WaitForRoom outbox.sender outbox.backlog.items
+-- no parcel that was sent has more than 65,536 bytes
+abbrev pub AreShortEnough : Outbox → Type 0
+AreShortEnough outbox = All IsShortEnough (sent outbox.sender)
 
--- All that was put in is in parcels, and the last of these is marked as the worker's last of the round.
-pub record HasEnded (outbox : Outbox) : Type 0 where
+-- The last parcel that was sent has this mark.
+pub record EndsMarked (outbox : Outbox) (mark : Bool) : Type 0 where
   pub parcels : List Parcel
   pub parcel : Parcel
-  pub queued_are : queued outbox ≡ parcels ++ parcel ∷ []
-  pub marked : parcel.last ≡ true
-  pub rest : outbox.buffer ≡ []
+  pub sent_are : sent outbox.sender ≡ parcels ++ parcel ∷ []
+  pub marked : parcel.last ≡ mark
+
+-- the last parcel that was sent is marked as the worker's last of the round
+abbrev pub HasEnded : Outbox → Type 0
+HasEnded outbox = EndsMarked outbox true
 
 -- ---- the verifier's end
 
@@ -111,12 +111,11 @@ ReadsOn functions more old new =
 abbrev pub AreEndsOfOne : Outbox → Inbox → Type 0
 AreEndsOfOne outbox inbox = AreEnds outbox.sender inbox.receiver
 
--- A feed that is open: nothing was put in, nothing came out, and these are its run and its writer.
-pub record IsOpen (run : FedRun) (writer : CommandWriter) (outbox : Outbox) (inbox : Inbox) : Type 0 where
+-- A feed that is open: nothing was sent, nothing came out, and this is its run.
+pub record IsOpen (run : FedRun) (outbox : Outbox) (inbox : Inbox) : Type 0 where
   pub ends : AreEndsOfOne outbox inbox
-  pub empty : put_in outbox ≡ []
-  pub writer_is : writer_of outbox ≡ writer
-  pub capacity : free_room outbox ≡ 16
+  pub empty : sent_bytes outbox ≡ []
+  pub capacity : free_room outbox ≡ 17
   pub fresh : received_by inbox.receiver ≡ []
   pub run_is : run_of inbox ≡ run
   pub room : HasRoom inbox

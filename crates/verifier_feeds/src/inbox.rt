@@ -9,11 +9,19 @@ use log_rings::Receiver;
 use record_hash::Digests;
 use record_text::Operation;
 use std::sync::Wait;
+use std::sync::atomic::AtomicU64;
 use std::thread::yield_now;
+use std::time::Duration;
 use verifier_run::pieces_do_not_matter;
 
 /// So many polls in a row that find nothing end a verifier's watch.
 const MOST_EMPTY_POLLS: u32 = 1_024;
+
+/// After so many polls in a row that find nothing a verifier rests between polls.
+const BUSY_EMPTY_POLLS: u32 = 16;
+
+/// So many microseconds it rests.
+const REST: u64 = 50;
 
 /// A verifier's run, with the end of the lane from which it is fed, and whether memory was wanting for it.
 #[derive(Drop)]
@@ -34,7 +42,8 @@ impl Inbox {
     ghost use Rattle.verifier_feeds.specs.Feeds.{HasRoom, SameInbox, HasRead, GoesOnBy, ReadsOn, bytes_of, counted_on, parcels_of, run_of, is_wanting};
 
     /// Feeds the run what comes through the lane, until that is its worker's last parcel of the round, or until 1,024 polls in a
-    /// row found nothing. It counts what comes. Before each poll it enters the gate, by this number and with its count so far.
+    /// row found nothing. It counts what comes. Before each poll it enters the gate, by this number and with its count so far. From
+    /// the 16th poll in a row that found nothing on it rests for 50 microseconds after each.
     pub fn watch<R: Wait, D: Digests, G: Gate>(&mut self, rt: &R, d: &D, gate: &G, number: u16)
         requires room { HasRoom self.old }
         requires fresh { received_by self.old.receiver ≡ [] }
@@ -62,7 +71,7 @@ impl Inbox {
                 }
                 None => {
                     empty_polls += 1;
-                    yield_now();
+                    rest(rt, empty_polls);
                 }
             }
         }
@@ -123,5 +132,15 @@ impl Inbox {
         } else {
             Ok(self.fed)
         }
+    }
+}
+
+// Lets other threads go first, after so many polls in a row that found nothing. From the 16th on it rests for 50 microseconds: a
+// thread that only yields keeps a processor busy, which the worker may want. Nobody wakes it, since nobody else has the word.
+fn rest<R: Wait>(rt: &R, empty_polls: u32) {
+    if empty_polls < BUSY_EMPTY_POLLS {
+        yield_now();
+    } else {
+        AtomicU64::new(0).park_timeout(rt, 0, Duration::from_micros(REST));
     }
 }

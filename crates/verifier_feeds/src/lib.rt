@@ -1,9 +1,9 @@
 //! How a verifier is fed while its worker serves.
 //!
-//! A worker puts its commands into an `Outbox`, which writes their texts by a writer of `slot_rewriting` and sends them through a lane of `log_rings` in parcels. The
-//! verifier's `Inbox` polls the lane and feeds the run what comes. Neither waits for the other, so once both threads have come
-//! together `settle` feeds the run what is left. `specs/Feeds.antt` says what is known of both ends. Begin with `open` in
-//! `opening.rt`.
+//! A worker has one log of bytes for the whole run, and an `Outbox`, which knows how many of these bytes it has sent. It sends copies
+//! of pieces of the log through a lane of `log_rings`, in parcels. The verifier's `Inbox` polls the lane and feeds the run what comes.
+//! Neither waits for the other, so once both threads have come together `settle` feeds the run what is left. `specs/Feeds.antt` says
+//! what is known of both ends. Begin with `open` in `opening.rt`.
 #![tactic(auto)]
 
 mod inbox;

@@ -1,113 +1,91 @@
 //! The worker's end of a feed.
-ghost use Rattle.std.specs.Prelude.{◌≡◌, ◌++◌};
-ghost use Rattle.std.specs.List.{All};
-ghost use Rattle.log_rings.specs.Lanes.{sent, SameSender};
-ghost use Rattle.verifier_feeds.specs.Parcels.{IsLongEnough, WaitForRoom};
+ghost use Rattle.std.specs.Prelude.{◌≡◌, length};
+ghost use Rattle.verifier_feeds.specs.Parcels.{SendsEnough, SendsShort, bytes_by};
 
 use base_words::Memory;
 use host_log::LogBuffer;
-use log_codec::Command;
 use log_rings::{Parcel, Sender};
-use slot_rewriting::CommandWriter;
-use std::collections::VecDeque;
+use std::alloc::Global;
 
-/// From so many bytes on a parcel is sent.
+/// From so many bytes on a parcel is sent before the end of the round.
 const LEAST_PARCEL: usize = 4_096;
 
-/// Where a worker puts what it logs, on the way to its verifier: the writer of its log, what was sent, what waits for room in the
-/// lane, and what is in no parcel yet. Only a worker's last parcel of the round may be short, and none waits where there is room.
-///
-/// After want of memory it is of no more use.
+/// No parcel has more bytes.
+const LONGEST_PARCEL: usize = 65_536;
+
+/// What a worker has sent of its log on the way to its verifier: the end of the lane, and how many bytes of the log it sent. Only a
+/// worker's last parcel of the round may be short. One place in the lane is kept for that one.
 #[derive(Drop)]
 pub struct Outbox {
-    pub(crate) writer: CommandWriter,
     pub(crate) sender: Sender,
-    pub(crate) backlog: VecDeque<Parcel>,
-    pub(crate) buffer: LogBuffer,
+    // So many bytes of the log were sent: its first ones.
+    pub(crate) sent: usize,
+    // The number of the next parcel.
     pub(crate) parcels: u64,
-    ghost enough: { All IsLongEnough (sent sender ++ backlog.items) },
-    ghost waits: { WaitForRoom sender backlog.items },
+    ghost counted: { sent ≡ length (bytes_by sender) },
+    ghost enough: { SendsEnough sender },
+    ghost short: { SendsShort sender },
 }
 
 impl Outbox {
-    ghost use Rattle.std.specs.Prelude.{◌≡◌, ◌<◌, ◌≤◌, false, [], ◌∷◌, ◌++◌, length, OnOk};
-    ghost use Rattle.record_text.specs.Longest.{longest_blob};
-    ghost use Rattle.slot_rewriting.specs.Writing.{text_from, writer_behind};
-    ghost use Rattle.verifier_feeds.specs.Feeds.{put_in, queued, rest_of, writer_of, AreLongEnough, HasEnded, SameOutbox, WaitsForRoom};
+    ghost use Rattle.std.specs.Prelude.{◌≡◌, ◌+◌, ◌-◌, ◌≤◌, false, min, length, OnOk, OnErr};
+    ghost use Rattle.verifier_feeds.specs.Feeds.{sent_bytes, free_room, AreLongEnough, AreShortEnough, EndsMarked, HasEnded, HasSentFrontOf, KeepsPlace, SameOutbox, WaitsForRoom};
 
-    /// Puts commands in, as its writer writes them, behind what is there. Where that makes a parcel of 4,096 bytes or more, it goes on
-    /// its way.
-    pub fn put(&mut self, commands: &[Command]) -> Result<(), Memory>
-        ensures put { OnOk result (put_in self.new ≡ put_in self.old ++ text_from (writer_of self.old) commands.now) }
-        ensures behind { OnOk result (writer_of self.new ≡ writer_behind (writer_of self.old) commands.now) }
-        ensures rest { OnOk result (length (rest_of self.new) < 4096) }
+    /// Sends what the log has beyond what was sent, in parcels of 4,096 to 65,536 bytes, while there is room beyond the place that is
+    /// kept for the last of the round. The log is the one of which a front was sent. For want of memory some of it may have been sent.
+    pub fn offer(&mut self, alloc: Global, log: &[u8]) -> Result<(), Memory>
+        requires front { HasSentFrontOf self.old log.now }
+        requires place { KeepsPlace self.old }
+        ensures front { HasSentFrontOf self.new log.now }
+        ensures place { KeepsPlace self.new }
+        ensures waits { OnOk result (WaitsForRoom self.new log.now) }
         ensures enough { AreLongEnough self.new }
-        ensures waits { WaitsForRoom self.new }
+        ensures short { AreShortEnough self.new }
         ensures lane { SameOutbox self.old self.new }
     {
-        self.write(commands)?;
-        if self.buffer.bytes().len() >= LEAST_PARCEL {
-            self.hand_over(false)?;
+        while log.len() - self.sent >= LEAST_PARCEL && self.sender.room() > 1 {
+            self.send_piece(alloc, log, false)?;
         }
         Ok(())
     }
 
-    /// What is in no parcel yet goes on its way, marked as the worker's last of the round.
-    pub fn end(&mut self) -> Result<(), Memory>
-        ensures put { OnOk result (put_in self.new ≡ put_in self.old) }
+    /// Sends one last parcel of what the log has beyond what was sent, of 65,536 bytes at most, marked as the worker's last of the
+    /// round. What is beyond that stays for `settle`. For want of memory nothing more is sent.
+    pub fn end(&mut self, alloc: Global, log: &[u8]) -> Result<(), Memory>
+        requires front { HasSentFrontOf self.old log.now }
+        requires place { KeepsPlace self.old }
+        ensures front { HasSentFrontOf self.new log.now }
         ensures ended { OnOk result (HasEnded self.new) }
-        ensures writer { writer_of self.new ≡ writer_of self.old }
+        ensures sent { OnOk result (length (sent_bytes self.new) ≡ min (length log.now) (length (sent_bytes self.old) + 65536)) }
+        ensures as_before { OnErr result (sent_bytes self.new ≡ sent_bytes self.old) }
         ensures enough { AreLongEnough self.new }
-        ensures waits { WaitsForRoom self.new }
+        ensures short { AreShortEnough self.new }
         ensures lane { SameOutbox self.old self.new }
     {
-        self.hand_over(true)
+        self.send_piece(alloc, log, true)
     }
 
-    // Writes commands behind what is in no parcel yet.
-    fn write(&mut self, commands: &[Command]) -> Result<(), Memory>
-        ensures put { OnOk result (put_in self.new ≡ put_in self.old ++ text_from (writer_of self.old) commands.now) }
-        ensures behind { OnOk result (writer_of self.new ≡ writer_behind (writer_of self.old) commands.now) }
+    // Sends one parcel of what the log has beyond what was sent: of all of it, or of 65,536 bytes.
+    fn send_piece(&mut self, alloc: Global, log: &[u8], last: bool) -> Result<(), Memory>
+        requires front { HasSentFrontOf self.old log.now }
+        requires room { KeepsPlace self.old }
+        requires enough { last ≡ false → 4096 ≤ length log.now - length (sent_bytes self.old) }
+        ensures front { HasSentFrontOf self.new log.now }
+        ensures marked { OnOk result (EndsMarked self.new last) }
+        ensures sent { OnOk result (length (sent_bytes self.new) ≡ min (length log.now) (length (sent_bytes self.old) + 65536)) }
+        ensures room { OnOk result (free_room self.old ≡ free_room self.new + 1) }
+        ensures as_before { OnErr result (self.new ≡ self.old) }
         ensures lane { SameOutbox self.old self.new }
     {
-        for command in commands {
-            self.buffer.push(&mut self.writer, command)?;
-        }
-        Ok(())
-    }
-
-    // What is in no parcel yet becomes one, behind those that wait, and what waits is sent as far as there is room.
-    fn hand_over(&mut self, last: bool) -> Result<(), Memory>
-        requires enough { last ≡ false → 4096 ≤ length (rest_of self.old) }
-        ensures put { OnOk result (put_in self.new ≡ put_in self.old) }
-        ensures queued { OnOk result (queued self.new
-            ≡ queued self.old ++ (record { number = self.old.parcels; buffer = self.old.buffer; last = last }) ∷ []) }
-        ensures rest { OnOk result (self.new.buffer ≡ []) }
-        ensures writer { writer_of self.new ≡ writer_of self.old }
-        ensures lane { SameOutbox self.old self.new }
-    {
+        let end = self.sent + (log.len() - self.sent).min(LONGEST_PARCEL);
         let parcel = Parcel {
             number: self.parcels,
-            buffer: self.buffer.take(),
+            buffer: LogBuffer::of(alloc, &log[self.sent..end])?,
             last,
         };
+        self.sender.send(parcel);
         self.parcels = self.parcels.saturating_add(1);
-        self.backlog.push_back(parcel)?;
-        send_waiting(&mut self.sender, &mut self.backlog);
+        self.sent = end;
         Ok(())
-    }
-}
-
-// Sends what waits, the oldest first, as far as there is room.
-fn send_waiting(sender: &mut Sender, backlog: &mut VecDeque<Parcel>)
-    ensures queued { sent sender.new ++ backlog.new.items ≡ sent sender.old ++ backlog.old.items }
-    ensures waits { WaitForRoom sender.new backlog.new.items }
-    ensures lane { SameSender sender.old sender.new }
-{
-    while sender.has_room() {
-        match backlog.pop_front() {
-            Some(parcel) => sender.send(parcel),
-            None => return,
-        }
     }
 }

@@ -8,7 +8,7 @@ use Rattle.script_text.specs.declared.task.Task.{Task}
 use Rattle.host_world.specs.declared.settings.Settings.{Settings}
 use Rattle.host_world.specs.declared.world.World as code
 use Rattle.host_world.specs.ShippedHost.{turn_of}
-use Rattle.host_world.specs.Shown.{digests_of, requests_of}
+use Rattle.host_world.specs.Shown.{shown_world, digests_of, requests_of}
 use Rattle.host_world.specs.Behind.{AreOfOneHost}
 use Rattle.verifier_threads.specs.declared.accounts.Account.{Account}
 use Rattle.verifier_threads.specs.declared.runner.NextCall.{NextCall}
@@ -74,7 +74,7 @@ module _ {D : Type 0} (functions : D → DigestFunctions) (own : DigestFunctions
 -- each turn of the phase is one of the workers'
 pub phase-turns : {D : Type 0} (functions : D → DigestFunctions) (run : WorldRun D) (phase closes : ℕ) (held : Option (List ℕ)) → AreTasks run.world.settings.header (requests_of run.world)
     → IsUnderWayBehind functions run phase closes held
-    → AllByRecursion (λ turn. turn.0 < length run.world.workers.items) (get_or (map (map turn_of) (requests_of run.world)) phase [])
+    → AllByRecursion (λ turn. turn.0 < length (shown_world run.world).workers) (get_or (map (map turn_of) (requests_of run.world)) phase [])
 phase-turns functions run phase closes held tasks way =
     turns-now run.world run.world phase (record { settings = refl; requests = refl; digests = refl }) tasks
     (runs-workers way.0 functions run way.2.past way.1 way.2.runs)

@@ -312,8 +312,8 @@ set_up-count settings host world fit same is =
 
 -- each turn of a phase is one of the workers', also of a world further on
 pub turns-now : {D : Type 0} (old now : code.World D) (phase : ℕ) → AreOfOneHost old now → AreTasks old.settings.header (requests_of old)
-    → length now.workers.items ≡ now.settings.header.verifiers
-    → AllByRecursion (λ turn. turn.0 < length now.workers.items) (get_or (map (map turn_of) (requests_of now)) phase [])
+    → length (shown_world now).workers ≡ now.settings.header.verifiers
+    → AllByRecursion (λ turn. turn.0 < length (shown_world now).workers) (get_or (map (map turn_of) (requests_of now)) phase [])
 turns-now old now phase same tasks count =
     subst (λ (n : ℕ). AllByRecursion (λ turn. turn.0 < n) (get_or (map (map turn_of) (requests_of now)) phase [])) (sym count)
     (turns-script now.settings.header (requests_of now) phase
@@ -322,7 +322,7 @@ turns-now old now phase same tasks count =
 
 -- as many workers as verifiers, where the run goes on
 pub runs-workers : (account : Account) {D : Type 0} (functions : D → DigestFunctions) (runner : WorldRun D) (past : List Logs) (outputs : Outputs) → Runs account functions runner past outputs
-    → length runner.world.workers.items ≡ runner.world.settings.header.verifiers
+    → length (shown_world runner.world).workers ≡ runner.world.settings.header.verifiers
 runs-workers account functions runner past outputs runs = running-workers _ _ _ _ (shown_world runner.world) runner.rounds runner.end past outputs runs.running
 
 -- behind the last close it runs to its end

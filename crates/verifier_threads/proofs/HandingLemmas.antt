@@ -69,32 +69,12 @@ replaced-all (suc n) [] (y ∷ ys) each is = absurd (omega (arith, each))
 replaced-all (suc n) (x ∷ xs) [] each is = absurd (omega (arith, each))
 replaced-all (suc n) (x ∷ xs) (y ∷ ys) each is = ap (λ rest. x ∷ rest) (replaced-all n xs ys (omega (arith, each)) (omega (arith, is)))
 
-pub replaced-length : {A : Type 0} (n : ℕ) (xs ys : List A) → length (replaced_up_to n xs ys) ≡ length ys
-replaced-length zero xs ys = refl
-replaced-length (suc n) [] ys = refl
-replaced-length (suc n) (x ∷ xs) [] = refl
-replaced-length (suc n) (x ∷ xs) (y ∷ ys) = ap suc (replaced-length n xs ys)
-
--- one element set, and set again
-pub set-twice : {A : Type 0} (xs : List A) (n : ℕ) (a b : A) → set (set xs n a) n b ≡ set xs n b
-set-twice [] n a b = refl
-set-twice (x ∷ xs) zero a b = refl
-set-twice (x ∷ xs) (suc n) a b = ap (λ rest. x ∷ rest) (set-twice xs n a b)
-
-pub get-set : {A : Type 0} (xs : List A) (n : ℕ) (a d : A) → n < length xs → get_or (set xs n a) n d ≡ a
-get-set [] n a d there = absurd (omega (arith, there))
-get-set (x ∷ xs) zero a d there = refl
-get-set (x ∷ xs) (suc n) a d there = get-set xs n a d (omega (arith, there))
-
 -- the next buffer takes the next text
-pub buffers-next : (n next : ℕ) (texts buffers now : List (List ℕ)) (cleared new text d : List ℕ) → now ≡ replaced_up_to n texts buffers
-    → length texts ≡ length buffers → n < length texts → cleared ≡ [] → new ≡ get_or (set now n cleared) n d ++ text → text ≡ get_or texts n [] → next ≡ suc n
-    → set (set now n cleared) n new ≡ replaced_up_to next texts buffers
-buffers-next n next texts buffers now cleared new text d is each there empty took text_is next_is =
-    let within : n < length now = omega (arith, there, each, ap length is, replaced-length n texts buffers) in
-    set-twice now n cleared new
-    ∙ ap (λ (bytes : List ℕ). set now n bytes)
-    (took ∙ ap (λ (front : List ℕ). front ++ text) (get-set now n cleared d within ∙ empty) ∙ text_is)
+pub buffers-next : (n next : ℕ) (texts buffers now : List (List ℕ)) (new : List ℕ) → now ≡ replaced_up_to n texts buffers
+    → length texts ≡ length buffers → n < length texts → new ≡ get_or texts n [] → next ≡ suc n
+    → set now n new ≡ replaced_up_to next texts buffers
+buffers-next n next texts buffers now new is each there took next_is =
+    ap (λ (bytes : List ℕ). set now n bytes) took
     ∙ ap (λ (all : List (List ℕ)). set all n (get_or texts n [])) is
     ∙ replaced-next n texts buffers [] each there
     ∙ ap (λ (m : ℕ). replaced_up_to m texts buffers) (sym next_is)

@@ -76,8 +76,8 @@ pub record IsRunning (account : Account) (functions : DigestFunctions) (settings
 -- So runs a runner of the code, which has a buffer for each worker, and a count of parcels for its verifier.
 pub record Runs (account : Account) {D : Type 0} (functions : D → DigestFunctions) (runner : WorldRun D) (past : List Logs) (outputs : Outputs) : Type 0 where
   pub running : IsRunning account (functions (digests_of runner.world)) runner.world.settings (requests_of runner.world) (shown_world runner.world) runner.rounds runner.end past outputs
-  pub buffers : length runner.buffers.items ≡ length runner.world.workers.items
-  pub counts : length runner.parcels.items ≡ length runner.world.workers.items
+  pub buffers : length runner.buffers.items ≡ length (shown_world runner.world).workers
+  pub counts : length runner.parcels.items ≡ length (shown_world runner.world).workers
 
 -- The same behind so many phases and so many closes: all is written that is told of what the rounds up to the last close certify.
 pub record RunsBehind (account : Account) {D : Type 0} (functions : D → DigestFunctions) (runner : WorldRun D) (phases closes : ℕ) (outputs : Outputs) : Type 0 where

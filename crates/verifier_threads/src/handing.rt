@@ -11,13 +11,9 @@ use base_words::Memory;
 use host_log::LogBuffer;
 use host_world::World;
 use record_hash::Digests;
-use slot_rewriting::CommandWriter;
-use std::alloc::Global;
 
-/// Each buffer takes what its worker logged since it was last handed out, written as a log of its own, and nothing else, and the world
-/// forgets it.
+/// Each buffer takes the log of what its worker logged since it was last handed out, and nothing else, and the world forgets that.
 pub(crate) fn hand_out_all<D: Digests>(
-    alloc: Global,
     world: &mut World<'_, D>,
     buffers: &mut [LogBuffer],
 ) -> Result<(), Memory>
@@ -28,11 +24,8 @@ pub(crate) fn hand_out_all<D: Digests>(
     ensures forgotten { OnOk result (shown_world world.new ≡ all_handed_out (shown_world world.old)) }
     ensures host { AreOfOneHost world.old world.new }
 {
-    let header = world.settings().header;
     for worker in 0..buffers.len() {
-        let mut writer = CommandWriter::new(alloc, worker as u16, &header)?;
-        buffers[worker].clear();
-        world.hand_out(worker as u16, &mut writer, &mut buffers[worker])?;
+        world.hand_out(worker as u16, &mut buffers[worker])?;
     }
     Ok(())
 }

@@ -189,7 +189,7 @@ impl<'a, D: Digests> WorldRun<'a, D> {
         what_is_due_stays_due();
         rounds_make_a_bundle();
         logs_come_to_rest();
-        hand_out_all(self.alloc, &mut self.world, self.buffers.as_mut_slice())?;
+        hand_out_all(&mut self.world, self.buffers.as_mut_slice())?;
         self.rounds.write(self.buffers.as_slice(), vault)
     }
 }
@@ -279,7 +279,7 @@ impl<'a, D: Digests + Sync> WorldRun<'a, D> {
         what_is_due_stays_due();
         rounds_make_a_bundle();
         logs_come_to_rest();
-        hand_out_all(self.alloc, &mut self.world, self.buffers.as_mut_slice())?;
+        hand_out_all(&mut self.world, self.buffers.as_mut_slice())?;
         let d = self.world.digests();
         digests_have_32_bytes(d);
         self.rounds

@@ -1,10 +1,8 @@
 -- What the code reads and writes of a phase, in the machine's words.
-use Rattle.std.proofs.Common.{◌≡◌, ◌⊎◌, inl, inr, ℕ, zero, suc, ◌+◌, ◌^◌, ◌<◌, ◌≤◌, false, List, [], ◌∷◌, ◌++◌, map, replicate, length, get_or, slice_get, Option, Some, None, Result, Ok, refl, sym, ◌∙◌, ap, subst, All, arith}
+use Rattle.std.proofs.Common.{◌≡◌, ℕ, zero, suc, ◌^◌, ◌<◌, ◌==◌, Bool, true, false, List, [], ◌∷◌, ◌++◌, map, replicate, length, get_or, Option, None, Result, Ok, if◌then◌else◌, sym, ◌∙◌, ap, subst, All, arith}
 use Rattle.std.specs.List.{AllByRecursion}
-use Rattle.std.proofs.lemmas.Bool.{cases_lt}
-use Rattle.std.proofs.lemmas.List.{get_or_append_left, get_or_push, length_push, length-replicate}
-use Rattle.std.proofs.lemmas.List.Elements.{All-from_get_or}
-use Rattle.std.proofs.lemmas.Option.{get_or_from_slice_get, none-some, same_Some}
+use Rattle.std.proofs.Math.ListN.{get_or-map as get_or-mapped}
+use Rattle.std.proofs.lemmas.List.{get_or-map, length-map, length-replicate}
 use Rattle.tree_keys.specs.Path.{key_bits}
 use Rattle.log_codec.specs.declared.command.Command.{Command}
 use Rattle.record_hash.specs.Functions.{DigestFunctions}
@@ -19,7 +17,7 @@ use Rattle.host_core.specs.Host.{Host}
 use Rattle.host_core.specs.World.{Seats, Worker, World, fresh, worker_at, set_up}
 use Rattle.host_core.specs.WorldEvent.{AreEnabled, run_events}
 use Rattle.host_core.proofs.EventLaws.{enabled-append, run-append}
-use Rattle.host_shard.specs.declared.content.Content as code
+use Rattle.host_shard.specs.declared.content.Content as content
 use Rattle.host_shard.specs.Content.{Content, vacant}
 use Rattle.host_shard.specs.Shown.{shown_content}
 use Rattle.host_table.specs.declared.hand.Hand.{Hand}
@@ -28,68 +26,41 @@ use Rattle.host_table.specs.Phase.{IsPhase, row_at}
 use Rattle.host_table.specs.Terms.{Terms, IsClockOf, IsPlaceOf}
 use Rattle.host_world.specs.declared.fault.ClockEnd.{ClockEnd}
 use Rattle.host_world.specs.declared.settings.Settings.{Settings}
+use Rattle.host_world.specs.declared.worker.Worker as code
 use Rattle.host_world.specs.declared.world.World as world
 use Rattle.host_world.specs.Behind.{AreInRange, HaveShortValues, AreOfOneHost, IsBehindSetup, StandsWith, host_of, with_logs}
 use Rattle.host_world.specs.Lending.{all_contents, filled}
 use Rattle.host_world.specs.Shown.{shown_world, digests_of, requests_of}
-use Rattle.host_world.specs.ShippedHost.{shipped_host}
+use Rattle.host_world.specs.ShippedHost.{turn_of, shipped_host}
+use Rattle.host_world.specs.Workers.{shown_worker}
 use Rattle.host_serving.specs.Leading.{Leads}
-use Rattle.host_serving.specs.Standing.{IsServedUpTo, NoneStopped}
+use Rattle.host_serving.specs.Standing.{turns_of, IsServedUpTo, NoneStopped}
 use Rattle.host_serving.proofs.LeadingLaws.{leads-with}
 use Rattle.table_order.specs.Phases.{AreTermsOf}
-use Rattle.worker_threads.specs.Parts.{asked_of, ArePlaces, HasDone}
-use Rattle.worker_threads.specs.Phase.{IsPlaceFor, ArePlacesFor, IsServedAtOnce}
+use Rattle.worker_threads.specs.declared.turns.Turn.{Turn}
+use Rattle.worker_threads.specs.Parts.{asked_in, asked_of, HasDone, HaveTurns}
+use Rattle.worker_threads.specs.Phase.{AreAsked, IsPlaceFor, IsServedAtOnce}
 use Rattle.worker_threads.specs.Participants.{AreToServe, HaveServed}
 use Rattle.worker_threads.proofs.FilledLemmas.{filled_again, filled_count}
 
--- ---- lists
+-- ---- what is asked
 
--- what is found in a list is there
-slice_get-there : {X : Type 0} (xs : List X) (i : ℕ) (x : X) → slice_get xs i ≡ Some x → i < length xs
-slice_get-there [] i x found = absurd (none-some x found)
-slice_get-there (first ∷ xs) zero x found = omega arith
-slice_get-there (first ∷ xs) (suc i) x found = let rest = slice_get-there xs i x found in omega (arith, rest)
-
--- ---- places
-
--- one task more, with its place
-pub place_added : (host : Host Content Request) (world : World Content) (tasks : List Task) (index : ℕ) (places after : List ℕ) (task : Task) (place : ℕ)
-    → ArePlacesFor host world tasks index places → task ≡ get_or tasks index task → index < length tasks → IsPlaceFor host world task.request place
-    → after ≡ places ++ place ∷ [] → ArePlacesFor host world tasks (index + 1) after
-place_added host world tasks index places after task place so_far is there one pushed =
-    subst (ArePlacesFor host world tasks (index + 1)) (sym pushed) (record {
-      as_many = length_push places place ∙ ap (λ (n : ℕ). n + 1) so_far.as_many;
-      each = λ i other below found. go i other found (cases_lt i index) below;
-    })
+-- a request's key is in range, where those of the tasks are
+asked_below : (limit i : ℕ) (tasks : List Task) → AllByRecursion (λ (t : Task). t.request.key < limit) tasks
+    → AllByRecursion (λ (request : Request). request.key < limit) (asked_of i tasks)
+asked_below limit i [] all = tt
+asked_below limit i (task ∷ tasks) all = go (task.worker == i) (asked_below limit i tasks all.1)
   where
-    go : (i : ℕ) (other : Task) → slice_get tasks i ≡ Some other → (i < index) ⊎ (index ≤ i) → i < index + 1
-        → IsPlaceFor host world other.request (get_or (places ++ place ∷ []) i 0)
-    go i other found (inl before) below =
-        subst (IsPlaceFor host world other.request)
-        (sym (get_or_append_left places (place ∷ []) 0 i (let many = so_far.as_many in omega (arith, before, many))))
-        (so_far.each i other before found)
-    go i other found (inr last) below =
-        let here : i ≡ index = omega (arith, last, below) in
-        let same : other ≡ task = sym (get_or_from_slice_get tasks i other task found) ∙ ap (λ (n : ℕ). get_or tasks n task) here ∙ sym is in
-        let at : get_or (places ++ place ∷ []) i 0 ≡ place = get_or_push places place 0 i (so_far.as_many ∙ sym here) in
-        subst (λ (t : Task). IsPlaceFor host world t.request (get_or (places ++ place ∷ []) i 0)) (sym same)
-        (subst (IsPlaceFor host world task.request) (sym at) one)
+    go : (b : Bool) → AllByRecursion (λ (request : Request). request.key < limit) (asked_of i tasks)
+        → AllByRecursion (λ (request : Request). request.key < limit) (if b then task.request ∷ asked_of i tasks else asked_of i tasks)
+    go true rest = (all.0, rest)
+    go false rest = rest
 
--- where all is in place it is so of each key
-pub are_places : (terms : Terms) (tasks : List Task) (places : List ℕ) → length places ≡ length tasks
-    → ((i : ℕ) (task : Task) → slice_get tasks i ≡ Some task → IsPlaceOf terms (get_or places i 0) task.request.key) → ArePlaces terms tasks places
-are_places terms [] [] many each = tt
-are_places terms [] (place ∷ places) many each = absurd (omega (arith, many))
-are_places terms (task ∷ tasks) [] many each = absurd (omega (arith, many))
-are_places terms (task ∷ tasks) (place ∷ places) many each =
-    (each 0 task refl, are_places terms tasks places (omega (arith, many)) (λ i other found. each (suc i) other found))
-
--- a task's key is in range
-key_in : (limit : ℕ) (tasks : List Task) (i : ℕ) (task : Task) → AllByRecursion (λ (t : Task). t.request.key < limit) tasks → slice_get tasks i ≡ Some task
-    → task.request.key < limit
-key_in limit [] i task all found = absurd (none-some task found)
-key_in limit (first ∷ tasks) zero task all found = subst (λ (t : Task). t.request.key < limit) (same_Some first task found) all.0
-key_in limit (first ∷ tasks) (suc i) task all found = key_in limit tasks i task all.1 found
+turn_below : (limit : ℕ) (turns : List Turn) (k : ℕ) (d : Turn) → AllByRecursion (λ (request : Request). request.key < limit) (asked_in turns)
+    → k < length turns → (get_or turns k d).request.now.key < limit
+turn_below limit [] k d all there = absurd (omega (arith, there))
+turn_below limit (turn ∷ turns) zero d all there = all.0
+turn_below limit (turn ∷ turns) (suc k) d all there = turn_below limit turns k d all.1 (omega (arith, there))
 
 keys_in : (header : Header) (script : List (List Task)) (phase : ℕ) → AreInRange header script
     → AllByRecursion (λ (t : Task). t.request.key < 2 ^ key_bits (wide_of header)) (get_or script phase [])
@@ -97,29 +68,41 @@ keys_in header [] phase all = tt
 keys_in header (tasks ∷ script) zero all = all.0
 keys_in header (tasks ∷ script) (suc phase) all = keys_in header script phase all.1
 
--- a task's value is short, and so are those of a phase
-pub short_at : (longest : ℕ) (tasks : List Task) (i : ℕ) (task : Task) → AllByRecursion (λ (t : Task). IsBlob longest t.request.value) tasks → i < length tasks → task ≡ get_or tasks i task
-    → IsBlob longest task.request.value
-short_at longest [] i task all there is = absurd (omega (arith, there))
-short_at longest (first ∷ tasks) zero task all there is = subst (λ (t : Task). IsBlob longest t.request.value) (sym is) all.0
-short_at longest (first ∷ tasks) (suc i) task all there is = short_at longest tasks i task all.1 (omega (arith, there)) is
-
+-- the values of a phase are short
 pub values_in : (header : Header) (script : List (List Task)) (phase : ℕ) → HaveShortValues header script
     → AllByRecursion (λ (t : Task). IsBlob (longest_of header) t.request.value) (get_or script phase [])
 values_in header [] phase all = tt
 values_in header (tasks ∷ script) zero all = all.0
 values_in header (tasks ∷ script) (suc phase) all = values_in header script phase all.1
 
--- The places of the phase's tasks are those of their keys.
-pub phase_places : (host : Host Content Request) (world : World Content) (script : List (List Task)) (terms : Terms) (places : List ℕ) → AreInRange host.header script
-    → ArePlacesFor host world (get_or script world.phase []) (length (get_or script world.phase [])) places
+-- the workers of a phase's tasks are among so many, where those of its turns are
+pub workers_in : (functions : DigestFunctions) (settings : Settings) (script : List (List Task)) (phase count : ℕ)
+    → AllByRecursion (λ turn. turn.0 < count) (turns_of (shipped_host functions settings script) phase)
+    → AllByRecursion (λ (t : Task). t.worker < count) (get_or script phase [])
+workers_in functions settings script phase count all =
+    go (get_or script phase [])
+    (subst (AllByRecursion (λ (turn : ℕ × Request). turn.0 < count)) (get_or-mapped (λ (some : List Task). map turn_of some) script phase []) all)
+  where
+    go : (tasks : List Task) → AllByRecursion (λ (turn : ℕ × Request). turn.0 < count) (map turn_of tasks) → AllByRecursion (λ (t : Task). t.worker < count) tasks
+    go [] below = tt
+    go (task ∷ tasks) below = (below.0, go tasks below.1)
+
+-- The places of the turns are those of their keys.
+pub have_turns : (host : Host Content Request) (world : World Content) (script : List (List Task)) (terms : Terms) (turns : List (List Turn))
+    → AreInRange host.header script → length turns ≡ terms.workers → AreAsked host world (get_or script world.phase []) turns
     → ((place : ℕ) (request : Request) → request.key < 2 ^ key_bits (wide_of host.header) → IsPlaceFor host world request place → IsPlaceOf terms place request.key)
-    → ArePlaces terms (get_or script world.phase []) places
-phase_places host world script terms places keys are owned =
-    let tasks = get_or script world.phase [] in
-    are_places terms tasks places are.as_many
-    (λ i task found. owned (get_or places i 0) task.request (key_in (2 ^ key_bits (wide_of host.header)) tasks i task (keys_in host.header script world.phase keys) found)
-    (are.each i task (slice_get-there tasks i task found) found))
+    → HaveTurns terms turns
+have_turns host world script terms turns keys many are owned = record {
+  many = many;
+  places = λ i d there.
+      let own = get_or turns i d in
+      let asked = are i d there in
+      let small = asked_below (2 ^ key_bits (wide_of host.header)) i (get_or script world.phase []) (keys_in host.header script world.phase keys) in
+      λ k turn within. owned (get_or own k turn).place (get_or own k turn).request.now
+      (turn_below (2 ^ key_bits (wide_of host.header)) own k turn
+      (subst (AllByRecursion (λ (request : Request). request.key < 2 ^ key_bits (wide_of host.header))) (sym asked.requests) small) within)
+      (asked.places k turn within);
+}
 
 -- ---- a world that lends
 
@@ -148,55 +131,80 @@ module _ (world : World Content) where
       ∙ ap (λ (shards : List (Seats Content)). record world { shards = shards; workers = workers })
       (filled_again world.shards (replicate (length (all_contents world.shards)) vacant) after vacant_count)
 
+-- ---- the workers
+
+-- the machine's worker of a number, where the code has one
+shown_at : (workers : List code.Worker) (shown : List Worker) → map shown_worker workers ≡ shown → (i : ℕ) (d : code.Worker) (e : Worker) → i < length workers
+    → get_or shown i e ≡ shown_worker (get_or workers i d)
+shown_at workers shown same i d e there = ap (λ (ws : List Worker). get_or ws i e) (sym same) ∙ get_or-map shown_worker workers i d e there
+
+shown_count : (workers : List code.Worker) (shown : List Worker) → map shown_worker workers ≡ shown → length workers ≡ length shown
+shown_count workers shown same = sym (length-map workers shown_worker) ∙ ap (λ (ws : List Worker). length ws) same
+
+-- what each of the machine's workers has, each of the code's shows
+shown_all : (P : Worker → Type 0) (workers : List code.Worker) (shown : List Worker) (fallback : Worker) → map shown_worker workers ≡ shown
+    → ((i : ℕ) → i < length shown → P (get_or shown i fallback)) → All (λ (w : code.Worker). P (shown_worker w)) workers
+shown_all P workers shown fallback same each i d there =
+    subst P (shown_at workers shown same i d fallback there) (each i (let many = shown_count workers shown same in omega (arith, there, many)))
+
+-- a worker of a list that isn't empty
+some_of : (workers : List code.Worker) (i : ℕ) → i < length workers → code.Worker
+some_of [] i there = absurd (omega (arith, there))
+some_of (worker ∷ workers) i there = worker
+
 -- ---- ready to serve
 
 -- The workers are to serve, where their clocks are of the table.
-pub to_serve : (host : Host Content Request) (world : World Content) (terms : Terms) (table : TableId) (workers : List Worker) (hands : List Hand) (number : ℕ)
-    → workers ≡ world.workers → terms.workers ≡ number → length world.workers ≡ number → AreAll table number hands → All IsNew hands → NoneStopped host world
+pub to_serve : (host : Host Content Request) (world : World Content) (terms : Terms) (table : TableId) (workers : List code.Worker) (hands : List Hand) (number : ℕ)
+    → map shown_worker workers ≡ world.workers → terms.workers ≡ number → length world.workers ≡ number → AreAll table number hands → All IsNew hands → NoneStopped host world
     → ((i : ℕ) → i < length world.workers → IsClockOf terms (worker_at host world i).clock) → AreToServe terms table workers hands
 to_serve host world terms table workers hands number same told count all new running clocks = record {
   all = subst (λ (n : ℕ). AreAll table n hands) (sym told) all;
-  count = ap (λ (ws : List Worker). length ws) same ∙ count ∙ sym told;
+  count = shown_count workers world.workers same ∙ count ∙ sym told;
   new = new;
-  running = subst (All (λ (w : Worker). w.stopped ≡ false)) (sym same)
-      (All-from_get_or (λ w. w.stopped ≡ false) world.workers (fresh host.header) running);
-  clocks = subst (All (λ (w : Worker). IsClockOf terms w.clock)) (sym same)
-      (All-from_get_or (λ w. IsClockOf terms w.clock) world.workers (fresh host.header) clocks);
+  running = shown_all (λ w. w.stopped ≡ false) workers world.workers (fresh host.header) same running;
+  clocks = shown_all (λ w. IsClockOf terms w.clock) workers world.workers (fresh host.header) same clocks;
 }
 
 -- ---- served
 
 -- What was served at the table is a phase served at once.
 pub served_at_once : (functions : DigestFunctions) (settings : Settings) (script : List (List Task)) (world later : World Content) (terms : Terms) (table : TableId)
-    (after : List code.Content) (workers new : List Worker) (hands : List Hand) (tasks : List Task)
+    (after : List content.Content) (workers new : List code.Worker) (hands : List Hand) (turns : List (List Turn))
     → IsServedUpTo (shipped_host functions settings script) world 0 → NoneStopped (shipped_host functions settings script) world
     → AreTermsOf (shipped_host functions settings script) settings.absent world terms → IsPhase terms after (map told_by hands)
-    → workers ≡ world.workers → tasks ≡ get_or script world.phase [] → HaveServed terms table tasks workers new hands
-    → later ≡ record world { shards = filled world.shards (map shown_content after); workers = new }
+    → map shown_worker workers ≡ world.workers → length turns ≡ length workers
+    → AreAsked (shipped_host functions settings script) world (get_or script world.phase []) turns → HaveServed terms table turns workers new hands
+    → later ≡ record world { shards = filled world.shards (map shown_content after); workers = map shown_worker new }
     → IsServedAtOnce (shipped_host functions settings script) settings.absent (get_or script world.phase []) world later terms after (map told_by hands)
-served_at_once functions settings script world later terms table after workers new hands tasks begins running made closed same asked served is =
+served_at_once functions settings script world later terms table after workers new hands turns begins running made closed same many are served is =
     let host = shipped_host functions settings script in
-    let new_are : later.workers ≡ new = ap (λ (w : World Content). w.workers) is in
+    let new_are : map shown_worker new ≡ later.workers = sym (ap (λ (w : World Content). w.workers) is) in
+    let count = shown_count workers world.workers same in
     record {
       begins = begins;
       running = running;
       made = made;
       closed = closed;
-      count = ap (λ (ws : List Worker). length ws) new_are ∙ served.count ∙ ap (λ (ws : List Worker). length ws) same;
+      count = sym (shown_count new later.workers new_are) ∙ served.count ∙ count;
       parts = λ i there.
-          subst (λ (ts : List Task). HasDone (asked_of i ts) (row_at (map told_by hands) i) (worker_at host world i) (worker_at host later i)) asked
-          (subst (λ (ws : List Worker). HasDone (asked_of i tasks) (row_at (map told_by hands) i) (get_or ws i (fresh settings.header)) (worker_at host later i)) same
-          (subst (λ (ws : List Worker). HasDone (asked_of i tasks) (row_at (map told_by hands) i) (get_or workers i (fresh settings.header)) (get_or ws i (fresh settings.header)))
-          (sym new_are)
-          (served.parts i (fresh settings.header) (subst (λ (ws : List Worker). i < length ws) (sym same) there))));
-      is = is ∙ ap (λ (ws : List Worker). record world { shards = filled world.shards (map shown_content after); workers = ws }) (sym new_are);
+          let within : i < length workers = omega (arith, there, count) in
+          let some = some_of workers i within in
+          let tasks = get_or script world.phase [] in
+          subst (λ (w : Worker). HasDone (asked_of i tasks) (row_at (map told_by hands) i) (worker_at host world i) w)
+          (sym (shown_at new later.workers new_are i some (fresh settings.header) (omega (arith, within, served.count))))
+          (subst (λ (w : Worker). HasDone (asked_of i tasks) (row_at (map told_by hands) i) w (shown_worker (get_or new i some)))
+          (sym (shown_at workers world.workers same i some (fresh settings.header) within))
+          (subst (λ (asks : List Request). HasDone asks (row_at (map told_by hands) i) (shown_worker (get_or workers i some)) (shown_worker (get_or new i some)))
+          (are i [] (omega (arith, within, many))).requests (served.parts i some within)));
+      is = is ∙ ap (λ (ws : List Worker). record world { shards = filled world.shards (map shown_content after); workers = ws }) new_are;
     }
 
 -- ---- what goes on
 
 -- A way from world to world leaves a world behind its setup, with the logs that were handed out.
 pub goes_on : {D : Type 0} (functions : D → DigestFunctions) (old new : world.World D) (end : Option ClockEnd) → AreOfOneHost old new
-    → length new.workers.items ≡ length old.workers.items
+    → length (shown_world new).workers ≡ length (shown_world old).workers
     → Leads (host_of (functions (digests_of old)) old) (shown_world old) (shown_world new) end
     → (logs : List (List Command)) → StandsWith (functions (digests_of old)) old logs → StandsWith (functions (digests_of new)) new logs
 goes_on {D} functions old new end same count way logs stands = record {

@@ -1,6 +1,6 @@
 -- What the clauses on workers in threads cite, in reading order.
 pub mod Parts
-pub mod WorkerState
+pub mod Serving
 pub mod Pairs
 pub mod Participants
 pub mod Phase

@@ -1,21 +1,21 @@
 -- The workers, hands and runs of pairs, and what all workers did at a table.
-use Rattle.std.specs.Prelude.{◌≡◌, ℕ, ◌<◌, ◌≤◌, false, List, length, map, get_or, All}
+use Rattle.std.specs.Prelude.{◌≡◌, ℕ, ◌<◌, ◌≤◌, false, List, [], length, map, get_or, All}
 use Rattle.record_hash.specs.Functions.{DigestFunctions}
-use Rattle.lamport_clocks.specs.declared.header.Header.{Header}
-use Rattle.slot_rewriting.specs.Writing.{written_log}
+use Rattle.worker_log.specs.Logged.{text_of}
 use Rattle.atomic_table.specs.Seated.{TableId}
-use Rattle.script_text.specs.declared.task.Task.{Task}
 use Rattle.verifier_run.specs.Progress.{weight}
 use Rattle.certified_epochs.specs.declared.fed_run.FedRun.{FedRun}
-use Rattle.host_core.specs.World.{Worker}
 use Rattle.host_rounds.specs.Feeding.{Reads}
 use Rattle.host_table.specs.declared.hand.Hand.{Hand}
 use Rattle.host_table.specs.Calls.{AreAll, IsNew, told_by}
 use Rattle.host_table.specs.Phase.{row_at}
 use Rattle.host_table.specs.Terms.{Terms, IsClockOf}
+use Rattle.host_world.specs.declared.worker.Worker.{Worker}
+use Rattle.host_world.specs.Workers.{shown_worker, writer_in}
 use Rattle.verifier_feeds.specs.Feeds.{is_wanting}
+use Rattle.worker_threads.specs.declared.turns.Turn.{Turn}
 use Rattle.worker_threads.specs.declared.worker_pair.WorkerPair.{WorkerPair}
-use Rattle.worker_threads.specs.Parts.{asked_of, HasDone}
+use Rattle.worker_threads.specs.Parts.{asked_in, HasDone}
 
 abbrev pub worker_in : WorkerPair → Worker
 worker_in pair = pair.thread.worker
@@ -41,16 +41,17 @@ pub record AreToWatch (workers : List Worker) (bytes : ℕ) (runs : List FedRun)
   pub count : length runs ≡ length workers
   pub few : All (λ fed. weight fed.run ≤ bytes) runs
 
--- The same behind it: each worker has done its part of the tasks.
-pub record HaveServed (terms : Terms) (table : TableId) (tasks : List Task) (old new : List Worker) (hands : List Hand) : Type 0 where
+-- The same behind it: each worker has done what its turns asked of it, and its log has the writer that it had.
+pub record HaveServed (terms : Terms) (table : TableId) (turns : List (List Turn)) (old new : List Worker) (hands : List Hand) : Type 0 where
   pub all : AreAll table terms.workers hands
   pub count : length new ≡ length old
+  pub writers : map writer_in new ≡ map writer_in old
   pub parts : (i : ℕ) (d : Worker) → i < length old
-      → HasDone (asked_of i tasks) (row_at (map told_by hands) i) (get_or old i d) (get_or new i d)
+      → HasDone (asked_in (get_or turns i [])) (row_at (map told_by hands) i) (shown_worker (get_or old i d)) (shown_worker (get_or new i d))
 
 -- Each verifier's run took just what is in its worker's log.
-pub record HaveReadLogs (functions : DigestFunctions) (header : Header) (workers : List Worker) (old new : List FedRun) : Type 0 where
+pub record HaveReadLogs (functions : DigestFunctions) (workers : List Worker) (old new : List FedRun) : Type 0 where
   pub olds : length old ≡ length workers
   pub news : length new ≡ length workers
   pub each : (i : ℕ) (d : Worker) (run : FedRun) → i < length workers
-      → Reads functions (written_log header i (get_or workers i d).log) (get_or old i run) (get_or new i run)
+      → Reads functions (text_of (get_or workers i d).log) (get_or old i run) (get_or new i run)

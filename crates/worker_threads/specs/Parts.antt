@@ -1,11 +1,11 @@
 -- A worker's part of a phase at a table: what it is asked, where that is served, and what it did of it.
-use Rattle.std.specs.Prelude.{◌≡◌, ℕ, ◌+◌, ◌==◌, false, is_some, List, [], ◌∷◌, ◌++◌, length, Option, Some, None, if◌then◌else◌}
+use Rattle.std.specs.Prelude.{◌≡◌, ℕ, ◌+◌, ◌<◌, ◌==◌, false, true, is_some, All, List, [], ◌∷◌, ◌++◌, length, map, get_or, Option, Some, None, if◌then◌else◌}
 use Rattle.std.specs.List.{flat_map}
 use Rattle.std.specs.Option.{ForSome}
 use Rattle.lamport_clocks.specs.Reading.{Reading}
 use Rattle.record_text.specs.declared.request.Request.{Request}
 use Rattle.log_codec.specs.declared.command.Command.{Command}
-use Rattle.slot_rewriting.specs.Writing.{text_from}
+use Rattle.worker_log.specs.Logged.{text_of}
 use Rattle.atomic_table.specs.Seated.{TableId}
 use Rattle.script_text.specs.declared.task.Task.{Task}
 use Rattle.host_core.specs.World.{Worker}
@@ -15,8 +15,10 @@ use Rattle.host_table.specs.declared.views.Row.{Row}
 use Rattle.host_table.specs.Calls.{IsNew, told_by}
 use Rattle.host_table.specs.Hands.{worker_of, IsFree}
 use Rattle.host_table.specs.Terms.{Terms, IsClockOf, IsPlaceOf}
+use Rattle.host_world.specs.Workers.{shown_worker, writer_in}
 use Rattle.table_order.specs.Phases.{first_clock}
-use Rattle.verifier_feeds.specs.Feeds.{SameOutbox, put_in, writer_of}
+use Rattle.verifier_feeds.specs.Feeds.{sent_bytes, HasSentFrontOf, KeepsPlace, SameOutbox}
+use Rattle.worker_threads.specs.declared.turns.Turn.{Turn}
 use Rattle.worker_threads.specs.declared.worker_thread.WorkerThread.{WorkerThread}
 
 -- ---- what is asked
@@ -26,12 +28,18 @@ abbrev pub asked_of : ℕ → List Task → List Request
 asked_of i [] = []
 asked_of i (task ∷ tasks) = if task.worker == i then task.request ∷ asked_of i tasks else asked_of i tasks
 
--- the place of each task's key at a table
-abbrev pub ArePlaces : Terms → List Task → List ℕ → Type 0
-ArePlaces terms [] [] = Unit {0}
-ArePlaces terms (task ∷ tasks) (place ∷ places) = IsPlaceOf terms place task.request.key × ArePlaces terms tasks places
-ArePlaces terms [] (place ∷ places) = ⊥
-ArePlaces terms (task ∷ tasks) [] = ⊥
+-- what a worker's turns ask of it, in order
+abbrev pub asked_in : List Turn → List Request
+asked_in turns = map (λ turn. turn.request.now) turns
+
+-- each turn has its key's place at a table
+abbrev pub HavePlaces : Terms → List Turn → Type 0
+HavePlaces terms turns = All (λ turn. IsPlaceOf terms turn.place turn.request.now.key) turns
+
+-- The turns of each worker at a table, each at its key's place.
+pub record HaveTurns (terms : Terms) (turns : List (List Turn)) : Type 0 where
+  pub many : length turns ≡ terms.workers
+  pub places : All (HavePlaces terms) turns
 
 -- ---- what is done
 
@@ -64,22 +72,26 @@ pub record HasDone (asked : List Request) (row : Row) (old new : Worker) : Type 
 
 -- ---- a worker in its thread
 
--- A worker before the phase: it runs, its clock stands in the phase, its hand has done nothing, and its outbox is empty.
+-- A worker before the phase: it runs, its clock stands in the phase, its hand has done nothing, and it has sent nothing yet.
 pub record IsReady (terms : Terms) (table : TableId) (thread : WorkerThread) : Type 0 where
   pub free : IsFree table thread.hand
   pub new : IsNew thread.hand
   pub running : thread.worker.stopped ≡ false
   pub clock : IsClockOf terms thread.worker.clock
-  pub empty : put_in thread.outbox ≡ []
-  pub served : thread.wanting ≡ false
+  pub empty : sent_bytes thread.outbox ≡ []
+  pub place : KeepsPlace thread.outbox
+  pub number : worker_of thread.hand < terms.workers
 
--- A worker behind it: where memory was not wanting it has done its part.
-pub record IsThrough (table : TableId) (tasks : List Task) (old new : WorkerThread) : Type 0 where
+-- A worker behind it: its log has the writer that it had, and where memory was not wanting it has done its part.
+pub record IsThrough (table : TableId) (turns : List (List Turn)) (old new : WorkerThread) : Type 0 where
   pub free : IsFree table new.hand
   pub number : worker_of new.hand ≡ worker_of old.hand
-  pub part : new.wanting ≡ false → HasDone (asked_of (worker_of old.hand) tasks) (told_by new.hand) old.worker new.worker
+  pub writer : writer_in new.worker ≡ writer_in old.worker
+  pub part : new.wanting ≡ false
+      → HasDone (asked_in (get_or turns (worker_of old.hand) [])) (told_by new.hand) (shown_worker old.worker) (shown_worker new.worker)
 
--- Where memory was not wanting its outbox has just what is in its log, written by the writer that it had before.
-pub record HasPutAll (old new : WorkerThread) : Type 0 where
-  pub put : new.wanting ≡ false → put_in new.outbox ≡ text_from (writer_of old.outbox) new.worker.log
+-- What its outbox has sent is a front of its log. Where memory was not wanting all of the log is written.
+pub record HasSent (old new : WorkerThread) : Type 0 where
+  pub front : HasSentFrontOf new.outbox (text_of new.worker.log)
+  pub settled : new.wanting ≡ false → new.worker.log.settled ≡ true
   pub lane : SameOutbox old.outbox new.outbox

@@ -1,5 +1,5 @@
 -- A phase that all workers served at once: where its requests were served, what the table tells of it, and where clocks ended.
-use Rattle.std.specs.Prelude.{◌≡◌, ℕ, suc, ◌<◌, Bool, true, List, [], ◌∷◌, length, map, get_or, slice_get, Option, Some, None, if◌then◌else◌}
+use Rattle.std.specs.Prelude.{◌≡◌, ℕ, suc, ◌<◌, Bool, true, All, List, [], ◌∷◌, length, map, get_or, Option, Some, None, if◌then◌else◌}
 use Rattle.record_text.specs.declared.request.Request.{Request}
 use Rattle.script_text.specs.declared.task.Task.{Task}
 use Rattle.host_core.specs.Host.{Host}
@@ -16,7 +16,8 @@ use Rattle.host_world.specs.Lending.{filled}
 use Rattle.host_world.specs.Places.{place_of}
 use Rattle.host_serving.specs.Standing.{IsServedUpTo, NoneStopped}
 use Rattle.table_order.specs.Phases.{AreTermsOf}
-use Rattle.worker_threads.specs.Parts.{asked_of, HasDone}
+use Rattle.worker_threads.specs.declared.turns.Turn.{Turn}
+use Rattle.worker_threads.specs.Parts.{asked_in, asked_of, HasDone}
 
 -- ---- places
 
@@ -25,10 +26,14 @@ pub record IsPlaceFor (host : Host Content Request) (world : World Content) (req
   pub there : IsPlace world (place_of place)
   pub owns : host.owns (place_of place).shard (shard_at world (place_of place).shard).contents (place_of place).seat request ≡ true
 
--- the places are those of the first so many tasks' requests, in order
-pub record ArePlacesFor (host : Host Content Request) (world : World Content) (tasks : List Task) (count : ℕ) (places : List ℕ) : Type 0 where
-  pub as_many : length places ≡ count
-  pub each : (i : ℕ) (task : Task) → i < count → slice_get tasks i ≡ Some task → IsPlaceFor host world task.request (get_or places i 0)
+-- What a worker's turns ask is what it is asked, and each turn's place owns its request.
+pub record IsAsked (host : Host Content Request) (world : World Content) (asked : List Request) (turns : List Turn) : Type 0 where
+  pub requests : asked_in turns ≡ asked
+  pub places : All (λ turn. IsPlaceFor host world turn.request.now turn.place) turns
+
+-- So it is for each worker, with what the tasks ask of it.
+abbrev pub AreAsked : Host Content Request → World Content → List Task → List (List Turn) → Type 0
+AreAsked host world tasks turns = (i : ℕ) (d : List Turn) → i < length turns → IsAsked host world (asked_of i tasks) (get_or turns i d)
 
 -- ---- ends
 

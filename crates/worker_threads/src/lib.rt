@@ -11,10 +11,11 @@ mod pairing;
 mod phases;
 mod serving;
 mod shared_phase;
+mod turns;
 mod worker_pair;
-mod worker_state;
 mod worker_thread;
 
 pub use phases::serve_phase_at_once;
+pub use turns::Turn;
 pub use worker_pair::WorkerPair;
 pub use worker_thread::WorkerThread;

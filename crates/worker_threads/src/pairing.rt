@@ -1,11 +1,10 @@
 //! The workers of a phase, each paired with its verifier before the threads begin, and parted once all have ended.
 ghost use Rattle.std.specs.Prelude.{◌≡◌, ◌≤◌, false, All, IfOk, OnOk, length, map};
-ghost use Rattle.lamport_clocks.specs.Header.{IsHeader};
 ghost use Rattle.verifier_run.specs.Progress.{weight};
 ghost use Rattle.host_table.specs.Table.{table, terms};
 ghost use Rattle.worker_threads.specs.Participants.{AreToServe, AreToWatch, HaveAll, HaveServed, HaveReadLogs, hand_in, worker_in};
 ghost use Rattle.worker_threads.specs.Pairs.{IsOpened, parcels_in, run_in};
-ghost use Rattle.worker_threads.specs.WorkerState.{IsSharedPhase};
+ghost use Rattle.worker_threads.specs.Serving.{turns_in, IsSharedPhase};
 
 use crate::serving::serve_all;
 use crate::shared_phase::SharedPhase;
@@ -16,9 +15,7 @@ use certified_epochs::FedRun;
 use fv_outside::Gate;
 use host_table::Hand;
 use host_world::Worker;
-use lamport_clocks::Header;
 use record_hash::Digests;
-use slot_rewriting::CommandWriter;
 use std::alloc::Global;
 use std::sync::Wait;
 use std::thread::Threads;
@@ -35,10 +32,9 @@ pub(crate) struct Participants {
 }
 
 // A worker with its hand, and beside it the feed of its verifier's run, which was fed so many bytes at most. The
-// verifier took so many parcels so far, and a new writer writes the worker's log.
+// verifier took so many parcels so far.
 fn pair_of(
     alloc: Global,
-    header: &Header,
     worker: Worker,
     hand: Hand,
     run: FedRun,
@@ -46,15 +42,13 @@ fn pair_of(
     parcels: u64,
 ) -> Result<WorkerPair, Memory>
     requires few { weight run.run ≤ bytes }
-    requires header { IsHeader header.now }
     ensures worker { IfOk result (λ pair. worker_in pair ≡ worker) }
     ensures hand { IfOk result (λ pair. hand_in pair ≡ hand) }
     ensures run { IfOk result (λ pair. run_in pair ≡ run) }
     ensures parcels { IfOk result (λ pair. parcels_in pair ≡ parcels) }
-    ensures opened { IfOk result (λ pair. IsOpened header.now pair) }
+    ensures opened { IfOk result IsOpened }
 {
-    let writer = CommandWriter::new(alloc, hand.worker(), header)?;
-    let (outbox, inbox) = open(alloc, run, bytes, parcels, writer)?;
+    let (outbox, inbox) = open(alloc, run, bytes, parcels)?;
     let thread = WorkerThread {
         worker,
         hand,
@@ -65,13 +59,7 @@ fn pair_of(
 }
 
 // The pairs of all workers, in their order.
-fn pair_up(
-    alloc: Global,
-    header: &Header,
-    participants: Participants,
-    bytes: u64,
-) -> Result<Vec<WorkerPair>, Memory>
-    requires header { IsHeader header.now }
+fn pair_up(alloc: Global, participants: Participants, bytes: u64) -> Result<Vec<WorkerPair>, Memory>
     requires hands { length participants.hands.items ≡ length participants.workers.items }
     requires runs { length participants.runs.items ≡ length participants.workers.items }
     requires parcels { length participants.parcels.items ≡ length participants.workers.items }
@@ -80,7 +68,7 @@ fn pair_up(
     ensures hands { IfOk result (λ pairs. map hand_in pairs.items ≡ participants.hands.items) }
     ensures runs { IfOk result (λ pairs. map run_in pairs.items ≡ participants.runs.items) }
     ensures parcels { IfOk result (λ pairs. map parcels_in pairs.items ≡ participants.parcels.items) }
-    ensures opened { IfOk result (λ pairs. All (IsOpened header.now) pairs.items) }
+    ensures opened { IfOk result (λ pairs. All IsOpened pairs.items) }
 {
     let Participants {
         workers,
@@ -102,8 +90,7 @@ fn pair_up(
         let Some(count) = parcels.next() else {
             unreachable!()
         };
-        let pair = pair_of(alloc, header, worker, hand, run, bytes, count)?;
-        pairs.push(pair)?;
+        pairs.push(pair_of(alloc, worker, hand, run, bytes, count)?)?;
     }
     Ok(pairs)
 }
@@ -158,11 +145,11 @@ pub(crate) fn serve_at_table<R: Threads + Wait + Sync, D: Digests + Sync, G: Gat
     requires watch { AreToWatch participants.workers.items bytes participants.runs.items }
     requires parcels { length participants.parcels.items ≡ length participants.workers.items }
     ensures served { IfOk result (λ left. HaveServed (terms D.functions shared.now.records.now) (table shared.now.records.now)
-        shared.now.tasks.now participants.workers.items left.workers.items left.hands.items) }
-    ensures taken { IfOk result (λ left. HaveReadLogs (D.functions shared.now.d.now) shared.now.header left.workers.items participants.runs.items left.runs.items) }
+        (turns_in shared.now) participants.workers.items left.workers.items left.hands.items) }
+    ensures taken { IfOk result (λ left. HaveReadLogs (D.functions shared.now.d.now) left.workers.items participants.runs.items left.runs.items) }
     ensures parcels { IfOk result (λ left. length left.parcels.items ≡ length participants.parcels.items) }
 {
-    let mut pairs = pair_up(shared.alloc, &shared.header, participants, bytes)?;
+    let mut pairs = pair_up(shared.alloc, participants, bytes)?;
     serve_all(rt, shared, gate, pairs.as_mut_slice());
     take_apart(shared.alloc, pairs)
 }

@@ -2,24 +2,24 @@
 ghost use Rattle.std.specs.Prelude.{◌≡◌, ◌≤◌, ◌<◌, List, IfOk, IfSome, OnOk, Ok, None, length, map, get_or};
 ghost use Rattle.std.specs.List.{AllByRecursion};
 ghost use Rattle.log_codec.specs.declared.command.Command.{Command};
-ghost use Rattle.record_text.specs.Longest.{longest_of};
-ghost use Rattle.record_text.specs.Value.{IsBlob};
 ghost use Rattle.slot_rewriting.specs.Writing.{written_logs};
 ghost use Rattle.verifier_run.specs.Progress.{weight};
 ghost use Rattle.host_core.specs.World.{logs_of};
 ghost use Rattle.host_rounds.specs.Feeding.{AllRead};
 ghost use Rattle.host_world.specs.Behind.{host_of, StandsBehind, StandsWith, AreOfOneHost};
 ghost use Rattle.host_world.specs.Shown.{shown_world, digests_of, requests_of, settings_of};
+ghost use Rattle.host_world.specs.Workers.{shown_worker};
 ghost use Rattle.host_serving.specs.Leading.{Leads, LeadsAs};
 ghost use Rattle.host_serving.specs.Form.{AreOfPhase};
 ghost use Rattle.host_serving.specs.Standing.{turns_of, IsServedUpTo, IsServedOut, NoneStopped, SomeStopped};
-ghost use Rattle.worker_threads.specs.Phase.{ArePlacesFor, first_stopped};
+ghost use Rattle.worker_threads.specs.Phase.{first_stopped};
 
 use crate::laws::{
     phases_at_once_are_lists_of_events, tables_are_of_their_worlds, tables_can_be_made,
 };
 use crate::pairing::{Participants, serve_at_table};
 use crate::shared_phase::SharedPhase;
+use crate::turns::turns_by_worker;
 use base_words::Memory;
 use certified_epochs::FedRun;
 use fv_outside::Gate;
@@ -27,40 +27,21 @@ use host_table::Records;
 use host_world::{ClockEnd, Worker, World};
 use merkle_records::digests_have_32_bytes;
 use record_hash::Digests;
-use script_text::Task;
 use std::alloc::Global;
 use std::mem;
 use std::sync::Wait;
 use std::thread::Threads;
 
-// The place at which each request is served.
-fn places_for<D: Digests>(
-    alloc: Global,
-    world: &World<'_, D>,
-    tasks: &[Task],
-) -> Result<Vec<u32>, Memory>
-    requires behind { StandsBehind (D.functions (digests_of world.now)) world.now }
-    requires short { AllByRecursion (λ task. IsBlob (longest_of (settings_of world.now).header) task.request.value) tasks.now }
-    ensures places { IfOk result (λ places. ArePlacesFor (host_of (D.functions (digests_of world.now)) world.now)
-        (shown_world world.now) tasks.now (length tasks.now) places.items) }
-{
-    let mut places = Vec::with_capacity(alloc, tasks.len())?;
-    for task in tasks {
-        places.push(world.place_for(&task.request))?;
-    }
-    Ok(places)
-}
-
 // Where the clock of the first stopped worker ended.
 fn first_end_of(workers: &[Worker]) -> Option<ClockEnd>
     requires few { length workers.now ≤ 65536 }
-    ensures first { result ≡ first_stopped 0 workers.now }
+    ensures first { result ≡ first_stopped 0 (map shown_worker workers.now) }
 {
     for (number, worker) in workers.iter().enumerate() {
-        if worker.is_stopped() {
+        if worker.stopped {
             return Some(ClockEnd {
                 worker: number as u16,
-                at: worker.clock().at(),
+                at: worker.clock.at(),
             });
         }
     }
@@ -122,7 +103,7 @@ pub fn serve_phase_at_once<R: Threads + Wait + Sync, D: Digests + Sync, G: Gate 
     let settings = world.settings();
     let header = settings.header;
     let tasks = world.requests().phase(world.phase());
-    let places = places_for(alloc, world, tasks)?;
+    let turns = turns_by_worker(alloc, world, tasks, header.verifiers)?;
     let contents = world.lend()?;
     let workers = world.lend_workers();
     let Ok((records, hands)) = Records::make(
@@ -138,8 +119,7 @@ pub fn serve_phase_at_once<R: Threads + Wait + Sync, D: Digests + Sync, G: Gate 
     let shared = SharedPhase {
         alloc,
         d,
-        tasks,
-        places: places.as_slice(),
+        turns: turns.as_slice(),
         records: &records,
         header,
     };

@@ -4,7 +4,7 @@ ghost use Rattle.host_table.specs.Table.{table, terms};
 ghost use Rattle.worker_threads.specs.declared.worker_pair.WorkerPair.{WorkerPair};
 ghost use Rattle.worker_threads.specs.Parts.{IsThrough};
 ghost use Rattle.worker_threads.specs.Pairs.{IsPairReady, CanMeet, HasFed};
-ghost use Rattle.worker_threads.specs.WorkerState.{IsSharedPhase};
+ghost use Rattle.worker_threads.specs.Serving.{turns_in, IsSharedPhase};
 
 use crate::shared_phase::SharedPhase;
 use crate::worker_pair::WorkerPair;
@@ -25,7 +25,7 @@ pub(crate) fn serve_all<R: Threads + Wait + Sync, D: Digests + Sync, G: Gate + S
     requires ready { All (IsPairReady (terms D.functions shared.now.records.now) (table shared.now.records.now)) pairs.old }
     ensures count { length pairs.new ≡ length pairs.old }
     ensures through { (i : ℕ) (d : WorkerPair) → i < length pairs.old
-        → IsThrough (table shared.now.records.now) shared.now.tasks.now (slice_index_or pairs.old i d).thread (slice_index_or pairs.new i d).thread }
+        → IsThrough (table shared.now.records.now) (turns_in shared.now) (slice_index_or pairs.old i d).thread (slice_index_or pairs.new i d).thread }
     ensures fed { (i : ℕ) (d : WorkerPair) → i < length pairs.old
         → HasFed (D.functions shared.now.d.now) (slice_index_or pairs.old i d) (slice_index_or pairs.new i d) }
 {
@@ -36,7 +36,7 @@ pub(crate) fn serve_all<R: Threads + Wait + Sync, D: Digests + Sync, G: Gate + S
         threads,
         &|_: usize, pair: &mut WorkerPair|
             requires { CanMeet D.functions shared.now pair.now }
-            ensures { IsThrough (table shared.entry.now.records.now) shared.entry.now.tasks.now pair.entry.now.thread pair.exit.now.thread
+            ensures { IsThrough (table shared.entry.now.records.now) (turns_in shared.entry.now) pair.entry.now.thread pair.exit.now.thread
                 × HasFed (D.functions shared.entry.now.d.now) pair.entry.now pair.exit.now }
         { pair.meet(rt, shared, gate) },
     );

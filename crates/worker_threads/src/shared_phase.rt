@@ -1,22 +1,21 @@
 //! What the workers of a phase share.
+use crate::turns::Turn;
 use base_words::Memory;
 use host_plan::Plan;
 use host_table::{Attempt, Hand, Records};
 use lamport_clocks::{Clock, Header};
 use record_hash::Digests;
 use record_text::Request;
-use script_text::Task;
 use std::alloc::Global;
 use std::sync::Wait;
 use std::thread::yield_now;
 
-/// What all workers of a phase share: what it asks of them, the place of each request's key, the table, and the bundle's numbers.
+/// What all workers of a phase share: the digests, the turns of each, the table, and the bundle's numbers.
 #[derive(Drop)]
 pub(crate) struct SharedPhase<'a, D: Digests> {
     pub(crate) alloc: Global,
     pub(crate) d: &'a D,
-    pub(crate) tasks: &'a [Task],
-    pub(crate) places: &'a [u32],
+    pub(crate) turns: &'a [Vec<Turn<'a>>],
     pub(crate) records: &'a Records<D>,
     // What the bundle begins with.
     pub(crate) header: Header,
@@ -32,7 +31,7 @@ impl<D: Digests> SharedPhase<'_, D> {
     ghost use Rattle.host_table.specs.Table.{table, terms};
     ghost use Rattle.host_table.specs.Terms.{IsClockOf, IsPlaceOf};
     ghost use Rattle.host_table.specs.Told.{TakesUp};
-    ghost use Rattle.worker_threads.specs.WorkerState.{IsSharedPhase, ComesTo};
+    ghost use Rattle.worker_threads.specs.Serving.{IsSharedPhase, ComesTo};
 
     /// Tries to serve a request until its place was free: for as long as that takes. It answers the plan by which it is served,
     /// or that the clock ends there.

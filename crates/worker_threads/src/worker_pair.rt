@@ -23,12 +23,13 @@ impl WorkerPair {
     ghost use Rattle.host_rounds.specs.Feeding.{Reads};
     ghost use Rattle.log_rings.specs.Lanes.{received_by};
     ghost use Rattle.verifier_feeds.specs.Feeds.{AreEndsOfOne, HasRoom, HasRead, SameInbox, bytes_of, is_wanting, run_of};
-    ghost use Rattle.worker_threads.specs.Parts.{HasPutAll, IsThrough};
+    ghost use Rattle.worker_threads.specs.Parts.{HasSent, IsThrough};
     ghost use Rattle.worker_threads.specs.Pairs.{IsPairReady, HasFed};
-    ghost use Rattle.worker_threads.specs.WorkerState.{CanServe, IsSharedPhase};
+    ghost use Rattle.worker_threads.specs.Serving.{turns_in, CanServe, IsSharedPhase};
 
     /// The worker does its part of the phase while its verifier is fed with what it logs, each in a thread of its own where one
-    /// can be made. Then the verifier is fed the rest.
+    /// can be made. Then the verifier is fed the rest, where memory was not
+    /// wanting for the worker.
     pub(crate) fn meet<R: Threads + Wait + Sync, D: Digests + Sync, G: Gate + Sync>(
         &mut self,
         rt: &R,
@@ -37,11 +38,16 @@ impl WorkerPair {
     )
         requires shared { IsSharedPhase D.functions shared.now }
         requires ready { IsPairReady (terms D.functions shared.now.records.now) (table shared.now.records.now) self.old }
-        ensures through { IsThrough (table shared.now.records.now) shared.now.tasks.now self.old.thread self.new.thread }
+        ensures through { IsThrough (table shared.now.records.now) (turns_in shared.now) self.old.thread self.new.thread }
         ensures fed { HasFed (D.functions shared.now.d.now) self.old self.new }
     {
         self.work_and_watch(rt, shared, gate);
-        settle(&mut self.thread.outbox, &mut self.inbox, shared.d);
+        if self.thread.wanting {
+            return;
+        }
+        let thread = &mut self.thread;
+        let log = thread.worker.log.bytes();
+        settle(&mut thread.outbox, &mut self.inbox, log, shared.d);
     }
 
     // The worker does its part of the phase while its verifier watches the lane.
@@ -53,8 +59,8 @@ impl WorkerPair {
     )
         requires shared { IsSharedPhase D.functions shared.now }
         requires ready { IsPairReady (terms D.functions shared.now.records.now) (table shared.now.records.now) self.old }
-        ensures through { IsThrough (table shared.now.records.now) shared.now.tasks.now self.old.thread self.new.thread }
-        ensures put { HasPutAll self.old.thread self.new.thread }
+        ensures through { IsThrough (table shared.now.records.now) (turns_in shared.now) self.old.thread self.new.thread }
+        ensures sent { HasSent self.old.thread self.new.thread }
         ensures ends { AreEndsOfOne self.new.thread.outbox self.new.inbox }
         ensures room { HasRoom self.new.inbox }
         ensures taken { is_wanting self.new.inbox ≡ false
@@ -74,8 +80,8 @@ impl WorkerPair {
         { inbox.watch(rt, shared.d, gate, number) };
         let mut work = ||
             requires { CanServe D.functions shared.now thread.now }
-            ensures { IsThrough (table shared.entry.now.records.now) shared.entry.now.tasks.now thread.entry.now thread.exit.now
-                × HasPutAll thread.entry.now thread.exit.now }
+            ensures { IsThrough (table shared.entry.now.records.now) (turns_in shared.entry.now) thread.entry.now thread.exit.now
+                × HasSent thread.entry.now thread.exit.now }
         { thread.serve_own(rt, shared, gate) };
         join_mut(rt, &mut watch, &mut work);
     }

@@ -1,4 +1,4 @@
-use Rattle.std.proofs.Common.{◌≡◌, ◌+◌, ◌-◌, List, ℕ, drop, length, Ok, sym, ◌∙◌, ap, arith}
+use Rattle.std.proofs.Common.{◌≡◌, ◌+◌, ◌-◌, ◌++◌, List, ℕ, drop, length, Ok, sym, ◌∙◌, ap, arith}
 use Rattle.std.specs.Prelude.{slice_range}
 use Rattle.std.proofs.lemmas.List.{drop-drop, length-drop, drop_all, take_all}
 use Rattle.record_text.specs.Format.{format_of}
@@ -19,12 +19,14 @@ loop-at-preserved c =
     record {
       within = omega (arith, c.in-Ok.ensures.within, c.loop-at-test.true, length-drop c.loop-at.at log);
       writes =
-          writes-command format c.loop-at.text.items c.write_command.new.text.items c.loop-at.writer c.write_command.new.writer
+          writes-command format c.loop-at.text.items c.extend_from_slice.new.self.items c.loop-at.writer c.write_command.new.writer
           c.read_command_into.new.place (drop c.loop-at.at log) (drop (c.loop-at.at + c.in-Ok.taken) log) _ c.loop-at.invariant.writes
           (ap (command_at format) (sym whole)
           ∙ c.in-Ok.ensures.read
           ∙ ap (λ (rest : List ℕ). Ok (c.read_command_into.new.place, rest)) (ap (drop c.in-Ok.taken) whole ∙ drop-drop c.in-Ok.taken c.loop-at.at log))
-          c.in_ok-write_command-in-Ok.ensures.written c.in_ok-write_command-in-Ok.ensures.after;
+          (c.in_ok-extend_from_slice-in-Ok.ensures.items
+          ∙ ap (λ (piece : List ℕ). c.loop-at.text.items ++ piece) (c.as_slice.ensures.value ∙ c.write_command.ensures.written))
+          c.write_command.ensures.after;
     }
 
 pub returns : goal.returns

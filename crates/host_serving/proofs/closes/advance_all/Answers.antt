@@ -30,7 +30,7 @@ step-requires-clause-enabled g c =
     let old = c.args.world.now in
     let functions = g.D.Digests.functions in
     let count : c.settings-worker-end.result.header.verifiers ≡ old.settings.header.verifiers = ap (λ (s : Settings). s.header.verifiers) c.settings-worker-end.ensures.value in
-    let there : c.loop-worker.worker < length old.workers.items =
+    let there : c.loop-worker.worker < length (shown_world old).workers =
     omega (arith, c.loop-worker-test.true, count, workers_are (functions (digests_of old)) old c.requires.behind.0 c.requires.behind.1) in
     enabled_now functions old c.loop-worker.world c.loop-worker.invariant.host (advances c.loop-worker.worker)
     (may_advance (host_of (functions (digests_of old)) old) (shown_world old) c.requires.may (shown_world c.loop-worker.world) c.loop-worker.worker c.loop-worker.invariant.advanced there)
@@ -41,7 +41,7 @@ returns-in-Some-clause-leads g c =
     let functions = g.D.Digests.functions in
     let host = host_of (functions (digests_of old)) old in
     let count : c.settings-worker-end.result.header.verifiers ≡ old.settings.header.verifiers = ap (λ (s : Settings). s.header.verifiers) c.settings-worker-end.ensures.value in
-    let there : c.loop-worker.worker < length old.workers.items =
+    let there : c.loop-worker.worker < length (shown_world old).workers =
     omega (arith, c.loop-worker-test.true, count, workers_are (functions (digests_of old)) old c.requires.behind.0 c.requires.behind.1) in
     let may = may_advance host (shown_world old) c.requires.may (shown_world c.loop-worker.world) c.loop-worker.worker c.loop-worker.invariant.advanced there in
     let now = c.loop-worker.world in
@@ -64,7 +64,7 @@ loop-worker-preserved g c =
     let host = host_of (functions (digests_of old)) old in
     let event : WorldEvent Request = advances c.loop-worker.worker in
     let count : c.settings-worker-end.result.header.verifiers ≡ old.settings.header.verifiers = ap (λ (s : Settings). s.header.verifiers) c.settings-worker-end.ensures.value in
-    let there : c.loop-worker.worker < length old.workers.items =
+    let there : c.loop-worker.worker < length (shown_world old).workers =
     omega (arith, c.loop-worker-test.true, count, workers_are (functions (digests_of old)) old c.requires.behind.0 c.requires.behind.1) in
     let have = c.loop-worker.invariant.advanced in
     let may = may_advance host (shown_world old) c.requires.may (shown_world now) c.loop-worker.worker have there in
@@ -90,7 +90,7 @@ returns-clause-ended g c =
     let old = c.args.world.now in
     let functions = g.D.Digests.functions in
     let count : c.settings-worker-end.result.header.verifiers ≡ old.settings.header.verifiers = ap (λ (s : Settings). s.header.verifiers) c.settings-worker-end.ensures.value in
-    let whole : c.loop-worker.worker ≡ length old.workers.items =
+    let whole : c.loop-worker.worker ≡ length (shown_world old).workers =
     omega (arith, c.loop-worker-test.false, c.loop-worker.auto.worker-end, count, workers_are (functions (digests_of old)) old c.requires.behind.0 c.requires.behind.1) in
     subst (HaveAdvanced (host_of (functions (digests_of old)) old) (shown_world old) (shown_world c.loop-worker.world)) whole c.loop-worker.invariant.advanced
 
@@ -99,7 +99,7 @@ returns-clause-leads g c =
     let old = c.args.world.now in
     let functions = g.D.Digests.functions in
     let count : c.settings-worker-end.result.header.verifiers ≡ old.settings.header.verifiers = ap (λ (s : Settings). s.header.verifiers) c.settings-worker-end.ensures.value in
-    let past : length old.workers.items ≤ c.loop-worker.worker =
+    let past : length (shown_world old).workers ≤ c.loop-worker.worker =
     omega (arith, c.loop-worker-test.false, count, workers_are (functions (digests_of old)) old c.requires.behind.0 c.requires.behind.1) in
     advances-all (host_of (functions (digests_of old)) old) (shown_world old) (shown_world c.loop-worker.world) c.loop-worker.worker past c.loop-worker.invariant.left
 

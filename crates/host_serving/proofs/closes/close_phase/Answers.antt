@@ -64,11 +64,11 @@ returns-then-last-clause-closed g c = λ answered last.
     let new = c.advance_all.new.world in
     let functions = g.D.Digests.functions in
     let host = host_of (functions (digests_of old)) old in
-    let some : 0 < length old.workers.items =
+    let some : 0 < length (shown_world old).workers =
     omega (arith, workers_are (functions (digests_of old)) old c.requires.behind.0 c.requires.behind.1, c.requires.behind.1.behind.settings_fit.header.some_verifiers) in
     let closed : ShardsAreClosed host (shown_world old) (shown_world now) = subst (EndsShards host (shown_world old) (shown_world now)) c.in_default.is c.in_ok-end.ensures.ended in
-    let have : HaveAdvanced host (shown_world now) (shown_world new) (length now.workers.items) =
-    subst (λ (h : Host Content Request). HaveAdvanced h (shown_world now) (shown_world new) (length now.workers.items)) (host_same functions old now c.close_shards.ensures.host)
+    let have : HaveAdvanced host (shown_world now) (shown_world new) (length (shown_world now).workers) =
+    subst (λ (h : Host Content Request). HaveAdvanced h (shown_world now) (shown_world new) (length (shown_world now).workers)) (host_same functions old now c.close_shards.ensures.host)
     (subst (λ (r : Result (Option ClockEnd) Memory). IfOk r (EndsAdvance (host_of (functions (digests_of now)) now) (shown_world now) (shown_world new))) answered c.advance_all.ensures.ended) in (
       is_closed host (shown_world old) (shown_world now) closed (shown_world new) some have,
       closed_phase host (shown_world old) (shown_world now) closed (shown_world new) some have,
@@ -82,11 +82,11 @@ returns-then-last-clause-rests g c = λ answered last.
     let new = c.advance_all.new.world in
     let functions = g.D.Digests.functions in
     let host = host_of (functions (digests_of old)) old in
-    let some : 0 < length old.workers.items =
+    let some : 0 < length (shown_world old).workers =
     omega (arith, workers_are (functions (digests_of old)) old c.requires.behind.0 c.requires.behind.1, c.requires.behind.1.behind.settings_fit.header.some_verifiers) in
     let closed : ShardsAreClosed host (shown_world old) (shown_world now) = subst (EndsShards host (shown_world old) (shown_world now)) c.in_default.is c.in_ok-end.ensures.ended in
-    let have : HaveAdvanced host (shown_world now) (shown_world new) (length now.workers.items) =
-    subst (λ (h : Host Content Request). HaveAdvanced h (shown_world now) (shown_world new) (length now.workers.items)) (host_same functions old now c.close_shards.ensures.host)
+    let have : HaveAdvanced host (shown_world now) (shown_world new) (length (shown_world now).workers) =
+    subst (λ (h : Host Content Request). HaveAdvanced h (shown_world now) (shown_world new) (length (shown_world now).workers)) (host_same functions old now c.close_shards.ensures.host)
     (subst (λ (r : Result (Option ClockEnd) Memory). IfOk r (EndsAdvance (host_of (functions (digests_of now)) now) (shown_world now) (shown_world new))) answered c.advance_all.ensures.ended) in
     closed_rests host (shown_world old) (shown_world now) closed (shown_world new) some have
 

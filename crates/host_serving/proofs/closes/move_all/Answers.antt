@@ -35,7 +35,7 @@ move_own-requires-clause-may g c =
     let functions = g.D.Digests.functions in
     let host = host_of (functions (digests_of old)) old in
     let count : c.settings-mover-end.result.header.verifiers ≡ old.settings.header.verifiers = ap (λ (s : Settings). s.header.verifiers) c.settings-mover-end.ensures.value in
-    let there : c.loop-mover.mover < length old.workers.items =
+    let there : c.loop-mover.mover < length (shown_world old).workers =
     omega (arith, c.loop-mover-test.true, count, workers_are (functions (digests_of old)) old c.requires.behind.0 c.requires.behind.1) in
     subst (λ (h : Host Content Request). CanMoveOwn h (shown_world now) c.loop-mover.mover) (sym (host_same functions old now c.loop-mover.invariant.host))
     (may_begin host (shown_world old) c.requires.may (shown_world now) c.loop-mover.first c.loop-mover.mover c.loop-mover.invariant.below there)
@@ -50,7 +50,7 @@ loop-mover-preserved g c =
     let host = host_of (functions (digests_of old)) old in
     let same = host_same functions old now c.loop-mover.invariant.host in
     let count : c.settings-mover-end.result.header.verifiers ≡ old.settings.header.verifiers = ap (λ (s : Settings). s.header.verifiers) c.settings-mover-end.ensures.value in
-    let there : c.loop-mover.mover < length old.workers.items =
+    let there : c.loop-mover.mover < length (shown_world old).workers =
     omega (arith, c.loop-mover-test.true, count, workers_are (functions (digests_of old)) old c.requires.behind.0 c.requires.behind.1) in
     let next : suc c.loop-mover.mover ≡ c.loop-mover.mover + 1 = omega arith in
     let first : first_of c.loop-mover.first end ≡ c.or-first.result = first_of-or c.loop-mover.first end ∙ sym c.or-first.ensures in
@@ -74,7 +74,7 @@ returns-clause-ended g c =
     let functions = g.D.Digests.functions in
     let host = host_of (functions (digests_of old)) old in
     let count : c.settings-mover-end.result.header.verifiers ≡ old.settings.header.verifiers = ap (λ (s : Settings). s.header.verifiers) c.settings-mover-end.ensures.value in
-    let past : length old.workers.items ≤ c.loop-mover.mover =
+    let past : length (shown_world old).workers ≤ c.loop-mover.mover =
     omega (arith, c.loop-mover-test.false, count, workers_are (functions (digests_of old)) old c.requires.behind.0 c.requires.behind.1) in
     all_through host (shown_world old) (shown_world now) c.loop-mover.first c.loop-mover.mover past c.loop-mover.invariant.below
 
@@ -83,7 +83,7 @@ returns-clause-leads g c =
     let old = c.args.world.now in
     let functions = g.D.Digests.functions in
     let count : c.settings-mover-end.result.header.verifiers ≡ old.settings.header.verifiers = ap (λ (s : Settings). s.header.verifiers) c.settings-mover-end.ensures.value in
-    let past : length old.workers.items ≤ c.loop-mover.mover =
+    let past : length (shown_world old).workers ≤ c.loop-mover.mover =
     omega (arith, c.loop-mover-test.false, count, workers_are (functions (digests_of old)) old c.requires.behind.0 c.requires.behind.1) in
     each-all (host_of (functions (digests_of old)) old) (shown_world old) (shown_world c.loop-mover.world) c.loop-mover.first c.loop-mover.mover past c.loop-mover.invariant.left
 
@@ -95,7 +95,7 @@ returns-in_err-end-clause-on_the_way g c =
     let functions = g.D.Digests.functions in
     let host = host_of (functions (digests_of old)) old in
     let count : c.settings-mover-end.result.header.verifiers ≡ old.settings.header.verifiers = ap (λ (s : Settings). s.header.verifiers) c.settings-mover-end.ensures.value in
-    let there : c.loop-mover.mover < length old.workers.items =
+    let there : c.loop-mover.mover < length (shown_world old).workers =
     omega (arith, c.loop-mover-test.true, count, workers_are (functions (digests_of old)) old c.requires.behind.0 c.requires.behind.1) in
     on_err c.from_residual.result
     (each-front host (shown_world old) (shown_world now) (shown_world new) c.loop-mover.first c.loop-mover.mover there c.loop-mover.invariant.left

@@ -100,7 +100,7 @@ loop-shard-preserved g c =
     let keep = c.the_shipped_host_is_steady.ensures.close (functions (digests_of old)) old.settings (requests_of old) in
     let may = may_move host keep (shown_world old) c.args.worker c.requires.may (shown_world now) c.loop-shard.shard c.loop-shard.invariant.below there in
     let ended : c.in_ok-end.field-0 ≡ None = c.in_default.is in
-    let next : c.loop-shard.shard + length old.workers.items ≡ c.loop-shard.shard + c.from-workers.result =
+    let next : c.loop-shard.shard + length (shown_world old).workers ≡ c.loop-shard.shard + c.from-workers.result =
     omega (arith, c.from-workers.ensures, numbers, workers_are (functions (digests_of old)) old c.requires.behind.0 c.requires.behind.1) in
     record {
       host = one_host old now new c.loop-shard.invariant.host c.step.ensures.host;

@@ -1,6 +1,6 @@
-use Rattle.std.proofs.Common.{◌≡◌, suc, ◌+◌, ◌<◌, List, length, get_or, sym, ◌∙◌, ap, arith}
-use Rattle.slot_rewriting.specs.declared.writer.CommandWriter.{CommandWriter}
-use Rattle.slot_rewriting.specs.Writing.{opening_writer, text_from, written_logs}
+use Rattle.std.proofs.Common.{◌≡◌, suc, ◌+◌, ◌<◌, List, length, get_or, sym, ◌∙◌, ap, subst, arith}
+use Rattle.lamport_clocks.specs.Header.{IsHeader}
+use Rattle.slot_rewriting.specs.Writing.{written_log, written_logs}
 use Rattle.host_world.specs.declared.settings.Settings.{Settings}
 use Rattle.host_core.specs.World.{Worker, World, fresh, logs_of}
 use Rattle.host_core.specs.WorldEvent.{with_worker}
@@ -13,10 +13,13 @@ use Rattle.verifier_threads.proofs.handing.hand_out_all.Goals as goal
 
 pub hand_out-requires : goal.hand_out-requires
 hand_out-requires g c =
-    let workers = c.args.world.now.workers.items in
-    let same : length c.loop-worker.world.workers.items ≡ length workers =
+    let workers = (shown_world c.args.world.now).workers in
+    let same : length (shown_world c.loop-worker.world).workers ≡ length workers =
     ap (λ (w : World Content). length w.workers) c.loop-worker.invariant.shown ∙ changed-length with_no_log c.loop-worker.worker workers in
-    record { there = omega (arith, c.loop-worker-test.true, c.requires.each, same) }
+    record {
+      there = omega (arith, c.loop-worker-test.true, c.requires.each, same);
+      header = subst (λ (settings : Settings). IsHeader settings.header) (sym c.loop-worker.invariant.host.settings) c.requires.header;
+    }
 
 pub loop-worker-preserved : goal.loop-worker-preserved
 loop-worker-preserved g c =
@@ -25,25 +28,23 @@ loop-worker-preserved g c =
     let now = c.loop-worker.world in
     let d = fresh now.settings.header in
     let header = c.args.world.now.settings.header in
-    let header_is : c.settings.result.header ≡ header = ap (λ (s : Settings). s.header) c.settings.ensures.value in
-    let writer_is : c.in_ok-writer.writer ≡ opening_writer n header = c.in_ok-writer.ensures.value ∙ ap (opening_writer n) header_is in
     let next : n + 1 ≡ suc n = omega arith in
     let there : n < length old.workers = omega (arith, c.loop-worker-test.true, c.requires.each) in
-    let workers_are : now.workers.items ≡ (front_handed_out n old).workers = ap (λ (w : World Content). w.workers) c.loop-worker.invariant.shown in
+    let workers_are : (shown_world now).workers ≡ (front_handed_out n old).workers = ap (λ (w : World Content). w.workers) c.loop-worker.invariant.shown in
     record {
       host = one_host c.args.world.now now c.hand_out.new.self c.loop-worker.invariant.host c.hand_out.ensures.host;
       shown = c.in_ok-hand_out.ensures.forgotten
           ∙ ap (λ (w : World Content). with_worker w n (with_no_log (get_or w.workers n d))) c.loop-worker.invariant.shown
           ∙ handed-next n (n + 1) old d there next;
       buffers =
-          buffers-next n (n + 1) (written_logs header (logs_of old)) c.args.buffers.now c.loop-worker.buffers c.clear.new.self c.hand_out.new.buffer _ _
+          buffers-next n (n + 1) (written_logs header (logs_of old)) c.args.buffers.now c.loop-worker.buffers c.hand_out.new.buffer
           c.loop-worker.invariant.buffers
           (texts-length header old.workers ∙ sym c.requires.each)
           (omega (arith, there, texts-length header old.workers))
-          c.clear.ensures.empty c.in_ok-hand_out.ensures.handed
-          (ap (λ (w : CommandWriter). text_from w (get_or now.workers.items n d).log) writer_is
-          ∙ ap (λ (ws : List Worker). text_from (opening_writer n header) (get_or ws n d).log) workers_are
-          ∙ ap (λ (w : Worker). text_from (opening_writer n header) w.log) (changed-not with_no_log n old.workers d)
+          (c.in_ok-hand_out.ensures.handed
+          ∙ ap (λ (settings : Settings). written_log settings.header n (get_or (shown_world now).workers n d).log) c.loop-worker.invariant.host.settings
+          ∙ ap (λ (ws : List Worker). written_log header n (get_or ws n d).log) workers_are
+          ∙ ap (λ (w : Worker). written_log header n w.log) (changed-not with_no_log n old.workers d)
           ∙ sym (text-at header old.workers n d there))
           next;
     }

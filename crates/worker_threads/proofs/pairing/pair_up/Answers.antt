@@ -9,7 +9,6 @@ use Rattle.worker_threads.proofs.pairing.pair_up.Goals as goal
 
 pub pair_of-requires : goal.pair_of-requires
 pair_of-requires c = record {
-  header = c.requires.header;
   few = few_first c.args.bytes (into_iter_items c.loop-worker.runs) (into_iter_items c.next-in-loop-worker-2.new.self) c.in-Some-next-2.run' c.loop-worker.invariant.few c.in-Some-next-2.ensures.items;
 }
 
@@ -18,8 +17,8 @@ loop-worker-preserved c =
     let so_far = c.loop-worker.invariant in
     let pairs = c.loop-worker.pairs.items in
     let after = c.push.new.self.items in
-    let pair = c.in_ok-pair.pair in
-    let made = c.in_ok-pair.ensures in
+    let pair = c.in_ok-pair_of.field-0 in
+    let made = c.in_ok-pair_of.ensures in
     let pushed = c.in_ok-push.ensures.items in
     record {
       workers = worker_ready pairs after c.loop-worker.yielded pair c.in-Some.worker so_far.workers made.worker pushed;
@@ -30,7 +29,7 @@ loop-worker-preserved c =
       parcels = part_ready parcels_in pairs after c.args.participants.parcels.items (into_iter_items c.loop-worker.parcels) (into_iter_items c.next-in-loop-worker-3.new.self) pair
           c.in-Some-next-3.count so_far.parcels c.in-Some-next-3.ensures.items made.parcels pushed;
       few = few_left c.args.bytes (into_iter_items c.loop-worker.runs) (into_iter_items c.next-in-loop-worker-2.new.self) c.in-Some-next-2.run' so_far.few c.in-Some-next-2.ensures.items;
-      opened = opened_all c.args.header.now pairs after pair so_far.opened made.opened pushed;
+      opened = opened_all pairs after pair so_far.opened made.opened pushed;
     }
 
 pub returns-clause-workers : goal.returns-clause-workers

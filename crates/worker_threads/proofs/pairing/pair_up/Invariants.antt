@@ -13,5 +13,5 @@ invariant-loop-worker l = record {
   parcels : map parcels_in l.pairs.items ++ into_iter_items l.parcels ≡ l.fn.participants.parcels.items;
   runs : map run_in l.pairs.items ++ into_iter_items l.runs ≡ l.fn.participants.runs.items;
   few : All (λ fed. weight fed.run ≤ l.fn.bytes) (into_iter_items l.runs);
-  opened : All (IsOpened l.fn.header) l.pairs.items;
+  opened : All IsOpened l.pairs.items;
 }

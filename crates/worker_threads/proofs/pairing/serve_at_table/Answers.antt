@@ -3,8 +3,9 @@ use Rattle.std.proofs.lemmas.List.{with_items_is}
 use Rattle.std.specs.Vec.{with_items}
 use Rattle.host_table.specs.Table.{table, terms}
 use Rattle.worker_threads.specs.Participants.{worker_in, hand_in}
+use Rattle.worker_threads.specs.Serving.{turns_in}
 use Rattle.worker_threads.specs.Pairs.{IsOpened, parcels_in, run_in}
-use Rattle.worker_threads.proofs.ThreadLemmas.{are_ready, counted_well, served_well, taken_well, writer_at}
+use Rattle.worker_threads.proofs.ThreadLemmas.{are_ready, counted_well, served_well, taken_well}
 use Rattle.worker_threads.proofs.pairing.serve_at_table.Goals as goal
 
 pub pair_up-requires-clause-hands : goal.pair_up-requires-clause-hands
@@ -20,8 +21,7 @@ serve_all-requires-clause-ready g c κs within =
     are_ready (terms g.D.Digests.functions records) (table records) pairs c.args.participants.workers.items c.args.participants.hands.items
     (ap (map worker_in) c.as_mut_slice.ensures.value ∙ c.in_ok-pairs.ensures.workers)
     (ap (map hand_in) c.as_mut_slice.ensures.value ∙ c.in_ok-pairs.ensures.hands)
-    c.requires.ready
-    c.args.shared.now.header (subst (All (IsOpened c.args.shared.now.header)) (sym c.as_mut_slice.ensures.value) c.in_ok-pairs.ensures.opened)
+    c.requires.ready (subst (All IsOpened) (sym c.as_mut_slice.ensures.value) c.in_ok-pairs.ensures.opened)
 
 pub returns : goal.returns
 returns g c =
@@ -34,14 +34,9 @@ returns g c =
       served = served_well (terms g.D.Digests.functions records) (table records) pairs c.args.participants.workers.items c.args.participants.hands.items
           (ap (map worker_in) c.as_mut_slice.ensures.value ∙ c.in_ok-pairs.ensures.workers)
           (ap (map hand_in) c.as_mut_slice.ensures.value ∙ c.in_ok-pairs.ensures.hands)
-          c.take_apart.result (λ left. left.workers.items) (λ left. left.hands.items) later seen c.args.shared.now.tasks.now same
+          c.take_apart.result (λ left. left.workers.items) (λ left. left.hands.items) (turns_in c.args.shared.now) later seen same
           c.take_apart.ensures.workers c.take_apart.ensures.hands c.take_apart.ensures.served c.serve_all.ensures.count c.serve_all.ensures.through c.requires.ready;
-      taken = taken_well (g.D.Digests.functions c.args.shared.now.d.now) c.args.shared.now.header pairs
-          (writer_at (terms g.D.Digests.functions records) (table records) pairs c.args.participants.workers.items c.args.participants.hands.items
-          (ap (map worker_in) c.as_mut_slice.ensures.value ∙ c.in_ok-pairs.ensures.workers)
-          (ap (map hand_in) c.as_mut_slice.ensures.value ∙ c.in_ok-pairs.ensures.hands)
-          c.requires.ready c.args.shared.now.header
-          (subst (All (IsOpened c.args.shared.now.header)) (sym c.as_mut_slice.ensures.value) c.in_ok-pairs.ensures.opened))
+      taken = taken_well (g.D.Digests.functions c.args.shared.now.d.now) pairs
           c.args.participants.runs.items c.take_apart.result (λ left. left.workers.items) (λ left. left.runs.items)
           later seen (ap (map run_in) c.as_mut_slice.ensures.value ∙ c.in_ok-pairs.ensures.runs) same
           c.take_apart.ensures.workers c.take_apart.ensures.runs c.take_apart.ensures.served c.serve_all.ensures.count c.serve_all.ensures.fed;

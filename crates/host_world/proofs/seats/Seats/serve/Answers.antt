@@ -6,6 +6,7 @@ use Rattle.host_world.specs.Doing.{HasServed}
 use Rattle.host_world.specs.Places.{place_of}
 use Rattle.host_world.specs.ShippedHost.{serve_at}
 use Rattle.host_world.specs.Shown.{contents_of}
+use Rattle.host_world.specs.Workers.{shown_worker}
 use Rattle.host_world.proofs.WorldLemmas.{hot_there, hot_read, hot_set, set_same}
 use Rattle.host_world.proofs.seats.Seats.serve.Goals as goal
 
@@ -17,10 +18,10 @@ returns-clause-served g c is =
     let there : k < length xs = omega (arith, c.requires.there, length-map xs shown_content) in
     let first = shown_content c.args.self.now.first in
     subst (λ (after : Content). HasServed (place_of c.args.place) (serve_at c.args.absent (g.D.Digests.functions c.args.d.now).digest c.args.number c.args.worker.now.clock
-    (get_or (contents_of c.args.self.now) c.args.seat vacant) c.args.request.now) c.args.worker.now after c.serve-2.new.self)
+    (get_or (contents_of c.args.self.now) c.args.seat vacant) c.args.request.now) (shown_worker c.args.worker.now) after (shown_worker c.serve-2.new.self))
     (sym (hot_there shown_content first xs k c.args.seat c.serve-2.new.content vacant next there))
     (subst (λ (before : Content). HasServed (place_of c.args.place) (serve_at c.args.absent (g.D.Digests.functions c.args.d.now).digest c.args.number c.args.worker.now.clock
-    before c.args.request.now) c.args.worker.now (shown_content c.serve-2.new.content) c.serve-2.new.self)
+    before c.args.request.now) (shown_worker c.args.worker.now) (shown_content c.serve-2.new.content) (shown_worker c.serve-2.new.self))
     (sym (hot_read shown_content first xs k c.args.seat c.index_mut.result.now vacant next there c.index_mut.ensures.value))
     (c.serve-2.ensures.served is))
 

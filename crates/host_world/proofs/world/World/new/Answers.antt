@@ -8,6 +8,7 @@ use Rattle.host_plan.specs.Setup.{setup_commands}
 use Rattle.host_shard.specs.Content.{Content}
 use Rattle.host_world.specs.Settings.{frontier_bits}
 use Rattle.host_world.specs.ShippedHost.{new_seats, shipped_host}
+use Rattle.host_world.specs.Workers.{shown_worker}
 use Rattle.host_world.specs.Behind.{with_logs}
 use Rattle.host_world.proofs.FrontLaws.{before_each-none}
 use Rattle.host_world.proofs.BehindLemmas.{shards_are}
@@ -21,7 +22,7 @@ returns-clause-set_up g c =
     let power : settings.shards ≡ 2 ^ bits = shards_are settings.shards c.requires.settings.shards in
     let others = replicate (header.verifiers - 1) (fresh header) in
     let world : List (Seats Content) → List Worker → World Content = λ (shards : List (Seats Content)) (workers : List Worker). record { shards = shards; workers = workers; phase = 0; closing = false; over = false } in
-    ap (λ (shards : List (Seats Content)). world shards c.in_ok-workers.workers.items)
+    ap (λ (shards : List (Seats Content)). world shards (map shown_worker c.in_ok-workers.workers.items))
     (c.in_ok-shards.ensures.seats ∙ ap (λ (contents : List Content). map unmoved (map new_seats contents)) (c.in-Ok.ensures.contents bits power))
     ∙ ap (world _)
     (c.in_ok-workers.ensures.workers

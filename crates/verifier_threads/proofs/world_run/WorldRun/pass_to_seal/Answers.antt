@@ -34,7 +34,7 @@ pub seal-requires-clause-each : goal.seal-requires-clause-each
 seal-requires-clause-each g c κs within =
     let old = c.args.self.now in
     let runs = c.requires.runs.2.1 in
-    let size : length c.hand_out_all.new.buffers ≡ length old.world.workers.items = ap length c.in_ok-hand_out_all.ensures.handed ∙ texts-length old.world.settings.header old.world.workers.items in
+    let size : length c.hand_out_all.new.buffers ≡ length (shown_world old.world).workers = ap length c.in_ok-hand_out_all.ensures.handed ∙ texts-length old.world.settings.header (shown_world old.world).workers in
     let items = with_items_is old.buffers c.hand_out_all.new.buffers (size ∙ sym runs.buffers ∙ sym old.buffers.ok.0) in
     ap length (c.as_slice.ensures.value ∙ items) ∙ size ∙ running-workers _ _ _ _ _ _ _ _ _ runs.running ∙ sym (run-count _ _ _ _ runs.running.keeps.runs)
 
@@ -68,7 +68,7 @@ returns-clause-runs g c = λ account outputs past runs stands held.
     let vault' = g.V.Sink.held c.seal.new.vault in
     let d_is : c.digests-d.result.now ≡ digests_of old.world = c.digests-d.ensures.value ∙ host.digests in
     let round = c.as_slice.result.now in
-    let size : length c.hand_out_all.new.buffers ≡ length old.world.workers.items = ap length c.in_ok-hand_out_all.ensures.handed ∙ texts-length header old.world.workers.items in
+    let size : length c.hand_out_all.new.buffers ≡ length (shown_world old.world).workers = ap length c.in_ok-hand_out_all.ensures.handed ∙ texts-length header (shown_world old.world).workers in
     let items = with_items_is old.buffers c.hand_out_all.new.buffers (size ∙ sym runs.buffers ∙ sym old.buffers.ok.0) in
     let round_is : round ≡ written_logs header (logs_of (shown_world old.world)) = c.as_slice.ensures.value ∙ items ∙ c.in_ok-hand_out_all.ensures.handed in
     let rests = running-rests _ _ _ _ (shown_world old.world) old.rounds old.end past outputs r c.logs_come_to_rest.ensures.rests
@@ -83,8 +83,8 @@ returns-clause-runs g c = λ account outputs past runs stands held.
           (running-taken _ _ _ _ (shown_world old.world) old.rounds old.end past outputs r (shown_world new) round c.seal.new.self vault'
           stands rests c.in_ok-hand_out_all.ensures.forgotten round_is
           (subst (λ d. Keeps (functions d) header (logs_with before round) (map (written_logs header) past ++ (round ∷ [])) c.seal.new.self outputs.vault vault') d_is keeps') lines);
-      buffers = ap length items ∙ size ∙ sym (length-map old.world.workers.items with_no_log) ∙ sym (ap (λ (w : World Content). length w.workers) c.in_ok-hand_out_all.ensures.forgotten);
-      counts = runs.counts ∙ sym (length-map old.world.workers.items with_no_log) ∙ sym (ap (λ (w : World Content). length w.workers) c.in_ok-hand_out_all.ensures.forgotten);
+      buffers = ap length items ∙ size ∙ sym (length-map (shown_world old.world).workers with_no_log) ∙ sym (ap (λ (w : World Content). length w.workers) c.in_ok-hand_out_all.ensures.forgotten);
+      counts = runs.counts ∙ sym (length-map (shown_world old.world).workers with_no_log) ∙ sym (ap (λ (w : World Content). length w.workers) c.in_ok-hand_out_all.ensures.forgotten);
     })
 
 pub returns-clause-handed : goal.returns-clause-handed
@@ -93,7 +93,7 @@ returns-clause-handed g c = ok_any c.seal.result c.in_ok-hand_out_all.ensures.fo
 pub returns-clause-cut : goal.returns-clause-cut
 returns-clause-cut g c = λ account outputs runs held.
     let old = c.args.self.now in
-    let size : length c.hand_out_all.new.buffers ≡ length old.world.workers.items = ap length c.in_ok-hand_out_all.ensures.handed ∙ texts-length old.world.settings.header old.world.workers.items in
+    let size : length c.hand_out_all.new.buffers ≡ length (shown_world old.world).workers = ap length c.in_ok-hand_out_all.ensures.handed ∙ texts-length old.world.settings.header (shown_world old.world).workers in
     let items = with_items_is old.buffers c.hand_out_all.new.buffers (size ∙ sym runs.1.buffers ∙ sym old.buffers.ok.0) in
     err_any c.seal.result
     (runs-cut_round account g.D.Digests.functions old outputs runs.0 runs.1 c.what_is_due_stays_due.ensures.stays c.rounds_make_a_bundle.ensures.more
@@ -109,7 +109,7 @@ returns-in_err-hand_out_all-clause-cut_round g c = λ account outputs closes beh
 pub returns-clause-cut_round : goal.returns-clause-cut_round
 returns-clause-cut_round g c = λ account outputs closes behind held.
     let old = c.args.self.now in
-    let size : length c.hand_out_all.new.buffers ≡ length old.world.workers.items = ap length c.in_ok-hand_out_all.ensures.handed ∙ texts-length old.world.settings.header old.world.workers.items in
+    let size : length c.hand_out_all.new.buffers ≡ length (shown_world old.world).workers = ap length c.in_ok-hand_out_all.ensures.handed ∙ texts-length old.world.settings.header (shown_world old.world).workers in
     let items = with_items_is old.buffers c.hand_out_all.new.buffers (size ∙ sym behind.runs.buffers ∙ sym old.buffers.ok.0) in
     err_any c.seal.result
     (runs-cut_in_round account g.D.Digests.functions old outputs behind.past behind.runs (suc closes) closes behind.count (inr refl) behind.told

@@ -33,7 +33,7 @@ pub write-requires : goal.write-requires
 write-requires g c =
     let old = c.args.self.now in
     let runs = c.requires.runs.3.1 in
-    let size : length c.hand_out_all.new.buffers ≡ length old.world.workers.items = ap length c.in_ok-hand_out_all.ensures.handed ∙ texts-length old.world.settings.header old.world.workers.items in
+    let size : length c.hand_out_all.new.buffers ≡ length (shown_world old.world).workers = ap length c.in_ok-hand_out_all.ensures.handed ∙ texts-length old.world.settings.header (shown_world old.world).workers in
     let items = with_items_is old.buffers c.hand_out_all.new.buffers (size ∙ sym runs.buffers ∙ sym old.buffers.ok.0) in
     let count = ap length (c.as_slice.ensures.value ∙ items) ∙ size ∙ running-workers _ _ _ _ _ _ _ _ _ runs.running in
     record { few = omega (arith, count, runs.running.settings_fit.header.verifiers) }
@@ -58,7 +58,7 @@ returns-clause-runs g c = λ account outputs before past runs took stands held.
     let vault = g.V.Sink.held c.args.vault.now in
     let vault' = g.V.Sink.held c.write.new.vault in
     let round = c.as_slice.result.now in
-    let size : length c.hand_out_all.new.buffers ≡ length old.world.workers.items = ap length c.in_ok-hand_out_all.ensures.handed ∙ texts-length header old.world.workers.items in
+    let size : length c.hand_out_all.new.buffers ≡ length (shown_world old.world).workers = ap length c.in_ok-hand_out_all.ensures.handed ∙ texts-length header (shown_world old.world).workers in
     let items = with_items_is old.buffers c.hand_out_all.new.buffers (size ∙ sym runs.buffers ∙ sym old.buffers.ok.0) in
     let round_is : round ≡ written_logs header (logs_of (shown_world old.world)) = c.as_slice.ensures.value ∙ items ∙ c.in_ok-hand_out_all.ensures.handed in
     let rests = running-rests _ _ _ _ (shown_world old.world) rounds old.end past outputs r c.logs_come_to_rest.ensures.rests
@@ -73,8 +73,8 @@ returns-clause-runs g c = λ account outputs before past runs took stands held.
           (λ (f : DigestFunctions) (settings : Settings) (script : List (List Task)). IsRunning account f settings script (shown_world new) c.write.new.self old.end (past ++ (logs_of (shown_world old.world) ∷ [])) (record outputs { vault_after = vault' }))
           (running-taken _ _ _ _ (shown_world old.world) rounds old.end past outputs r (shown_world new) round c.write.new.self vault'
           stands rests c.in_ok-hand_out_all.ensures.forgotten round_is keeps' lines);
-      buffers = ap length items ∙ size ∙ sym (length-map old.world.workers.items with_no_log) ∙ sym (ap (λ (w : World Content). length w.workers) c.in_ok-hand_out_all.ensures.forgotten);
-      counts = runs.counts ∙ sym (length-map old.world.workers.items with_no_log) ∙ sym (ap (λ (w : World Content). length w.workers) c.in_ok-hand_out_all.ensures.forgotten);
+      buffers = ap length items ∙ size ∙ sym (length-map (shown_world old.world).workers with_no_log) ∙ sym (ap (λ (w : World Content). length w.workers) c.in_ok-hand_out_all.ensures.forgotten);
+      counts = runs.counts ∙ sym (length-map (shown_world old.world).workers with_no_log) ∙ sym (ap (λ (w : World Content). length w.workers) c.in_ok-hand_out_all.ensures.forgotten);
     })
 
 pub returns-clause-handed : goal.returns-clause-handed
@@ -83,7 +83,7 @@ returns-clause-handed g c = ok_any c.write.result c.in_ok-hand_out_all.ensures.f
 pub returns-clause-cut : goal.returns-clause-cut
 returns-clause-cut g c = λ account outputs before runs held.
     let old = c.args.self.now in
-    let size : length c.hand_out_all.new.buffers ≡ length old.world.workers.items = ap length c.in_ok-hand_out_all.ensures.handed ∙ texts-length old.world.settings.header old.world.workers.items in
+    let size : length c.hand_out_all.new.buffers ≡ length (shown_world old.world).workers = ap length c.in_ok-hand_out_all.ensures.handed ∙ texts-length old.world.settings.header (shown_world old.world).workers in
     let items = with_items_is old.buffers c.hand_out_all.new.buffers (size ∙ sym runs.1.buffers ∙ sym old.buffers.ok.0) in
     err_any c.write.result
     (runs-cut_round account g.D.Digests.functions (with_runs_of before old) outputs runs.0 runs.1 c.what_is_due_stays_due.ensures.stays c.rounds_make_a_bundle.ensures.more
@@ -99,7 +99,7 @@ returns-in_err-hand_out_all-clause-cut_round g c = λ account outputs before clo
 pub returns-clause-cut_round : goal.returns-clause-cut_round
 returns-clause-cut_round g c = λ account outputs before closes behind held.
     let old = c.args.self.now in
-    let size : length c.hand_out_all.new.buffers ≡ length old.world.workers.items = ap length c.in_ok-hand_out_all.ensures.handed ∙ texts-length old.world.settings.header old.world.workers.items in
+    let size : length c.hand_out_all.new.buffers ≡ length (shown_world old.world).workers = ap length c.in_ok-hand_out_all.ensures.handed ∙ texts-length old.world.settings.header (shown_world old.world).workers in
     let items = with_items_is old.buffers c.hand_out_all.new.buffers (size ∙ sym behind.runs.buffers ∙ sym old.buffers.ok.0) in
     err_any c.write.result
     (runs-cut_in_round account g.D.Digests.functions (with_runs_of before old) outputs behind.past behind.runs closes closes behind.count (inl refl) behind.told

@@ -1,32 +1,38 @@
-use Rattle.std.proofs.Common.{[], ◌∙◌, sym, ap, subst}
-use Rattle.slot_rewriting.specs.Writing.{text_from}
-use Rattle.verifier_feeds.specs.Feeds.{writer_of}
-use Rattle.host_core.specs.World.{Worker}
-use Rattle.host_table.specs.Calls.{told_by}
-use Rattle.host_table.specs.Hands.{worker_of}
-use Rattle.worker_threads.specs.Parts.{HasDone, asked_of}
-use Rattle.worker_threads.specs.WorkerState.{noted}
-use Rattle.worker_threads.proofs.WorkerStateLemmas.{nothing-done, at_ok}
+use Rattle.std.proofs.Common.{List, [], ◌∙◌, sym, subst}
+use Rattle.host_table.specs.declared.told.Service.{Service}
+use Rattle.host_table.specs.Told.{TakesUp}
+use Rattle.host_world.specs.Workers.{shown_worker}
+use Rattle.worker_threads.proofs.ServingLemmas.{nothing-done, at_ok, log-unsent}
 use Rattle.worker_threads.proofs.worker_thread.WorkerThread.serve_own.Goals as goal
+
+pub serve_turns-requires-clause-at_work : goal.serve_turns-requires-clause-at_work
+serve_turns-requires-clause-at_work g c =
+    let ready = c.requires.ready in
+    record {
+      free = ready.free;
+      clock = ready.clock;
+      chained = subst (λ (services : List Service). TakesUp services c.args.self.now.worker.clock) (sym ready.new.services) tt;
+      going = λ _. ready.new.stop;
+      front = log-unsent c.args.self.now.outbox _ ready.empty;
+      place = ready.place;
+    }
 
 pub returns : goal.returns
 returns g c =
     let old = c.args.self.now in
-    let state = c.serve_part.new.self in
-    let has = c.note.ensures.has ∙ ap (λ (w : Worker). noted w state) {y = record old.worker { log = [] }} c.new-state.ensures.lent in
+    let shown = shown_worker old.worker in
     record {
       through = record {
-        free = c.serve_part.ensures.at_work.free;
-        number = c.serve_part.ensures.worker;
+        free = c.serve_turns.ensures.free;
+        number = c.serve_turns.ensures.goes_on.number;
+        writer = c.serve_turns.ensures.goes_on.writer;
         part = λ fine.
-            subst (λ (w : Worker). HasDone (asked_of (worker_of old.hand) c.args.shared.now.tasks.now) (told_by c.serve_part.new.hand) old.worker w) (sym has)
-            (at_ok c.serve_part.result (sym c.is_err-self.ensures.value ∙ fine) c.serve_part.ensures.goes_on [] old.worker
-            (nothing-done old.hand old.worker (noted old.worker c.new-state.result) c.new-state.ensures.begun c.requires.ready.running c.requires.ready.new));
+            at_ok c.serve_turns.result (sym c.is_err-self.ensures.value ∙ fine) c.serve_turns.ensures.done [] shown
+            (nothing-done old.hand shown c.requires.ready.running c.requires.ready.new);
       };
-      put = record {
-        put = λ fine.
-            (at_ok c.serve_part.result (sym c.is_err-self.ensures.value ∙ fine) c.serve_part.ensures.put).put
-            ∙ sym (ap (λ (w : Worker). text_from (writer_of old.outbox) w.log) has);
-        lane = c.serve_part.ensures.lane;
+      sent = record {
+        front = c.serve_turns.ensures.front;
+        settled = λ fine. at_ok c.serve_turns.result (sym c.is_err-self.ensures.value ∙ fine) c.serve_turns.ensures.settled;
+        lane = c.serve_turns.ensures.goes_on.lane;
       };
     }

@@ -1,0 +1,2 @@
+-- What the clauses on a worker's log cite.
+pub mod Logged
