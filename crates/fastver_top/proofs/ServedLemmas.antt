@@ -17,8 +17,8 @@ use Rattle.script_text.specs.Script.{BadLine, lines_say, phases_of, script_of, w
 use Rattle.lamport_clocks.specs.declared.header.Header.{Header}
 use Rattle.lamport_clocks.specs.Clock.{last_epoch}
 use Rattle.host_core.specs.Host.{Host, Done as Deed}
-use Rattle.host_core.specs.World.{Place, Worker, Seats, World, set_up, logs_of, worker_at}
-use Rattle.host_core.specs.WorldEvent.{WorldEvent, takes, loses, serves, gives, advances, moves, opens, step, IsEnabled, AreEnabled, run_events, HasAdvanced, after_serve, after_move, after_advance}
+use Rattle.host_core.specs.World.{Place, Worker, Seats, World, set_up, logs_of, worker_at, shard_at}
+use Rattle.host_core.specs.WorldEvent.{WorldEvent, takes, loses, serves, gives, advances, moves, opens, raises, enters, scans, finishes, stops, step, IsEnabled, AreEnabled, run_events, HasAdvanced, after_serve, after_move, after_scan, after_advance}
 use Rattle.host_world.specs.Behind.{AreInRange}
 use Rattle.host_world.specs.Settings.{IsSettings}
 use Rattle.host_world.specs.ShippedHost.{shipped_host}
@@ -69,6 +69,11 @@ module _ {C R : Type 0} (host : Host C R) where
     go true is = rw is refl
     go false is = rw is refl
 
+  scan-phase : (world : World C) (i : ℕ) (worker : Worker) (place : Place) (shard : Seats C) (deed : Option (Deed (List C)))
+      → (after_scan world i worker place shard deed).phase ≡ world.phase
+  scan-phase world i worker place shard None = refl
+  scan-phase world i worker place shard (Some deed) = refl
+
   step-there : (world : World C) (event : WorldEvent R) → IsEnabled host world event → world.phase < length host.script
       → (step host world event).phase < length host.script
   step-there world (takes i place) may there = there
@@ -80,6 +85,12 @@ module _ {C R : Type 0} (host : Host C R) where
   step-there world (moves i s) may there = subst (λ (p : ℕ). p < length host.script) (sym (move-phase world i (worker_at host world i) s _)) there
   step-there world opens may there =
       ⊎_elim (λ below. below) (λ last. absurd (may.more (inl last))) (cases_lt (suc world.phase) (length host.script))
+  step-there world (raises i) may there = there
+  step-there world (enters i) may there = there
+  step-there world (scans i place) may there =
+      subst (λ (p : ℕ). p < length host.script) (sym (scan-phase world i (worker_at host world i) place (shard_at world place.shard) _)) there
+  step-there world (finishes i) may there = there
+  step-there world (stops i found) may there = there
 
   pub phase-there : (world : World C) (events : List (WorldEvent R)) → AreEnabled host world events → world.phase < length host.script
       → (run_events host world events).phase < length host.script

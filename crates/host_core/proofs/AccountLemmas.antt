@@ -1,10 +1,9 @@
 -- A worker's log, accepted and at rest behind it, answering what the script asks; and what more commands make of it.
 use Rattle.std.proofs.Common.{◌≡◌, ℕ, ◌+◌, ◌-◌, ◌<◌, ◌≤◌, ◌==◌, nat_lt, Bool, true, false, List, [], ◌∷◌, ◌++◌, map, length, take, slice_get, Option, Some, None, Ok, refl, sym, ◌∙◌, ap, subst, if◌then◌else◌, append-nil, length-append, arith}
 use Rattle.std.specs.List.{flat_map, AllByRecursion}
-use Rattle.std.specs.Option.{option_map}
 use Rattle.std.proofs.lemmas.Grind.{flat_map-append}
 use Rattle.std.proofs.lemmas.List.{map-append, take_more}
-use Rattle.std.proofs.lemmas.Option.{slice_get-map, slice_get_within, get_or_from_slice_get}
+use Rattle.std.proofs.lemmas.Option.{slice_get_within, get_or_from_slice_get}
 use Rattle.std.proofs.lemmas.Bool.Decides.{nat_tests}
 use Rattle.lamport_clocks.specs.Reading.{Reading}
 use Rattle.lamport_clocks.specs.Clock.{last_epoch, sealed_by_advancing}
@@ -27,9 +26,9 @@ use Rattle.soundness.specs.Certified.{operations_in, operations_by, sealed_by, s
 use Rattle.soundness.specs.Timed.{added_among, evicted_among}
 use Rattle.soundness.specs.Typed.{IsPathTypedIn}
 use Rattle.host_core.specs.Accepted.{state_behind, state_from, IsAccepted}
-use Rattle.host_core.specs.Host.{Host, scheme, machinery, resting, asked, script_of}
+use Rattle.host_core.specs.Host.{Host, scheme, machinery, resting, asked}
 use Rattle.host_core.specs.WorldEvent.{next_clock}
-use Rattle.host_core.specs.Deeds.{request_of, answers_in, IsClock, IsDeed}
+use Rattle.host_core.specs.Deeds.{request_of, answers_in, IsInTime, IsAnswering, IsClock, IsDeed}
 use Rattle.host_core.proofs.RunLemmas.{accepted-append, state-append, events-append}
 use Rattle.host_core.proofs.Books.{Account, with_more}
 
@@ -46,6 +45,25 @@ sealed-append xs ys =
     ap length (flat_map-append (λ (event : Event). sealed_by event.change) xs ys)
     ∙ length-append (flat_map (λ event. sealed_by event.change) xs) (flat_map (λ event. sealed_by event.change) ys)
 
+-- answers behind answers are to requests behind requests
+answering-append : {C R : Type 0} (host : Host C R) (xs ys : List (ℕ × Request)) (asks more : List (ℕ × R))
+    → IsAnswering host xs asks → IsAnswering host ys more → IsAnswering host (xs ++ ys) (asks ++ more)
+answering-append host [] ys [] more first next = next
+answering-append host [] ys (ask ∷ asks) more first next = absurd first
+answering-append host (x ∷ xs) ys [] more first next = absurd first
+answering-append host (x ∷ xs) ys (ask ∷ asks) more first next = (first.0, first.1, answering-append host xs ys asks more first.2 next)
+
+-- in a host that is not rolling, answers in time are those of the script
+pub answering-plain : {C R : Type 0} (host : Host C R) (answers : List (ℕ × Request)) (asks : List (ℕ × R)) → host.rolling ≡ false
+    → IsAnswering host answers asks → answers ≡ map (λ ask. (host.header.first + ask.0, host.telling ask.1)) asks
+answering-plain host [] [] plain all = refl
+answering-plain host [] (ask ∷ asks) plain all = absurd all
+answering-plain host (answer ∷ answers) [] plain all = absurd all
+answering-plain host (answer ∷ answers) (ask ∷ asks) plain all =
+    ap (λ (n : ℕ). (n, answer.1) ∷ answers) (all.1.1 plain)
+    ∙ ap (λ (request : Request). (host.header.first + ask.0, request) ∷ answers) all.0
+    ∙ ap (λ (rest : List (ℕ × Request)). (host.header.first + ask.0, host.telling ask.1) ∷ rest) (answering-plain host answers asks plain all.2)
+
 module _ {C R : Type 0} (host : Host C R) (i : ℕ) where
   -- the events of commands from a verifier at rest
   abbrev pub events_at : ℕ → Reading → List Command → List Event
@@ -58,7 +76,7 @@ module _ {C R : Type 0} (host : Host C R) (i : ℕ) where
     pub accepted : IsAccepted (machinery host i) (opening i host.header) account.log
     pub rests : state_from (machinery host i) (opening i host.header) account.log ≡ resting host i account.clock
     pub is_clock : IsClock host account.clock
-    pub answered : answers_in (path_log_events (scheme host) host.header i account.log) ≡ take account.served (script_of host i)
+    pub answered : IsAnswering host (answers_in (path_log_events (scheme host) host.header i account.log)) (take account.served (asked host i))
     pub sealed : sealed_count (path_log_events (scheme host) host.header i account.log) ≡ account.clock.at.epoch - (host.header.first + 1)
 
   -- commands that a verifier at rest accepts, and what it answers and seals
@@ -83,6 +101,11 @@ module _ {C R : Type 0} (host : Host C R) (i : ℕ) where
     sealed = λ index. omega (arith, deed.unsealed index, deed.epoch);
   }
 
+  -- what is answered further is what is asked next
+  abbrev pub IsAskedNext : ℕ → ℕ → List (ℕ × Request) → Type 0
+  IsAskedNext served more answers = (before : List (ℕ × Request)) → IsAnswering host before (take served (asked host i))
+      → IsAnswering host (before ++ answers) (take (served + more) (asked host i))
+
   -- the events of a log are told from the opening state
   pub told : (commands : List Command)
       → path_log_events (scheme host) host.header i commands ≡ events_from (machinery host i) i 0 (opening i host.header) commands
@@ -103,7 +126,7 @@ module _ {C R : Type 0} (host : Host C R) (i : ℕ) where
   -- More commands leave it right.
   pub more_right : (account : Account) (commands : List Command) (next : Reading) (answers : List (ℕ × Request)) (more : ℕ)
       → IsRightAccount account → IsMore account.clock commands next answers
-      → take account.served (script_of host i) ++ answers ≡ take (account.served + more) (script_of host i)
+      → IsAskedNext account.served more answers
       → IsRightAccount (with_more account commands next more)
   more_right account commands next answers more right new asks = record {
     typed = every-append (IsPathTypedIn (wide_of host.header) (longest_of host.header)) account.log commands right.typed new.typed;
@@ -112,11 +135,11 @@ module _ {C R : Type 0} (host : Host C R) (i : ℕ) where
     rests = state-append (machinery host i) (opening i host.header) account.log commands right.accepted
         ∙ ap (λ (state : State). state_from (machinery host i) state commands) right.rests ∙ new.rests;
     is_clock = new.is_clock;
-    answered = ap answers_in grown
+    answered = subst (λ (zs : List (ℕ × Request)). IsAnswering host zs (take (account.served + more) (asked host i)))
+        (sym (ap answers_in grown
         ∙ answers-append events (events_at (0 + length account.log) account.clock commands)
-        ∙ ap (λ (zs : List (ℕ × Request)). zs ++ answers_in (events_at (0 + length account.log) account.clock commands)) right.answered
-        ∙ ap (λ (zs : List (ℕ × Request)). take account.served (script_of host i) ++ zs) (new.answered (0 + length account.log))
-        ∙ asks;
+        ∙ ap (λ (zs : List (ℕ × Request)). answers_in events ++ zs) (new.answered (0 + length account.log))))
+        (asks (answers_in events) right.answered);
     sealed = ap sealed_count grown
         ∙ sealed-append events (events_at (0 + length account.log) account.clock commands)
         ∙ counted (sealed_count events) (sealed_count (events_at (0 + length account.log) account.clock commands)) right.sealed (new.sealed (0 + length account.log));
@@ -137,20 +160,22 @@ module _ {C R : Type 0} (host : Host C R) (i : ℕ) where
   -- ---- what a worker is asked next
 
   -- a served request is the next of what the script asks
-  pub asks_next : (served phase : ℕ) (request : R) → slice_get (asked host i) served ≡ Some (phase, request)
-      → take served (script_of host i) ++ (host.header.first + phase, host.telling request) ∷ [] ≡ take (served + 1) (script_of host i)
-  asks_next served phase request next =
-      let answer : ℕ × Request = (host.header.first + phase, host.telling request) in
-      let there : slice_get (script_of host i) served ≡ Some answer =
-      slice_get-map (λ ask. (host.header.first + ask.0, host.telling ask.1)) (asked host i) served
-      ∙ ap (λ o. option_map (λ ask. (host.header.first + ask.0, host.telling ask.1)) o) next in
-      ap (λ (answer : ℕ × Request). take served (script_of host i) ++ answer ∷ [])
-      (sym (get_or_from_slice_get (script_of host i) served answer answer there))
-      ∙ sym (take_more (script_of host i) served answer (slice_get_within (script_of host i) served answer there))
+  pub asks_next : (served phase epoch : ℕ) (request : R) → slice_get (asked host i) served ≡ Some (phase, request)
+      → IsInTime host epoch phase → IsAskedNext served 1 ((epoch, host.telling request) ∷ [])
+  asks_next served phase epoch request next in_time before answered =
+      subst (IsAnswering host (before ++ (epoch, host.telling request) ∷ [])) (sym more)
+      (answering-append host before ((epoch, host.telling request) ∷ []) (take served (asked host i)) ((phase, request) ∷ []) answered (refl, in_time, tt))
+    where
+      more : take (served + 1) (asked host i) ≡ take served (asked host i) ++ (phase, request) ∷ []
+      more = take_more (asked host i) served (phase, request) (slice_get_within (asked host i) served (phase, request) next)
+          ∙ ap (λ (ask : ℕ × R). take served (asked host i) ++ ask ∷ [])
+          (get_or_from_slice_get (asked host i) served (phase, request) (phase, request) next)
 
   -- nothing more is asked of one that answers nothing
-  pub asks_none : (served : ℕ) → take served (script_of host i) ++ [] ≡ take (served + 0) (script_of host i)
-  asks_none served = append-nil (take served (script_of host i)) ∙ ap (λ (n : ℕ). take n (script_of host i)) (omega arith)
+  pub asks_none : (served : ℕ) → IsAskedNext served 0 []
+  asks_none served before answered =
+      subst (λ (zs : List (ℕ × Request)). IsAnswering host zs (take (served + 0) (asked host i))) (sym (append-nil before))
+      (subst (λ (n : ℕ). IsAnswering host before (take n (asked host i))) {x = served} (omega arith) answered)
 
   -- ---- advancing
 

@@ -10,7 +10,7 @@ use Rattle.host_core.specs.Deeds.{IsFit}
 use Rattle.host_core.specs.Clear.{Keeping, touches, touching, IsKept, IsClearDeed, IsClear}
 use Rattle.host_core.proofs.Books.{Books, books_of, Progress}
 use Rattle.host_core.proofs.AccountLemmas.{told, events_at}
-use Rattle.host_core.proofs.RightLemmas.{IsRight}
+use Rattle.host_core.proofs.Right.{IsRight}
 use Rattle.host_core.proofs.ClashLemmas.{clash-append, last-append}
 use Rattle.host_core.proofs.FollowLemmas.{Followed, GoesOn, AllGoOn, AreFollowed, progress_followed, setup_followed}
 use Rattle.lamport_clocks.specs.Reading.{Reading}

@@ -1,5 +1,5 @@
 -- All evicted elements together are all added ones with the pending elements of all contents, each as often.
-use Rattle.std.proofs.Common.{◌≡◌, ℕ, zero, suc, ◌+◌, ◌-◌, ◌<◌, true, List, [], ◌∷◌, ◌++◌, map, length, get_or, set, replicate, refl, sym, ◌∙◌, ap, subst, arith}
+use Rattle.std.proofs.Common.{◌≡◌, ℕ, zero, suc, ◌+◌, ◌-◌, ◌<◌, Bool, List, [], ◌∷◌, ◌++◌, map, length, get_or, set, replicate, refl, sym, ◌∙◌, ap, subst, arith}
 use Rattle.std.specs.List.{flat_map}
 use Rattle.std.proofs.lemmas.Grind.{flat_map-append}
 use Rattle.record_text.specs.declared.element.Element.{Element}
@@ -16,9 +16,10 @@ use Rattle.host_core.specs.World.{Seats, unmoved, fresh, set_up}
 use Rattle.host_core.specs.WorldEvent.{next_clock}
 use Rattle.host_core.specs.Deeds.{pending_of, ServeFits, MoveFits, IsFit}
 use Rattle.host_core.proofs.CountLemmas.{count-append, count-set}
-use Rattle.host_core.proofs.Books.{Account, account_of, Books, books_of, seats_at, with_more, served_books, moved_books, advanced_books, IsOwn, DidServe, DidMove, DidAdvance, Progress, stays, serves_one, moves_one, advances_one, opens_next}
+use Rattle.host_core.proofs.Books.{Account, account_of, Books, books_of, seats_at, with_more, served_books, moved_books, advanced_books, IsOwn, DidServe, DidMove, DidAdvance, Progress, stays, serves_one, moves_one, advances_one, opens_next, raises_newest, finishes_one}
 use Rattle.host_core.proofs.AccountLemmas.{told, events_at, log-grown, advance_added, advance_evicted}
-use Rattle.host_core.proofs.RightLemmas.{IsRight, own_right, serve_fits, move_fits}
+use Rattle.host_core.proofs.Right.{IsRight}
+use Rattle.host_core.proofs.ReadyLemmas.{own_right, serve_fits, move_fits}
 
 -- ---- what is counted over all logs
 
@@ -125,13 +126,13 @@ module _ {C R : Type 0} (mirrors : ℕ → List C → Type 0) (host : Host C R) 
         count-set host.pending x (seats_at old s).contents seat done.after host.vacant did.inside,
       )
 
-  move_counted : (i : ℕ) (account : Account) (s : ℕ) (done : Done (List C))
-      → DidMove host old i account s done → IsCounted host old → IsCounted host (moved_books host old i account s done)
-  move_counted i account s done did counted x =
+  move_counted : (i : ℕ) (account : Account) (s : ℕ) (moved : Bool) (done : Done (List C))
+      → DidMove host old i account s moved done → IsCounted host old → IsCounted host (moved_books host old i account s moved done)
+  move_counted i account s moved done did counted x =
       let fits : MoveFits mirrors host i account.clock s (seats_at old s).contents done =
-      move_fits mirrors host fit old right i account s done did in
+      move_fits mirrors host fit old right i account s moved done did in
       let next = with_more account done.commands done.clock 0 in
-      let shard : Seats C = record { contents = done.after; moved = true } in
+      let shard : Seats C = record { contents = done.after; moved = moved } in
       omega (
         arith,
         counted x,
@@ -142,9 +143,9 @@ module _ {C R : Type 0} (mirrors : ℕ → List C → Type 0) (host : Host C R) 
         count-set (λ (shard : Seats C). pending_of host shard.contents) x old.shards s shard (unmoved []) did.shard,
       )
 
-  advance_counted : (i : ℕ) (account : Account) → DidAdvance host old i account → IsCounted host old
-      → IsCounted host (advanced_books host old i account)
-  advance_counted i account did counted x =
+  advance_counted : (i : ℕ) (account : Account) (closing : Bool) → DidAdvance host old i account closing → IsCounted host old
+      → IsCounted host (advanced_books host old i account closing)
+  advance_counted i account closing did counted x =
       let next = with_more account (NextEpoch ∷ []) (next_clock account.clock) 0 in
       omega (
         arith,
@@ -165,14 +166,16 @@ module _ {C R : Type 0} (mirrors : ℕ → List C → Type 0) (host : Host C R) 
   progress_counted new (stays is) counted = subst (IsCounted host) (sym is) counted
   progress_counted new (serves_one i account s seat request done did is) counted =
       subst (IsCounted host) (sym is) (serve_counted i account s seat request done did counted)
-  progress_counted new (moves_one i account s done did is) counted =
-      subst (IsCounted host) (sym is) (move_counted i account s done did counted)
-  progress_counted new (advances_one i account did is) counted =
-      subst (IsCounted host) (sym is) (advance_counted i account did counted)
+  progress_counted new (moves_one i account s moved done did is) counted =
+      subst (IsCounted host) (sym is) (move_counted i account s moved done did counted)
+  progress_counted new (advances_one i account closing did is) counted =
+      subst (IsCounted host) (sym is) (advance_counted i account closing did counted)
   progress_counted new (opens_next did is) counted =
       subst (IsCounted host) (sym is)
       (λ x. counted x ∙ ap (λ (zs : List Element). count_of x (added_among (all_from host 0 old.accounts)) + count_of x zs)
       (sym (pending-opened old.shards)))
+  progress_counted new (raises_newest i account did is) counted = subst (IsCounted host) (sym is) counted
+  progress_counted new (finishes_one i account did is) counted = subst (IsCounted host) (sym is) counted
 
 -- workers that logged nothing have no events
 pub none_of : {C R : Type 0} (host : Host C R) (n number : ℕ) → all_from host number (map account_of (replicate n (fresh host.header))) ≡ []

@@ -27,7 +27,7 @@ use Rattle.host_core.specs.Deeds.{IsFit}
 use Rattle.host_core.specs.Core.{histories}
 use Rattle.host_core.specs.Clear.{Keeping, touches, IsClear, HasNothingToShow, IsServedSerially, HoldsWhereClear}
 use Rattle.host_core.proofs.Books.{Account, account_of, books_of, histories_in, histories_are}
-use Rattle.host_core.proofs.RightLemmas.{behind}
+use Rattle.host_core.proofs.BehindLemmas.{behind}
 use Rattle.host_core.proofs.EvenLemmas.{all_from}
 use Rattle.host_core.proofs.PromiseLemmas.{IsSound, sound_behind, some_worker, none_uneven, all_certified}
 use Rattle.host_core.proofs.ClashLemmas.{by_paths, clash-front}

@@ -30,11 +30,12 @@ use Rattle.soundness.proofs.PathHistoryLaws.{path_events-tick}
 use Rattle.host_core.specs.Host.{Host, Done, scheme, resting}
 use Rattle.host_core.specs.World.{Seats, unmoved, fresh, set_up}
 use Rattle.host_core.specs.WorldEvent.{next_clock}
-use Rattle.host_core.specs.Deeds.{IsReady, IsFit}
+use Rattle.host_core.specs.Deeds.{IsReady, IsReadyAt, IsFit}
 use Rattle.host_core.specs.Clear.{IsNotAfter}
-use Rattle.host_core.proofs.Books.{get_or-mapped, Account, account_of, Books, books_of, seats_at, with_more, epoch_in, IsOwn, Progress, stays, serves_one, moves_one, advances_one, opens_next}
+use Rattle.host_core.proofs.Books.{get_or-mapped, Account, account_of, Books, books_of, seats_at, with_more, IsOwn, Progress, stays, serves_one, moves_one, advances_one, opens_next, raises_newest, finishes_one}
 use Rattle.host_core.proofs.AccountLemmas.{events_at, log-grown, advance_events}
-use Rattle.host_core.proofs.RightLemmas.{IsRight, own_right, serve_ready, move_ready}
+use Rattle.host_core.proofs.Right.{IsRight}
+use Rattle.host_core.proofs.ReadyLemmas.{own_right, serve_ready, IsMoveReady, move_ready}
 use Rattle.host_core.proofs.EvenLemmas.{all_from, none_of}
 use Rattle.host_core.proofs.LastLemmas.{AreAfter, in_order-last}
 
@@ -291,7 +292,7 @@ module _ {X C R : Type 0} (followed : Followed X C) (Told : X → List Event →
   -- whatever the host does goes on with each thing, and advancing a clock is about none
   pub record AllGoOn : Type 0 where
     pub serve : (i index : ℕ) (clock : Reading) (s seat : ℕ) (contents : List C) (request : R) (done : Done C)
-        → IsReady mirrors host i clock clock.at.epoch s contents → seat < length contents → host.owns s contents seat request ≡ true
+        → IsReadyAt mirrors host i clock s seat contents → seat < length contents → host.owns s contents seat request ≡ true
         → host.serve i clock (get_or contents seat host.vacant) request ≡ Some done
         → GoesOn followed Told Kept (events_at host i index clock done.commands) s contents (set contents seat done.after)
     pub move : (i index epoch : ℕ) (clock : Reading) (s : ℕ) (contents : List C) (done : Done (List C))
@@ -333,18 +334,20 @@ module _ {X C R : Type 0} (followed : Followed X C) (Told : X → List Event →
         (all.serve i (0 + length account.log) account.clock s seat (seats_at old s).contents request done
         (serve_ready mirrors host fit old right i account s seat request done did) did.inside did.owns did.did)
         was)
-    progress_followed new (moves_one i account s done did is) was =
+    progress_followed new (moves_one i account s moved done did is) was =
         subst AreFollowed (sym is)
         (deed_followed followed Told Kept s
-        (record { contents = done.after; moved = true }) old.shards
+        (record { contents = done.after; moved = moved }) old.shards
         (all_from host 0 old.accounts) (all_from host 0 (set old.accounts i (with_more account done.commands done.clock 0)))
         (events_at host i (0 + length account.log) account.clock done.commands) did.shard
         (one-split mirrors host fit old right i account did.own done.commands (with_more account done.commands done.clock 0) refl)
         (deed_sorted i (0 + length account.log) account.clock done.commands)
-        (all.move i (0 + length account.log) (epoch_in host old) account.clock s (seats_at old s).contents done
-        (move_ready mirrors host fit old right i account s done did) (did.turned ∙ omega arith) did.did)
+        (all.move i (0 + length account.log) is_ready.epoch account.clock s (seats_at old s).contents done is_ready.ready is_ready.turned did.did)
         was)
-    progress_followed new (advances_one i account did is) was =
+      where
+        is_ready : IsMoveReady mirrors host fit old right i account s
+        is_ready = move_ready mirrors host fit old right i account s moved done did
+    progress_followed new (advances_one i account closing did is) was =
         subst AreFollowed (sym is)
         (λ x. same_followed followed Told Kept x (all_from host 0 old.accounts)
         (all_from host 0 (set old.accounts i (with_more account (NextEpoch ∷ []) (next_clock account.clock) 0)))
@@ -360,6 +363,8 @@ module _ {X C R : Type 0} (followed : Followed X C) (Told : X → List Event →
         (λ x. same_followed followed Told Kept x (all_from host 0 old.accounts) (all_from host 0 old.accounts)
         (contents_in followed Told Kept old.shards) (contents_in followed Told Kept (map (λ shard. unmoved shard.contents) old.shards)) refl
         (λ s home. opened_same old.shards s) (was x))
+    progress_followed new (raises_newest i account did is) was = subst AreFollowed (sym is) was
+    progress_followed new (finishes_one i account did is) was = subst AreFollowed (sym is) was
 
   -- ---- the setup
 

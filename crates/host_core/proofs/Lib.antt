@@ -4,10 +4,14 @@ pub mod EventLaws
 mod CountLemmas
 mod Books
 mod AccountLemmas
+mod ScriptLemmas
+mod Right
+mod WaitingLemmas
+mod ReadyLemmas
 mod RightLemmas
+mod BehindLemmas
 mod EvenLemmas
 mod PermutedLemmas
-mod ScriptLemmas
 mod PromiseLemmas
 pub mod CoreLaws
 mod LastLemmas

@@ -1,395 +1,417 @@
--- What holds of the books behind every list of enabled events: each account is right, each shard mirrors, and no clock is
--- more than one epoch past a pending element.
-use Rattle.std.proofs.Common.{◌≡◌, ◌⊎◌, ℕ, zero, suc, ◌+◌, ◌-◌, ◌<◌, ◌≤◌, Bool, true, false, List, [], ◌∷◌, ◌++◌, map, length, take, get_or, set, replicate, refl, sym, ◌∙◌, ap, subst, inl, inr, if◌then◌else◌, true≢false, arith}
-use Rattle.std.specs.List.{flat_map, AllByRecursion}
-use Rattle.std.proofs.lemmas.Grind.{flat_map-append}
-use Rattle.std.proofs.lemmas.List.{length-map, length-set, length-replicate}
-use Rattle.stamp_order.proofs.InOrderLaws.{every-append}
-use Rattle.lamport_clocks.specs.Reading.{Reading}
+-- Each event leaves the books right.
+use Rattle.std.proofs.Common.{◌≡◌, ◌⊎◌, ℕ, suc, ◌+◌, ◌<◌, ◌≤◌, ◌%◌, max, Bool, true, false, List, [], ◌∷◌, map, length, get_or, set, refl, sym, ◌∙◌, ap, subst, inl, inr, if◌then◌else◌, true≢false, arith}
+use Rattle.std.specs.List.{AllByRecursion}
+use Rattle.std.proofs.lemmas.Bool.{cases_eq, cond-true, cond-false}
+use Rattle.std.proofs.lemmas.List.{length-map, length-set, get_or-set_same, get_or-set_other}
+use Rattle.stamp_order.proofs.InOrderLaws.{every-weaker}
 use Rattle.log_codec.specs.declared.command.Command.TheVariants.{NextEpoch}
-use Rattle.soundness.specs.StateHistory.{refusal_from, events_from}
-use Rattle.host_core.specs.Accepted.{state_from}
-use Rattle.soundness.specs.Certified.{sealed_count}
-use Rattle.host_core.specs.Host.{Host, Done, script_of}
-use Rattle.host_core.specs.World.{Worker, Seats, World, unmoved, fresh, set_up}
-use Rattle.host_core.specs.WorldEvent.{WorldEvent, next_clock, step, AreEnabled, run_events}
-use Rattle.host_core.specs.Deeds.{answers_in, pending_of, IsStamped, AreStamped, IsReady, ServeFits, MoveFits, IsFit}
-use Rattle.host_core.proofs.Books.{every-set, get_or-mapped, Account, account_of, Books, books_of, seats_at, with_more, account_at, epoch_in, served_books, moved_books, advanced_books, opened_books, AreMoved, IsOwn, DidServe, DidMove, DidAdvance, DidOpen, Progress, stays, serves_one, moves_one, advances_one, opens_next, progress}
-use Rattle.host_core.proofs.AccountLemmas.{IsRightAccount, told, deed_more, more_right, asks_next, asks_none, advance_more}
+use Rattle.host_core.specs.Host.{Host, Done}
+use Rattle.host_core.specs.World.{Seats, unmoved, fresh}
+use Rattle.host_core.specs.WorldEvent.{next_clock}
+use Rattle.host_core.specs.Deeds.{pending_of, IsStamped, AreStamped, ServeFits, MoveFits, IsFit}
+use Rattle.host_core.proofs.Books.{every-set, every-set-in, get_or-mapped, Account, account_of, Books, seats_at, with_more, account_at, epoch_in, scanned_in, served_books, moved_books, advanced_books, opened_books, raised_books, finished_books, AreMoved, AreSettled, IsOwn, DidServe, InClose, InScan, DidMove, InTurn, InEntry, DidAdvance, DidOpen, DidRaise, DidFinish, Progress, stays, serves_one, moves_one, advances_one, opens_next, raises_newest, finishes_one}
+use Rattle.host_core.proofs.ScriptLemmas.{IsLeft, progress_left}
+use Rattle.host_core.proofs.AccountLemmas.{IsRightAccount, deed_more, more_right, asks_next, asks_none, advance_more}
+use Rattle.host_core.proofs.Right.{epoch_at, IsRoundClock, low_in, top_in, IsWaiting, IsInside, AreNotPast, IsClosing, IsRight}
+use Rattle.host_core.proofs.WaitingLemmas.{every-front, waits-set, both-all}
+use Rattle.host_core.proofs.ReadyLemmas.{own_right, some_account, owner_there, round_clock, serves_from, serve_fits, move_fits}
 
--- what holds of each of two lists joined, holds of each of the first and of each of the second
-module _ {X : Type 0} (P : X → Type 0) where
-  pub every-front : (xs ys : List X) → AllByRecursion P (xs ++ ys) → AllByRecursion P xs
-  every-front [] ys all = tt
-  every-front (x ∷ xs) ys all = (all.0, every-front xs ys all.1)
+module _ {C R : Type 0} (mirrors : ℕ → List C → Type 0) (host : Host C R) (fit : IsFit mirrors host) (old : Books C) (right : IsRight mirrors host old) where
+  -- an account that has done more, with the others
+  grown_right : (i : ℕ) (account next : Account) → IsRightAccount host i next
+      → (j : ℕ) → j < length (set old.accounts i next) → IsRightAccount host j (get_or (set old.accounts i next) j (account_of (fresh host.header)))
+  grown_right i account next new =
+      every-set (IsRightAccount host) old.accounts i next (account_of (fresh host.header)) right.each new
 
-  pub every-back : (xs ys : List X) → AllByRecursion P (xs ++ ys) → AllByRecursion P ys
-  every-back [] ys all = all
-  every-back (x ∷ xs) ys all = every-back xs ys all.1
+  -- a shard with other contents, with the others
+  grown_mirrored : (s : ℕ) (contents : List C) (moved : Bool) → mirrors s contents
+      → (t : ℕ) → t < length (set old.shards s (record { contents = contents; moved = moved })) → mirrors t (get_or (set old.shards s (record { contents = contents; moved = moved })) t (unmoved [])).contents
+  grown_mirrored s contents moved new =
+      every-set (λ t seats. mirrors t seats.contents) old.shards s (record { contents = contents; moved = moved }) (unmoved []) right.mirrored new
 
--- the epoch of the pending elements of a shard, moved or not
-abbrev pub epoch_at : ℕ → Bool → ℕ
-epoch_at epoch moved = if moved then suc epoch else epoch
+  -- within a round, a worker that logged more in its epoch, at one shard of which all that waits is of that epoch or as before
+  inside_after : IsInside host old → (i : ℕ) (account : Account) → IsOwn host old i account → (next : Account) → next.clock.at.epoch ≡ account.clock.at.epoch
+      → (s : ℕ) (contents : List C)
+      → AllByRecursion (IsWaiting host (low_in host old (s % length old.accounts)) (top_in host old)) (pending_of host contents)
+      → IsInside host (record old { accounts = set old.accounts i next; shards = set old.shards s (record (seats_at old s) { contents = contents }) })
+  inside_after inside i account own next same s contents waits = record {
+    within = inside.within;
+    clocks = every-set (λ j a. IsRoundClock host.header.first (low_in host old j) (top_in host old) a.clock.at.epoch) old.accounts i next (account_of (fresh host.header))
+        inside.clocks
+        (subst (IsRoundClock host.header.first (low_in host old i) (top_in host old)) (sym same) (round_clock mirrors host fit old right inside i account own));
+    waits = λ t within.
+        subst (λ (n : ℕ). AllByRecursion (IsWaiting host (low_in host old (t % n)) (top_in host old))
+        (pending_of host (get_or (set old.shards s (record (seats_at old s) { contents = contents })) t (unmoved [])).contents)) (sym (length-set old.accounts i next))
+        (every-set (λ t seats. AllByRecursion (IsWaiting host (low_in host old (t % length old.accounts)) (top_in host old)) (pending_of host seats.contents))
+        old.shards s (record (seats_at old s) { contents = contents }) (unmoved []) inside.waits waits t within);
+    still = every-set-in (λ t seats. seats.moved ≡ false) old.shards s (record (seats_at old s) { contents = contents }) (unmoved []) inside.still (λ there. inside.still s there);
+  }
 
--- a clock in a phase or in the close behind it
-pub record IsRightClock (epoch : ℕ) (closing : Bool) (clock : Reading) : Type 0 where
-  pub from : epoch ≤ clock.at.epoch
-  pub within : clock.at.epoch ≤ epoch + 2
-  pub phase : closing ≡ false → clock.at.epoch ≡ epoch
-
-module _ {C R : Type 0} (mirrors : ℕ → List C → Type 0) (host : Host C R) where
-  -- a shard in a phase or in the close behind it
-  pub record IsRightShard (epoch : ℕ) (closing : Bool) (s : ℕ) (shard : Seats C) : Type 0 where
-    pub mirrored : mirrors s shard.contents
-    pub stamped : AreStamped host (epoch_at epoch shard.moved) shard.contents
-    pub still : closing ≡ false → shard.moved ≡ false
-
-  pub record IsRight (books : Books C) : Type 0 where
-    pub known : length books.accounts ≡ host.header.verifiers
-    pub each : (i : ℕ) → i < length books.accounts → IsRightAccount host i (account_at host books i)
-    pub clocks : (i : ℕ) → i < length books.accounts → IsRightClock (epoch_in host books) books.closing (account_at host books i).clock
-    pub shards : (s : ℕ) → s < length books.shards → IsRightShard (epoch_in host books) books.closing s (seats_at books s)
-    pub past : AreMoved host books
-        ⊎ ((i : ℕ) → i < length books.accounts → (account_at host books i).clock.at.epoch ≤ epoch_in host books + 1)
-
-  -- ---- stamped contents
-
-  stamped-set : (epoch : ℕ) (contents : List C) (seat : ℕ) (after : C) → AreStamped host epoch contents
-      → AllByRecursion (IsStamped host epoch) (host.pending after) → AreStamped host epoch (set contents seat after)
-  stamped-set epoch [] seat after all new = tt
-  stamped-set epoch (content ∷ contents) zero after all new =
-      every-append (IsStamped host epoch) (host.pending after) (pending_of host contents) new
-      (every-back (IsStamped host epoch) (host.pending content) (pending_of host contents) all)
-  stamped-set epoch (content ∷ contents) (suc seat) after all new =
-      every-append (IsStamped host epoch) (host.pending content) (pending_of host (set contents seat after))
-      (every-front (IsStamped host epoch) (host.pending content) (pending_of host contents) all)
-      (stamped-set epoch contents seat after
-      (every-back (IsStamped host epoch) (host.pending content) (pending_of host contents) all) new)
-
-  -- a shard's part of elements that are all stamped
-  stamped-part : (epoch : ℕ) (shards : List (List C)) (s : ℕ) → AreStamped host epoch (flat_map (λ contents. contents) shards)
-      → AreStamped host epoch (get_or shards s [])
-  stamped-part epoch [] s all = tt
-  stamped-part epoch (contents ∷ shards) s all = go s (λ s all. stamped-part epoch shards s all)
+  serve_right : (i : ℕ) (account : Account) (s seat : ℕ) (request : R) (done : Done C)
+      → DidServe host old i account s seat request done → IsRight mirrors host (served_books host old i account s seat done)
+  serve_right i account s seat request done did = record {
+    known = length-set old.accounts i next ∙ right.known;
+    marked = right.marked ∙ sym (length-set old.accounts i next);
+    each = grown_right i account next
+        (more_right host i account done.commands done.clock ((account.clock.at.epoch, host.telling request) ∷ []) 1
+        (own_right mirrors host fit old right i account did.own)
+        (deed_more host i account.clock done.commands done.clock _ _ _ fits.deed)
+        (asks_next host i account.served did.asked_for account.clock.at.epoch request did.next (did.begun, exact)));
+    left = progress_left host old (served_books host old i account s seat done) (serves_one i account s seat request done did refl) right.left;
+    last = right.last;
+    mirrored = grown_mirrored s (set (seats_at old s).contents seat done.after) (seats_at old s).moved fits.mirrored;
+    inside = λ phase. inside_after inside i account did.own next fits.deed.epoch s (set (seats_at old s).contents seat done.after)
+        (waits-set host (IsWaiting host (low_in host old (s % length old.accounts)) (top_in host old)) (seats_at old s).contents seat done.after (inside.waits s did.shard)
+        (every-weaker (IsStamped host done.clock.at.epoch) (IsWaiting host (low_in host old (s % length old.accounts)) (top_in host old))
+        (λ x stamped. (stamped.0, omega (arith, stamped.1, fits.deed.epoch, from), omega (arith, stamped.1, fits.deed.epoch, clock.up_to)))
+        (host.pending done.after) (every-front (IsStamped host done.clock.at.epoch) (host.pending done.after) [] fits.deed.stamped)));
+    closed = λ closing. absurd (true≢false (sym closing ∙ did.phase));
+  }
     where
-      rest : List C
-      rest = flat_map (λ contents. contents) shards
+      next : Account
+      next = with_more account done.commands done.clock 1
 
-      split : AllByRecursion (IsStamped host epoch) (pending_of host contents ++ pending_of host rest)
-      split = subst (AllByRecursion (IsStamped host epoch)) (flat_map-append host.pending contents rest) all
+      fits : ServeFits mirrors host i account.clock s seat (seats_at old s).contents request done
+      fits = serve_fits mirrors host fit old right i account s seat request done did
 
-      go : (s : ℕ) → ((s : ℕ) → AreStamped host epoch rest → AreStamped host epoch (get_or shards s []))
-          → AreStamped host epoch (get_or (contents ∷ shards) s [])
-      go zero further = every-front (IsStamped host epoch) (pending_of host contents) (pending_of host rest) split
-      go (suc s) further =
-          further s (every-back (IsStamped host epoch) (pending_of host contents) (pending_of host rest) split)
+      inside : IsInside host old
+      inside = right.inside did.phase
 
-  -- ---- each event leaves the books right
+      clock : IsRoundClock host.header.first (low_in host old i) (top_in host old) account.clock.at.epoch
+      clock = round_clock mirrors host fit old right inside i account did.own
 
-  module _ (fit : IsFit mirrors host) (old : Books C) (right : IsRight old) where
-    -- a worker's account and clock
-    pub own_right : (i : ℕ) (account : Account) → IsOwn host old i account → IsRightAccount host i account
-    own_right i account own = subst (IsRightAccount host i) own.is (right.each i own.there)
+      from : low_in host old (s % length old.accounts) ≤ account.clock.at.epoch
+      from = serves_from mirrors host fit old right i account s seat request done did
 
-    pub own_clock : (i : ℕ) (account : Account) → IsOwn host old i account → IsRightClock (epoch_in host old) old.closing account.clock
-    own_clock i account own =
-        subst (λ (a : Account). IsRightClock (epoch_in host old) old.closing a.clock) own.is (right.clocks i own.there)
+      exact : host.rolling ≡ false → account.clock.at.epoch ≡ host.header.first + did.asked_for
+      exact plain =
+          omega (
+            arith,
+            did.begun,
+            clock.up_to,
+            cond-false host.rolling old.newest (epoch_in host old) plain,
+            subst (IsLeft host old.phase i) did.own.is (right.left i did.own.there) plain (did.asked_for, request) did.next,
+          )
 
-    -- a worker at a shard
-    pub serve_ready : (i : ℕ) (account : Account) (s seat : ℕ) (request : R) (done : Done C)
-        → DidServe host old i account s seat request done
-        → IsReady mirrors host i account.clock account.clock.at.epoch s (seats_at old s).contents
-    serve_ready i account s seat request done did = record {
-      known = subst (λ (n : ℕ). i < n) right.known did.own.there;
-      is_clock = (own_right i account did.own).is_clock;
-      mirrored = (right.shards s did.shard).mirrored;
-      stamped = subst (λ (e : ℕ). AreStamped host e (seats_at old s).contents)
-          (ap (epoch_at (epoch_in host old)) ((right.shards s did.shard).still did.phase)
-          ∙ sym ((own_clock i account did.own).phase did.phase))
-          (right.shards s did.shard).stamped;
-    }
+  -- a moved or scanned shard
+  move_right : (i : ℕ) (account : Account) (s : ℕ) (moved : Bool) (done : Done (List C)) → DidMove host old i account s moved done
+      → IsRight mirrors host (moved_books host old i account s moved done)
+  move_right i account s moved done did = record {
+    known = length-set old.accounts i next ∙ right.known;
+    marked = right.marked ∙ sym (length-set old.accounts i next);
+    each = grown_right i account next
+        (more_right host i account done.commands done.clock [] 0 (own_right mirrors host fit old right i account did.own)
+        (deed_more host i account.clock done.commands done.clock _ _ _ fits.deed) (asks_none host i account.served));
+    left = progress_left host old (moved_books host old i account s moved done) (moves_one i account s moved done did refl) right.left;
+    last = right.last;
+    mirrored = grown_mirrored s done.after moved fits.mirrored;
+    inside = inside_new did.when;
+    closed = closed_new did.when;
+  }
+    where
+      next : Account
+      next = with_more account done.commands done.clock 0
 
-    pub serve_fits : (i : ℕ) (account : Account) (s seat : ℕ) (request : R) (done : Done C)
-        → DidServe host old i account s seat request done
-        → ServeFits mirrors host i account.clock s seat (seats_at old s).contents request done
-    serve_fits i account s seat request done did =
-        fit.serve i account.clock s seat (seats_at old s).contents request done
-        (serve_ready i account s seat request done did) did.inside did.owns did.did
+      fits : MoveFits mirrors host i account.clock s (seats_at old s).contents done
+      fits = move_fits mirrors host fit old right i account s moved done did
 
-    pub move_ready : (i : ℕ) (account : Account) (s : ℕ) (done : Done (List C)) → DidMove host old i account s done
-        → IsReady mirrors host i account.clock (epoch_in host old) s (seats_at old s).contents
-    move_ready i account s done did = record {
-      known = subst (λ (n : ℕ). i < n) right.known did.own.there;
-      is_clock = (own_right i account did.own).is_clock;
-      mirrored = (right.shards s did.shard).mirrored;
-      stamped = subst (λ (b : Bool). AreStamped host (epoch_at (epoch_in host old) b) (seats_at old s).contents) did.still
-          (right.shards s did.shard).stamped;
-    }
+      inside_new : InClose host old account s moved ⊎ InScan host old i account s moved → old.closing ≡ false → IsInside host (moved_books host old i account s moved done)
+      inside_new (inl close) phase = absurd (true≢false (sym close.closing ∙ phase))
+      inside_new (inr scan) phase =
+          subst (λ (b : Bool). IsInside host (moved_books host old i account s b done)) (sym scan.is)
+          (inside_after inside i account did.own next fits.deed.epoch s done.after
+          (every-weaker (IsStamped host done.clock.at.epoch) (IsWaiting host (low_in host old (s % length old.accounts)) (top_in host old))
+          (λ x stamped. (
+            stamped.0,
+            omega (arith, stamped.1, fits.deed.epoch, ap (low_in host old) scan.owner, clock.from),
+            omega (arith, stamped.1, fits.deed.epoch, clock.up_to),
+          ))
+          (pending_of host done.after) fits.deed.stamped))
+        where
+          inside : IsInside host old
+          inside = right.inside phase
 
-    pub move_fits : (i : ℕ) (account : Account) (s : ℕ) (done : Done (List C)) → DidMove host old i account s done
-        → MoveFits mirrors host i account.clock s (seats_at old s).contents done
-    move_fits i account s done did =
-        fit.move i (epoch_in host old) account.clock s (seats_at old s).contents done
-        (move_ready i account s done did) (did.turned ∙ omega arith) did.did
+          clock : IsRoundClock host.header.first (low_in host old i) (top_in host old) account.clock.at.epoch
+          clock = round_clock mirrors host fit old right inside i account did.own
 
-    -- all clocks of a phase are of its epoch
-    phase_past : (accounts : List Account) → old.closing ≡ false
-        → ((i : ℕ) → i < length accounts → IsRightClock (epoch_in host old) old.closing (get_or accounts i (account_of (fresh host.header))).clock)
-        → (i : ℕ) → i < length accounts → (get_or accounts i (account_of (fresh host.header))).clock.at.epoch ≤ epoch_in host old + 1
-    phase_past accounts phase all i within = omega (arith, (all i within).phase phase)
+      closed_new : InClose host old account s moved ⊎ InScan host old i account s moved → old.closing ≡ true → IsClosing host (moved_books host old i account s moved done)
+      closed_new (inr scan) closing = absurd (true≢false (sym closing ∙ scan.round.phase))
+      closed_new (inl close) closing = record {
+        clocks = every-set (λ j a. (epoch_in host old ≤ a.clock.at.epoch) × (a.clock.at.epoch ≤ epoch_in host old + 2)) old.accounts i next
+            (account_of (fresh host.header)) (right.closed closing).clocks
+            (omega (arith, fits.deed.epoch, close.turned), omega (arith, fits.deed.epoch, close.turned));
+        stamped = every-set (λ t seats. AreStamped host (epoch_at (epoch_in host old) seats.moved) seats.contents) old.shards s
+            (record { contents = done.after; moved = moved }) (unmoved []) (right.closed closing).stamped
+            (subst (λ (b : Bool). AreStamped host (epoch_at (epoch_in host old) b) done.after) (sym close.is)
+            (subst (λ (e : ℕ). AreStamped host e done.after) (fits.deed.epoch ∙ close.turned ∙ omega arith) fits.deed.stamped));
+        past = inr (every-set (λ j a. a.clock.at.epoch ≤ epoch_in host old + 1) old.accounts i next (account_of (fresh host.header))
+            (still_past (right.closed closing).past) (omega (arith, fits.deed.epoch, close.turned)));
+      }
+        where
+          -- the shard was not moved: all clocks are at most one epoch past the phase's
+          still_past : AreMoved host old ⊎ AreNotPast host old → AreNotPast host old
+          still_past (inl all) = absurd (true≢false (sym (all s did.shard) ∙ close.still))
+          still_past (inr past) = past
 
-    serve_right : (i : ℕ) (account : Account) (s seat : ℕ) (request : R) (done : Done C)
-        → DidServe host old i account s seat request done → IsRight (served_books host old i account s seat done)
-    serve_right i account s seat request done did = record {
-      known = length-set old.accounts i next ∙ right.known;
-      each = every-set (IsRightAccount host) old.accounts i next (account_of (fresh host.header)) right.each account_right;
-      clocks = clocks;
-      shards = every-set (IsRightShard (epoch_in host old) old.closing) old.shards s
-          (record (seats_at old s) { contents = set (seats_at old s).contents seat done.after }) (unmoved []) right.shards
-          (record {
-            mirrored = fits.mirrored;
-            stamped = stamped-set (epoch_at (epoch_in host old) (seats_at old s).moved) (seats_at old s).contents seat done.after
-                (right.shards s did.shard).stamped
-                (subst (λ (e : ℕ). AllByRecursion (IsStamped host e) (host.pending done.after)) epochs
-                (every-front (IsStamped host done.clock.at.epoch) (host.pending done.after) [] fits.deed.stamped));
-            still = (right.shards s did.shard).still;
-          });
-      past = inr (phase_past (set old.accounts i next) did.phase clocks);
-    }
-      where
-        next : Account
-        next = with_more account done.commands done.clock 1
+  -- where a phase or round is over, all shards are scanned in its epoch
+  low_at_end : (host.rolling ≡ true → AreSettled host old) → (j : ℕ) → j < length old.accounts → low_in host old j ≡ epoch_in host old
+  low_at_end settled j within = go host.rolling refl
+    where
+      go : (b : Bool) → host.rolling ≡ b → low_in host old j ≡ epoch_in host old
+      go true rolling = cond-true host.rolling (scanned_in host old j) (epoch_in host old) rolling ∙ (settled rolling j within).1
+      go false plain = cond-false host.rolling (scanned_in host old j) (epoch_in host old) plain
 
-        fits : ServeFits mirrors host i account.clock s seat (seats_at old s).contents request done
-        fits = serve_fits i account s seat request done did
+  advance_right : (i : ℕ) (account : Account) (closing : Bool) → DidAdvance host old i account closing → IsRight mirrors host (advanced_books host old i account closing)
+  advance_right i account closing did = record {
+    known = length-set old.accounts i next ∙ right.known;
+    marked = right.marked ∙ sym (length-set old.accounts i next);
+    each = grown_right i account next
+        (more_right host i account (NextEpoch ∷ []) (next_clock account.clock) [] 0 (own_right mirrors host fit old right i account did.own)
+        (advance_more host i account.clock (own_right mirrors host fit old right i account did.own).is_clock did.more) (asks_none host i account.served));
+    left = progress_left host old (advanced_books host old i account closing) (advances_one i account closing did refl) right.left;
+    last = right.last;
+    mirrored = right.mirrored;
+    inside = inside_new did.when;
+    closed = closed_new did.when;
+  }
+    where
+      next : Account
+      next = with_more account (NextEpoch ∷ []) (next_clock account.clock) 0
 
-        in_phase : account.clock.at.epoch ≡ epoch_in host old
-        in_phase = (own_clock i account did.own).phase did.phase
-
-        account_right : IsRightAccount host i next
-        account_right =
-            more_right host i account done.commands done.clock ((account.clock.at.epoch, host.telling request) ∷ []) 1
-            (own_right i account did.own)
-            (deed_more host i account.clock done.commands done.clock _ _ _ fits.deed)
-            (ap (λ (e : ℕ). take account.served (script_of host i) ++ (e, host.telling request) ∷ []) in_phase
-            ∙ asks_next host i account.served old.phase request did.next)
-
-        epochs : done.clock.at.epoch ≡ epoch_at (epoch_in host old) (seats_at old s).moved
-        epochs = fits.deed.epoch ∙ in_phase
-            ∙ sym (ap (epoch_at (epoch_in host old)) ((right.shards s did.shard).still did.phase))
-
-        clocks : (j : ℕ) → j < length (set old.accounts i next)
-            → IsRightClock (epoch_in host old) old.closing (get_or (set old.accounts i next) j (account_of (fresh host.header))).clock
-        clocks = every-set (λ j a. IsRightClock (epoch_in host old) old.closing a.clock) old.accounts i next
-            (account_of (fresh host.header)) right.clocks
+      inside_new : InTurn host old account closing ⊎ InEntry host old account closing → closing ≡ false → IsInside host (advanced_books host old i account closing)
+      inside_new (inl turn) phase = absurd (true≢false (sym turn.is ∙ phase))
+      inside_new (inr entry) phase = record {
+        within = inside.within;
+        clocks = every-set (λ j a. IsRoundClock host.header.first (low_in host old j) (top_in host old) a.clock.at.epoch) old.accounts i next (account_of (fresh host.header))
+            inside.clocks
             (record {
-              from = omega (arith, fits.deed.epoch, in_phase);
-              within = omega (arith, fits.deed.epoch, in_phase);
-              phase = λ phase. fits.deed.epoch ∙ in_phase;
-            })
+              from_first = clock.from_first;
+              from = omega (arith, clock.from);
+              up_to = omega (arith, entry.newer, cond-true host.rolling old.newest (epoch_in host old) entry.round.rolling);
+              near = clock.near;
+            });
+        waits = λ t within.
+            subst (λ (n : ℕ). AllByRecursion (IsWaiting host (low_in host old (t % n)) (top_in host old)) (pending_of host (seats_at old t).contents)) (sym (length-set old.accounts i next))
+            (inside.waits t within);
+        still = inside.still;
+      }
+        where
+          inside : IsInside host old
+          inside = right.inside entry.round.phase
 
-    -- a shard that is still not moved: all clocks are at most one epoch past the phase's
-    still_past : (s : ℕ) → s < length old.shards → (seats_at old s).moved ≡ false
-        → (i : ℕ) → i < length old.accounts → (account_at host old i).clock.at.epoch ≤ epoch_in host old + 1
-    still_past s there still = go right.past
-      where
-        go : AreMoved host old ⊎ ((i : ℕ) → i < length old.accounts → (account_at host old i).clock.at.epoch ≤ epoch_in host old + 1)
-            → (i : ℕ) → i < length old.accounts → (account_at host old i).clock.at.epoch ≤ epoch_in host old + 1
-        go (inl moved) = absurd (true≢false (sym (moved s there) ∙ still))
-        go (inr past) = past
+          clock : IsRoundClock host.header.first (low_in host old i) (top_in host old) account.clock.at.epoch
+          clock = round_clock mirrors host fit old right inside i account did.own
 
-    move_right : (i : ℕ) (account : Account) (s : ℕ) (done : Done (List C)) → DidMove host old i account s done
-        → IsRight (moved_books host old i account s done)
-    move_right i account s done did = record {
-      known = length-set old.accounts i next ∙ right.known;
-      each = every-set (IsRightAccount host) old.accounts i next (account_of (fresh host.header)) right.each
-          (more_right host i account done.commands done.clock [] 0 (own_right i account did.own)
-          (deed_more host i account.clock done.commands done.clock _ _ _ fits.deed) (asks_none host i account.served));
-      clocks = every-set (λ j a. IsRightClock (epoch_in host old) old.closing a.clock) old.accounts i next
-          (account_of (fresh host.header)) right.clocks
-          (record {
-            from = omega (arith, fits.deed.epoch, did.turned);
-            within = omega (arith, fits.deed.epoch, did.turned);
-            phase = λ phase. absurd (true≢false (sym did.closing ∙ phase));
-          });
-      shards = every-set (IsRightShard (epoch_in host old) old.closing) old.shards s
-          (record { contents = done.after; moved = true }) (unmoved []) right.shards
-          (record {
-            mirrored = fits.mirrored;
-            stamped = subst (λ (e : ℕ). AreStamped host e done.after) (fits.deed.epoch ∙ did.turned ∙ omega arith) fits.deed.stamped;
-            still = λ phase. absurd (true≢false (sym did.closing ∙ phase));
-          });
-      past = inr (every-set (λ j a. a.clock.at.epoch ≤ epoch_in host old + 1) old.accounts i next (account_of (fresh host.header))
-          (still_past s did.shard did.still) (omega (arith, fits.deed.epoch, did.turned)));
-    }
-      where
-        next : Account
-        next = with_more account done.commands done.clock 0
+      closed_new : InTurn host old account closing ⊎ InEntry host old account closing → closing ≡ true → IsClosing host (advanced_books host old i account closing)
+      closed_new (inr entry) closes = absurd (true≢false (sym closes ∙ entry.is))
+      closed_new (inl turn) closes = go old.closing refl
+        where
+          Closed : List Account → Type 0
+          Closed accounts = (j : ℕ) → j < length accounts → (epoch_in host old ≤ (get_or accounts j (account_of (fresh host.header))).clock.at.epoch)
+              × ((get_or accounts j (account_of (fresh host.header))).clock.at.epoch ≤ epoch_in host old + 2)
 
-        fits : MoveFits mirrors host i account.clock s (seats_at old s).contents done
-        fits = move_fits i account s done did
+          Past : List Account → Type 0
+          Past accounts = (j : ℕ) → j < length accounts → (get_or accounts j (account_of (fresh host.header))).clock.at.epoch ≤ epoch_in host old + 1
 
-    advance_right : (i : ℕ) (account : Account) → DidAdvance host old i account → IsRight (advanced_books host old i account)
-    advance_right i account did = record {
-      known = length-set old.accounts i next ∙ right.known;
-      each = every-set (IsRightAccount host) old.accounts i next (account_of (fresh host.header)) right.each
-          (more_right host i account (NextEpoch ∷ []) (next_clock account.clock) [] 0 (own_right i account did.own)
-          (advance_more host i account.clock (own_right i account did.own).is_clock did.more) (asks_none host i account.served));
-      clocks = every-set (λ j a. IsRightClock (epoch_in host old) true a.clock) old.accounts i next
-          (account_of (fresh host.header))
-          (λ j within. record {
-            from = (right.clocks j within).from;
-            within = (right.clocks j within).within;
-            phase = λ phase. absurd (true≢false phase);
-          })
-          (new_clock did.turns);
-      shards = λ s within. record {
-        mirrored = (right.shards s within).mirrored;
-        stamped = (right.shards s within).stamped;
-        still = λ phase. absurd (true≢false phase);
-      };
-      past = new_past did.turns right.past;
-    }
-      where
-        next : Account
-        next = with_more account (NextEpoch ∷ []) (next_clock account.clock) 0
+          new_clock : (account.clock.at.epoch ≡ epoch_in host old + 0) ⊎ ((account.clock.at.epoch ≡ epoch_in host old + 1) × AreMoved host old)
+              → (epoch_in host old ≤ account.clock.at.epoch + 1) × (account.clock.at.epoch + 1 ≤ epoch_in host old + 2)
+          new_clock (inl once) = (omega (arith, once), omega (arith, once))
+          new_clock (inr twice) = (omega (arith, twice.0), omega (arith, twice.0))
 
-        new_clock : (account.clock.at.epoch ≡ epoch_in host old + 0) ⊎ ((account.clock.at.epoch ≡ epoch_in host old + 1) × AreMoved host old)
-            → IsRightClock (epoch_in host old) true (next_clock account.clock)
-        new_clock (inl once) =
-            record { from = omega (arith, once); within = omega (arith, once); phase = λ phase. absurd (true≢false phase) }
-        new_clock (inr twice) =
-            record { from = omega (arith, twice.0); within = omega (arith, twice.0); phase = λ phase. absurd (true≢false phase) }
+          clocks : Closed old.accounts → Closed (set old.accounts i next)
+          clocks all = every-set (λ j a. (epoch_in host old ≤ a.clock.at.epoch) × (a.clock.at.epoch ≤ epoch_in host old + 2)) old.accounts i next
+              (account_of (fresh host.header)) all (new_clock turn.turns)
 
-        Past : List Account → Type 0
-        Past accounts = (j : ℕ) → j < length accounts → (get_or accounts j (account_of (fresh host.header))).clock.at.epoch ≤ epoch_in host old + 1
+          new_past : (account.clock.at.epoch ≡ epoch_in host old + 0) ⊎ ((account.clock.at.epoch ≡ epoch_in host old + 1) × AreMoved host old)
+              → AreMoved host old ⊎ Past old.accounts → AreMoved host old ⊎ Past (set old.accounts i next)
+          new_past turns (inl moved) = inl moved
+          new_past (inr twice) (inr past) = inl twice.1
+          new_past (inl once) (inr past) =
+              inr (every-set (λ j a. a.clock.at.epoch ≤ epoch_in host old + 1) old.accounts i next (account_of (fresh host.header))
+              past (omega (arith, once)))
 
-        new_past : (account.clock.at.epoch ≡ epoch_in host old + 0) ⊎ ((account.clock.at.epoch ≡ epoch_in host old + 1) × AreMoved host old)
-            → AreMoved host old ⊎ Past old.accounts → AreMoved host old ⊎ Past (set old.accounts i next)
-        new_past turns (inl moved) = inl moved
-        new_past (inr twice) (inr past) = inl twice.1
-        new_past (inl once) (inr past) =
-            inr (every-set (λ j a. a.clock.at.epoch ≤ epoch_in host old + 1) old.accounts i next (account_of (fresh host.header))
-            past (omega (arith, once)))
+          go : (b : Bool) → old.closing ≡ b → IsClosing host (advanced_books host old i account closing)
+          go true was = record {
+            clocks = clocks (right.closed was).clocks;
+            stamped = (right.closed was).stamped;
+            past = new_past turn.turns (right.closed was).past;
+          }
+          go false was = record {
+            clocks = clocks (λ j within. (
+              omega (arith, (inside.clocks j within).from, low j within),
+              omega (arith, (inside.clocks j within).up_to, inside.within),
+            ));
+            stamped = λ s within.
+                subst (λ (b : Bool). AreStamped host (epoch_at (epoch_in host old) b) (seats_at old s).contents) (sym (inside.still s within))
+                (every-weaker (IsWaiting host (low_in host old (s % length old.accounts)) (top_in host old)) (IsStamped host (epoch_in host old))
+                (λ x waits. (waits.0, omega (arith, waits.1, waits.2, inside.within, low (s % length old.accounts) (owner_there mirrors host fit old right s))))
+                (pending_of host (seats_at old s).contents) (inside.waits s within));
+            past = new_past turn.turns (inr (λ j within. omega (arith, (inside.clocks j within).up_to, inside.within)));
+          }
+            where
+              inside : IsInside host old
+              inside = right.inside was
 
-    open_right : DidOpen host old → IsRight (opened_books host old)
-    open_right did = record {
-      known = right.known;
-      each = right.each;
-      clocks = λ i within. record {
-        from = omega (arith, did.turned i within);
-        within = omega (arith, did.turned i within);
-        phase = λ phase. did.turned i within ∙ omega arith;
-      };
-      shards = λ s within. shard s (subst (λ (n : ℕ). s < n) (length-map old.shards (λ shard. unmoved shard.contents)) within);
-      past = inr (λ i within. omega (arith, did.turned i within));
-    }
-      where
-        shard : (s : ℕ) → s < length old.shards
-            → IsRightShard (host.header.first + suc old.phase) false s
-            (get_or (map (λ shard. unmoved shard.contents) old.shards) s (unmoved []))
-        shard s there =
-            subst (IsRightShard (host.header.first + suc old.phase) false s)
+              low : (j : ℕ) → j < length old.accounts → low_in host old j ≡ epoch_in host old
+              low = low_at_end turn.settled
+
+  open_right : DidOpen host old → IsRight mirrors host (opened_books host old)
+  open_right did = record {
+    known = right.known;
+    marked = right.marked;
+    each = right.each;
+    left = progress_left host old (opened_books host old) (opens_next did refl) right.left;
+    last = λ rolling. absurd (did.more (right.last rolling));
+    mirrored = λ s within.
+        subst (mirrors s) (sym (ap (λ (z : Seats C). z.contents) (get_or-mapped (λ (shard : Seats C). unmoved shard.contents) old.shards s (unmoved []))))
+        (right.mirrored s (there s within));
+    inside = λ phase. go host.rolling refl;
+    closed = λ closing. absurd (true≢false (sym closing));
+  }
+    where
+      there : (s : ℕ) → s < length (map (λ shard. unmoved shard.contents) old.shards) → s < length old.shards
+      there s within = subst (λ (n : ℕ). s < n) (length-map old.shards (λ shard. unmoved shard.contents)) within
+
+      closing : (b : Bool) → old.closing ≡ b → IsClosing host old
+      closing true is = right.closed is
+      closing false is = absurd (omega (arith, did.turned 0 (some_account mirrors host fit old right), ((right.inside is).clocks 0 (some_account mirrors host fit old right)).up_to, (right.inside is).within))
+
+      stamped : (s : ℕ) → s < length old.shards → AreStamped host (suc (epoch_in host old)) (seats_at old s).contents
+      stamped s within =
+          subst (λ (b : Bool). AreStamped host (epoch_at (epoch_in host old) b) (seats_at old s).contents) (did.moved s within)
+          ((closing old.closing refl).stamped s within)
+
+      go : (b : Bool) → host.rolling ≡ b → IsInside host (opened_books host old)
+      go true rolling = absurd (did.more (right.last rolling))
+      go false plain = record {
+        within = omega (arith, top);
+        clocks = λ i within. record {
+          from_first = omega (arith, low i);
+          from = omega (arith, low i, did.turned i within);
+          up_to = omega (arith, top, did.turned i within);
+          near = omega (arith, top, low i);
+        };
+        waits = λ s within.
+            subst (λ (z : Seats C). AllByRecursion (IsWaiting host (low_in host (opened_books host old) (s % length old.accounts)) (top_in host (opened_books host old))) (pending_of host z.contents))
             (sym (get_or-mapped (λ (shard : Seats C). unmoved shard.contents) old.shards s (unmoved [])))
-            (record {
-              mirrored = (right.shards s there).mirrored;
-              stamped = subst (λ (e : ℕ). AreStamped host e (seats_at old s).contents)
-                  (ap (epoch_at (epoch_in host old)) (did.moved s there) ∙ omega arith)
-                  (right.shards s there).stamped;
-              still = λ phase. refl;
-            })
+            (every-weaker (IsStamped host (suc (epoch_in host old)))
+            (IsWaiting host (low_in host (opened_books host old) (s % length old.accounts)) (top_in host (opened_books host old)))
+            (λ x is. (is.0, omega (arith, is.1, low (s % length old.accounts)), omega (arith, is.1, top)))
+            (pending_of host (seats_at old s).contents) (stamped s (there s within)));
+        still = λ s within. ap (λ (z : Seats C). z.moved) (get_or-mapped (λ (shard : Seats C). unmoved shard.contents) old.shards s (unmoved []));
+      }
+        where
+          top : top_in host (opened_books host old) ≡ host.header.first + suc old.phase
+          top = cond-false host.rolling old.newest (host.header.first + suc old.phase) plain
 
-    -- Each event leaves the books right.
-    pub progress_right : (new : Books C) → Progress host old new → IsRight new
-    progress_right new (stays is) = subst IsRight (sym is) right
-    progress_right new (serves_one i account s seat request done did is) =
-        subst IsRight (sym is) (serve_right i account s seat request done did)
-    progress_right new (moves_one i account s done did is) = subst IsRight (sym is) (move_right i account s done did)
-    progress_right new (advances_one i account did is) = subst IsRight (sym is) (advance_right i account did)
-    progress_right new (opens_next did is) = subst IsRight (sym is) (open_right did)
+          low : (j : ℕ) → low_in host (opened_books host old) j ≡ host.header.first + suc old.phase
+          low j = cond-false host.rolling (scanned_in host old j) (host.header.first + suc old.phase) plain
 
-  -- ---- the setup
-
-  -- the accounts behind the setup
-  abbrev pub opening_accounts : List Account
-  opening_accounts = (books_of (set_up host)).accounts
-
-  fresh_right : IsFit mirrors host → (i : ℕ) → IsRightAccount host (suc i) (account_of (fresh host.header))
-  unfolding state_from refusal_from events_from
-  fresh_right fit i = record {
-    typed = tt;
-    accepted = refl;
-    rests = fit.others (suc i) (omega arith);
-    is_clock = record { first = refl; end = refl; reading = record { within = omega arith; from_first = omega arith } };
-    answered = refl;
-    sealed = omega arith;
-  }
-
-  setup_right : IsFit mirrors host → IsRight (books_of (set_up host))
-  setup_right fit = record {
-    known = ap suc (length-map others account_of ∙ length-replicate (host.header.verifiers - 1) (fresh host.header)) ∙ omega (arith, fit.some);
-    each = each;
-    clocks = λ i within. clock i;
-    shards = λ s within. shard s (subst (λ (n : ℕ). s < n) (length-map host.setup.after unmoved) within);
-    past = inr (λ i within. omega (arith, (clock i).phase refl));
+  raise_right : (i : ℕ) (account : Account) → DidRaise host old i account → IsRight mirrors host (raised_books host old account)
+  raise_right i account did = record {
+    known = right.known;
+    marked = right.marked;
+    each = right.each;
+    left = right.left;
+    last = right.last;
+    mirrored = right.mirrored;
+    inside = λ phase. record {
+      within = omega (arith, top, top_old, inside.within, did.wanted);
+      clocks = λ j within. record {
+        from_first = (inside.clocks j within).from_first;
+        from = (inside.clocks j within).from;
+        up_to = omega (arith, top, top_old, (inside.clocks j within).up_to);
+        near = omega (
+          arith,
+          top,
+          top_old,
+          (inside.clocks j within).near,
+          did.scanned j within,
+          cond-true host.rolling (scanned_in host old j) (epoch_in host old) did.round.rolling,
+        );
+      };
+      waits = λ s within. every-weaker (IsWaiting host (low_in host old (s % length old.accounts)) (top_in host old))
+          (IsWaiting host (low_in host old (s % length old.accounts)) (top_in host (raised_books host old account)))
+          (λ x is. (is.0, is.1, omega (arith, is.2, top, top_old))) (pending_of host (seats_at old s).contents) (inside.waits s within);
+      still = inside.still;
+    };
+    closed = λ closing. absurd (true≢false (sym closing ∙ did.round.phase));
   }
     where
-      others : List Worker
-      others = replicate (host.header.verifiers - 1) (fresh host.header)
+      inside : IsInside host old
+      inside = right.inside did.round.phase
 
-      -- an account of another worker than the first is fresh
-      fresh_at : (n i : ℕ) → get_or (map account_of (replicate n (fresh host.header))) i (account_of (fresh host.header)) ≡ account_of (fresh host.header)
-      fresh_at zero i = refl
-      fresh_at (suc n) zero = refl
-      fresh_at (suc n) (suc i) = fresh_at n i
+      top_old : top_in host old ≡ old.newest
+      top_old = cond-true host.rolling old.newest (epoch_in host old) did.round.rolling
 
-      each : (i : ℕ) → i < length opening_accounts → IsRightAccount host i (get_or opening_accounts i (account_of (fresh host.header)))
-      each zero within = record {
-        typed = fit.setup.typed;
-        accepted = fit.setup.accepted;
-        rests = fit.setup.rests;
-        is_clock = fit.setup.is_clock;
-        answered = ap answers_in (told host 0 host.setup.commands) ∙ fit.setup.answered 0;
-        sealed = ap sealed_count (told host 0 host.setup.commands) ∙ fit.setup.unsealed 0 ∙ omega (arith, fit.setup.epoch);
-      }
-      each (suc i) within =
-          subst (IsRightAccount host (suc i)) (sym (fresh_at (host.header.verifiers - 1) i)) (fresh_right fit i)
+      top : top_in host (raised_books host old account) ≡ max old.newest (suc account.clock.at.epoch)
+      top = cond-true host.rolling (max old.newest (suc account.clock.at.epoch)) (epoch_in host old) did.round.rolling
 
-      clock : (i : ℕ) → IsRightClock (host.header.first + 0) false (get_or opening_accounts i (account_of (fresh host.header))).clock
-      clock zero = record {
-        from = omega (arith, fit.setup.epoch);
-        within = omega (arith, fit.setup.epoch);
-        phase = λ phase. fit.setup.epoch ∙ omega arith;
-      }
-      clock (suc i) =
-          subst (λ (a : Account). IsRightClock (host.header.first + 0) false a.clock) (sym (fresh_at (host.header.verifiers - 1) i))
-          (record { from = omega arith; within = omega arith; phase = λ phase. omega arith })
-
-      shard : (s : ℕ) → s < length host.setup.after
-          → IsRightShard (host.header.first + 0) false s (get_or (map unmoved host.setup.after) s (unmoved []))
-      shard s there =
-          subst (IsRightShard (host.header.first + 0) false s) (sym (get_or-mapped unmoved host.setup.after s []))
-          (record {
-            mirrored = fit.setup_mirrored s there;
-            stamped = stamped-part (host.header.first + 0) host.setup.after s
-                (subst (λ (e : ℕ). AreStamped host e (flat_map (λ contents. contents) host.setup.after)) (fit.setup.epoch ∙ omega arith) fit.setup.stamped);
-            still = λ phase. refl;
-          })
-
-  -- ---- behind every list of enabled events
-
-  -- Where P holds of the setup's books and each event keeps it, as long as the books are right, it holds behind all events.
-  pub behind : IsFit mirrors host → (P : Books C → Type 0) → P (books_of (set_up host))
-      → ((old new : Books C) → IsRight old → Progress host old new → P old → P new)
-      → (events : List (WorldEvent R)) → AreEnabled host (set_up host) events
-      → IsRight (books_of (run_events host (set_up host) events)) × P (books_of (run_events host (set_up host) events))
-  behind fit P first keeps events enabled = go (set_up host) events enabled (setup_right fit) first
+  finish_right : (i : ℕ) (account : Account) → DidFinish host old i account → IsRight mirrors host (finished_books host old i account)
+  finish_right i account did = record {
+    known = right.known;
+    marked = length-set old.scanned i account.clock.at.epoch ∙ right.marked;
+    each = right.each;
+    left = right.left;
+    last = right.last;
+    mirrored = right.mirrored;
+    inside = λ phase. record {
+      within = inside.within;
+      clocks = λ j within. go_clock j within (cases_eq j i);
+      waits = λ s within. go_waits s within (cases_eq (s % length old.accounts) i);
+      still = inside.still;
+    };
+    closed = λ closing. absurd (true≢false (sym closing ∙ did.round.phase));
+  }
     where
-      go : (world : World C) (events : List (WorldEvent R)) → AreEnabled host world events → IsRight (books_of world) → P (books_of world)
-          → IsRight (books_of (run_events host world events)) × P (books_of (run_events host world events))
-      go world [] enabled right holds = (right, holds)
-      go world (event ∷ events) enabled right holds =
-          let did = progress host world event enabled.0 in
-          go (step host world event) events enabled.1
-          (progress_right fit (books_of world) right (books_of (step host world event)) did)
-          (keeps (books_of world) (books_of (step host world event)) right did holds)
+      new : Books C
+      new = finished_books host old i account
+
+      inside : IsInside host old
+      inside = right.inside did.round.phase
+
+      clock : IsRoundClock host.header.first (low_in host old i) (top_in host old) account.clock.at.epoch
+      clock = round_clock mirrors host fit old right inside i account did.own
+
+      own_low : (j : ℕ) → j ≡ i → low_in host new j ≡ account.clock.at.epoch
+      own_low j same =
+          cond-true host.rolling (scanned_in host new j) (epoch_in host old) did.round.rolling
+          ∙ ap (λ (n : ℕ). scanned_in host new n) same
+          ∙ get_or-set_same old.scanned i account.clock.at.epoch host.header.first (subst (λ (n : ℕ). i < n) (sym right.marked) did.own.there)
+
+      other_low : (j : ℕ) → (j ≡ i → ⊥) → low_in host new j ≡ low_in host old j
+      other_low j apart =
+          ap (λ (n : ℕ). if host.rolling then n else epoch_in host old) (get_or-set_other old.scanned i j account.clock.at.epoch host.header.first apart)
+
+      go_clock : (j : ℕ) → j < length old.accounts → (j ≡ i) ⊎ (j ≡ i → ⊥)
+          → IsRoundClock host.header.first (low_in host new j) (top_in host old) (account_at host old j).clock.at.epoch
+      go_clock j within (inl same) = record {
+        from_first = omega (arith, own_low j same, clock.from, clock.from_first);
+        from = omega (arith, own_low j same, ap (λ (a : Account). a.clock.at.epoch) (ap (account_at host old) same ∙ did.own.is));
+        up_to = (inside.clocks j within).up_to;
+        near = omega (arith, own_low j same, clock.near, clock.from);
+      }
+      go_clock j within (inr apart) =
+          subst (λ (n : ℕ). IsRoundClock host.header.first n (top_in host old) (account_at host old j).clock.at.epoch) (sym (other_low j apart)) (inside.clocks j within)
+
+      go_waits : (s : ℕ) → s < length old.shards → (s % length old.accounts ≡ i) ⊎ (s % length old.accounts ≡ i → ⊥)
+          → AllByRecursion (IsWaiting host (low_in host new (s % length old.accounts)) (top_in host old)) (pending_of host (seats_at old s).contents)
+      go_waits s within (inl own) =
+          both-all (IsWaiting host (low_in host old (s % length old.accounts)) (top_in host old)) (λ x. account.clock.at.epoch ≤ x.stamp.epoch)
+          (IsWaiting host (low_in host new (s % length old.accounts)) (top_in host old))
+          (λ x is from. (is.0, omega (arith, own_low (s % length old.accounts) own, from), is.2)) (pending_of host (seats_at old s).contents)
+          (inside.waits s within) (did.reached s within own)
+      go_waits s within (inr apart) =
+          subst (λ (n : ℕ). AllByRecursion (IsWaiting host n (top_in host old)) (pending_of host (seats_at old s).contents))
+          (sym (other_low (s % length old.accounts) apart)) (inside.waits s within)
+
+  -- Each event leaves the books right.
+  pub progress_right : (new : Books C) → Progress host old new → IsRight mirrors host new
+  progress_right new (stays is) = subst (IsRight mirrors host) (sym is) right
+  progress_right new (serves_one i account s seat request done did is) =
+      subst (IsRight mirrors host) (sym is) (serve_right i account s seat request done did)
+  progress_right new (moves_one i account s moved done did is) = subst (IsRight mirrors host) (sym is) (move_right i account s moved done did)
+  progress_right new (advances_one i account closing did is) = subst (IsRight mirrors host) (sym is) (advance_right i account closing did)
+  progress_right new (opens_next did is) = subst (IsRight mirrors host) (sym is) (open_right did)
+  progress_right new (raises_newest i account did is) = subst (IsRight mirrors host) (sym is) (raise_right i account did)
+  progress_right new (finishes_one i account did is) = subst (IsRight mirrors host) (sym is) (finish_right i account did)

@@ -26,9 +26,12 @@ use Rattle.host_core.specs.WorldEvent.{next_clock, run_events}
 use Rattle.host_core.specs.Deeds.{request_of, answers_in, IsFit}
 use Rattle.host_core.specs.Core.{histories}
 use Rattle.host_core.specs.Storing.{Storing, operates, operating, IsStoringDeed, IsStoring, HoldsAnswered, HoldsCertified, HoldsWhereStoring}
-use Rattle.host_core.proofs.Books.{account_of, Books, books_of, with_more, epoch_in, histories_in, histories_are, Progress, stays, serves_one, moves_one, advances_one, opens_next}
+use Rattle.host_core.proofs.Books.{account_of, Books, books_of, with_more, epoch_in, histories_in, histories_are, Progress, stays, serves_one, moves_one, advances_one, opens_next, raises_newest, finishes_one}
 use Rattle.host_core.proofs.AccountLemmas.{told, events_at, advance_events}
-use Rattle.host_core.proofs.RightLemmas.{IsRight, own_clock, behind, serve_fits, move_fits, every-front, every-back}
+use Rattle.host_core.proofs.Right.{IsRight}
+use Rattle.host_core.proofs.WaitingLemmas.{every-front, every-back}
+use Rattle.host_core.proofs.ReadyLemmas.{round_clock, serve_fits, move_fits}
+use Rattle.host_core.proofs.BehindLemmas.{behind}
 use Rattle.host_core.proofs.EvenLemmas.{all_from, none_of}
 use Rattle.host_core.proofs.CoreLaws.{always_whole}
 use Rattle.host_core.proofs.FollowLemmas.{IsSplit, one-split, Followed, GoesOn, AllGoOn, AreFollowed, progress_followed, setup_followed}
@@ -263,20 +266,25 @@ module _ {C R : Type 0} (mirrors : ℕ → List C → Type 0) (storing : Storing
         (early_answers (epoch_in host old) (events_at host i (0 + length account.log) account.clock done.commands)
         (subst (AllByRecursion (λ (answer : ℕ × Request). answer.0 ≤ epoch_in host old))
         (sym ((serve_fits mirrors host fit old right i account s seat request done did).deed.answered (0 + length account.log)))
-        (omega (arith, in_phase), tt)))
+        (within, tt)))
         was)
       where
-        in_phase : account.clock.at.epoch ≡ epoch_in host old
-        in_phase = (own_clock mirrors host fit old right i account did.own).phase did.phase
-    progress_early new (moves_one i account s done did is) was =
+        within : account.clock.at.epoch ≤ epoch_in host old
+        within =
+            omega (
+              arith,
+              (round_clock mirrors host fit old right (right.inside did.phase) i account did.own).up_to,
+              (right.inside did.phase).within,
+            )
+    progress_early new (moves_one i account s moved done did is) was =
         subst AreEarly (sym is)
         (grown_early (epoch_in host old) (all_from host 0 old.accounts) _ (events_at host i (0 + length account.log) account.clock done.commands)
         (one-split mirrors host fit old right i account did.own done.commands (with_more account done.commands done.clock 0) refl)
         (early_answers (epoch_in host old) (events_at host i (0 + length account.log) account.clock done.commands)
         (subst (AllByRecursion (λ (answer : ℕ × Request). answer.0 ≤ epoch_in host old))
-        (sym ((move_fits mirrors host fit old right i account s done did).deed.answered (0 + length account.log))) tt))
+        (sym ((move_fits mirrors host fit old right i account s moved done did).deed.answered (0 + length account.log))) tt))
         was)
-    progress_early new (advances_one i account did is) was =
+    progress_early new (advances_one i account closing did is) was =
         subst AreEarly (sym is)
         (grown_early (epoch_in host old) (all_from host 0 old.accounts) _ (events_at host i (0 + length account.log) account.clock (NextEpoch ∷ []))
         (one-split mirrors host fit old right i account did.own (NextEpoch ∷ []) (with_more account (NextEpoch ∷ []) (next_clock account.clock) 0) refl)
@@ -286,15 +294,20 @@ module _ {C R : Type 0} (mirrors : ℕ → List C → Type 0) (storing : Storing
         subst AreEarly (sym is)
         (subst (λ (epoch : ℕ). AllByRecursion (IsEarly epoch) (all_from host 0 old.accounts)) {x = suc (epoch_in host old)} (omega arith)
         (early_still (epoch_in host old) (all_from host 0 old.accounts) was))
+    progress_early new (raises_newest i account did is) was = subst AreEarly (sym is) was
+    progress_early new (finishes_one i account did is) was = subst AreEarly (sym is) was
 
   setup_early : IsFit mirrors host → AreEarly (books_of (set_up host))
   setup_early fit =
-      every-append (IsEarly (host.header.first + 0)) setup (all_from host 1 (map account_of (replicate (host.header.verifiers - 1) (fresh host.header))))
-      (early_answers (host.header.first + 0) setup
-      (subst (AllByRecursion (λ (answer : ℕ × Request). answer.0 ≤ host.header.first + 0))
+      every-append (IsEarly epoch) setup (all_from host 1 (map account_of (replicate (host.header.verifiers - 1) (fresh host.header))))
+      (early_answers epoch setup
+      (subst (AllByRecursion (λ (answer : ℕ × Request). answer.0 ≤ epoch))
       (sym (ap answers_in (told host 0 host.setup.commands) ∙ fit.setup.answered 0)) tt))
-      (subst (AllByRecursion (IsEarly (host.header.first + 0))) (sym (none_of host (host.header.verifiers - 1) 1)) tt)
+      (subst (AllByRecursion (IsEarly epoch)) (sym (none_of host (host.header.verifiers - 1) 1)) tt)
     where
+      epoch : ℕ
+      epoch = epoch_in host (books_of (set_up host))
+
       setup : List Event
       setup = path_log_events (scheme host) host.header 0 host.setup.commands
 

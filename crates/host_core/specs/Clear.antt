@@ -23,7 +23,7 @@ use Rattle.soundness.specs.World.{changes_in, last_evicted_behind}
 use Rattle.host_core.specs.Host.{Done, Host, scheme, machinery, resting}
 use Rattle.host_core.specs.World.{World, set_up}
 use Rattle.host_core.specs.WorldEvent.{WorldEvent, AreEnabled, run_events}
-use Rattle.host_core.specs.Deeds.{IsReady, IsFit}
+use Rattle.host_core.specs.Deeds.{IsReady, IsReadyAt, IsFit}
 use Rattle.host_core.specs.Core.{histories}
 
 -- What a host keeps of its records: the shard below whose frontier a path lies; the value that a shard with these contents
@@ -86,7 +86,7 @@ module _ {C R : Type 0} (mirrors : ℕ → List C → Type 0) (keeping : Keeping
         → (touching_of host 0 (opening 0 host.header) host.setup.commands 0 path ≡ [])
         × (keeping.kept s (get_or host.setup.after s []) path ≡ None)
     pub serve : (i : ℕ) (clock : Reading) (s seat : ℕ) (contents : List C) (request : R) (done : Done C)
-        → IsReady mirrors host i clock clock.at.epoch s contents → seat < length contents → host.owns s contents seat request ≡ true
+        → IsReadyAt mirrors host i clock s seat contents → seat < length contents → host.owns s contents seat request ≡ true
         → host.serve i clock (get_or contents seat host.vacant) request ≡ Some done
         → IsClearDeed i (resting host i clock) done.commands s contents (set contents seat done.after)
     pub move : (i epoch : ℕ) (clock : Reading) (s : ℕ) (contents : List C) (done : Done (List C))

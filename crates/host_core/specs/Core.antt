@@ -1,5 +1,5 @@
 -- What holds of the world behind every list of enabled events.
-use Rattle.std.specs.Prelude.{◌≡◌, ℕ, suc, ◌+◌, ◌-◌, ◌<◌, ◌≤◌, Bool, true, false, List, ◌++◌, take, length}
+use Rattle.std.specs.Prelude.{◌≡◌, ◌↔◌, ℕ, suc, ◌+◌, ◌-◌, ◌<◌, ◌≤◌, ◌%◌, Bool, true, false, List, ◌++◌, take, length}
 use Rattle.std.specs.List.{flat_map}
 use Rattle.record_text.specs.declared.element.Element.{Element}
 use Rattle.verifier_commands.specs.State.{opening}
@@ -9,10 +9,10 @@ use Rattle.soundness.specs.Certified.{all_events, order_of, added_in, evicted_in
 use Rattle.soundness.specs.Timed.{added_among, evicted_among}
 use Rattle.soundness.specs.Permutation.{is_permutation}
 use Rattle.host_core.specs.Accepted.{state_from, IsAccepted}
-use Rattle.host_core.specs.Host.{Host, scheme, machinery, resting, script_of}
-use Rattle.host_core.specs.World.{World, worker_at, shard_at, logs_of, epoch_of, set_up}
-use Rattle.host_core.specs.WorldEvent.{WorldEvent, AllMoved, HasAdvanced, IsPhaseOver, AreEnabled, run_events}
-use Rattle.host_core.specs.Deeds.{answers_in, pending_of, AreStamped, IsFit}
+use Rattle.host_core.specs.Host.{Host, scheme, machinery, resting, asked, script_of}
+use Rattle.host_core.specs.World.{Place, World, worker_at, shard_at, scanned_at, logs_of, epoch_of, set_up}
+use Rattle.host_core.specs.WorldEvent.{WorldEvent, AreUpTo, AreFrom, IsPlace, AllMoved, HasAdvanced, IsNext, IsDue, IsPhaseOver, IsRoundOver, AreEnabled, run_events}
+use Rattle.host_core.specs.Deeds.{answers_in, pending_of, IsAnswering, AreStamped, IsFit}
 
 module _ {C R : Type 0} (host : Host C R) (world : World C) where
   -- the histories of all logs
@@ -36,6 +36,17 @@ module _ {C R : Type 0} (host : Host C R) (world : World C) where
       → let worker = worker_at host world i in
       answers_in (path_log_events (scheme host) host.header i worker.log) ≡ take worker.served (script_of host i)
 
+  -- the same of whatever host, each in time
+  abbrev pub AreAnsweredInTime : Type 0
+  AreAnsweredInTime = (i : ℕ) → i < length world.workers
+      → let worker = worker_at host world i in
+      IsAnswering host (answers_in (path_log_events (scheme host) host.header i worker.log)) (take worker.served (asked host i))
+
+  -- behind its round each worker of a rolling host has answered all that is asked of it
+  abbrev pub IsRoundDone : Type 0
+  IsRoundDone = world.closing ≡ true → (i : ℕ) → i < length world.workers
+      → IsAnswering host (answers_in (path_log_events (scheme host) host.header i (worker_at host world i).log)) (asked host i)
+
   -- all evicted elements together are a permutation of all added ones with the pending elements of all contents
   abbrev pub IsEven : Type 0
   IsEven =
@@ -47,6 +58,40 @@ module _ {C R : Type 0} (host : Host C R) (world : World C) where
       → ((i : ℕ) → i < length world.workers → (worker_at host world i).clock.at.epoch ≡ epoch_of host world)
       × ((s : ℕ) → s < length world.shards → AreStamped host (epoch_of host world) (shard_at world s).contents)
       × ((s : ℕ) → s < length world.shards → (shard_at world s).moved ≡ false)
+
+  -- in a phase of a host that is not rolling, a request is due at a place exactly where it is the worker's next of the phase
+  abbrev pub IsDueInPhase : Type 0
+  IsDueInPhase = world.closing ≡ false
+      → (i : ℕ) (place : Place) (request : R) → i < length world.workers → IsPlace world place
+      → (IsDue host world i place request ↔ IsNext host world i request)
+
+  -- In the round of a rolling host the newest epoch is not past that of the last phase, and at most one past what any worker has
+  -- scanned; a worker has scanned in no later epoch than its own, which is not past the newest; and what waits in a shard is from
+  -- what its owner has scanned up to the newest.
+  pub record IsBounded : Type 0 where
+    pub from_first : host.header.first ≤ world.newest
+    pub within : world.newest ≤ epoch_of host world
+    pub scanned : (i : ℕ) → i < length world.workers
+        → (world.newest ≤ suc (scanned_at host world i)) × (scanned_at host world i ≤ (worker_at host world i).clock.at.epoch)
+        × ((worker_at host world i).clock.at.epoch ≤ world.newest)
+    pub waits : (s : ℕ) → s < length world.shards
+        → AreFrom (scanned_at host world (s % length world.workers)) (pending_of host (shard_at world s).contents)
+        × AreUpTo world.newest (pending_of host (shard_at world s).contents)
+
+  -- So all clocks and all pending elements are of the newest epoch or of the one before.
+  pub record IsNearNewest : Type 0 where
+    pub clocks : (i : ℕ) → i < length world.workers
+        → (world.newest ≤ suc (worker_at host world i).clock.at.epoch) × ((worker_at host world i).clock.at.epoch ≤ world.newest)
+    pub waits : (s : ℕ) → s < length world.shards
+        → AreFrom (world.newest - 1) (pending_of host (shard_at world s).contents)
+        × AreUpTo world.newest (pending_of host (shard_at world s).contents)
+
+  abbrev pub IsInRound : Type 0
+  IsInRound = world.closing ≡ false → IsBounded × IsNearNewest
+
+  -- where a rolling host's round is over, each clock and each pending element is of the epoch of the last phase
+  abbrev pub IsLevelBehindRound : Type 0
+  IsLevelBehindRound = IsRoundOver host world → IsInPhase
 
   -- behind a whole close each pending element is of the new epoch
   abbrev pub IsBehindClose : Type 0

@@ -21,7 +21,8 @@ pub record Done (X : Type 0) : Type 0 where
 -- A host over contents of places and requests of any kind: its numbers, what each verifier caches between requests, the
 -- script, phase by phase, with the worker of each request, and what a worker does for the setup, for a request at a
 -- place and for a shard at a close. The last two are none where the clock would pass its end. `vacant` is the content of
--- a place with no record, `owns` whether a request is served at a seat of a shard with these contents.
+-- a place with no record, `owns` whether a request is served at a seat of a shard with these contents, and `rolling` whether
+-- the whole script is served in one round, in which workers go on to the next epoch without waiting for a phase's end.
 pub record Host (Content Ask : Type 0) : Type 0 where
   pub functions : DigestFunctions
   pub header : Header
@@ -31,6 +32,7 @@ pub record Host (Content Ask : Type 0) : Type 0 where
   pub owns : ℕ → List Content → ℕ → Ask → Bool
   pub telling : Ask → Request
   pub script : List (List (ℕ × Ask))
+  pub rolling : Bool
   pub setup : Done (List (List Content))
   pub serve : ℕ → Reading → Content → Ask → Option (Done Content)
   pub move : ℕ → Reading → ℕ → List Content → Option (Done (List Content))

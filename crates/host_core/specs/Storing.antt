@@ -17,7 +17,7 @@ use Rattle.soundness.specs.World.{Stored, stored_behind}
 use Rattle.host_core.specs.Host.{Done, Host, scheme, machinery, resting}
 use Rattle.host_core.specs.World.{World, shard_at, set_up}
 use Rattle.host_core.specs.WorldEvent.{WorldEvent, HasAdvanced, AreEnabled, run_events}
-use Rattle.host_core.specs.Deeds.{IsReady, IsFit}
+use Rattle.host_core.specs.Deeds.{IsReady, IsReadyAt, IsFit}
 use Rattle.host_core.specs.Core.{histories}
 use Rattle.host_core.specs.Clear.{IsNotAfter}
 
@@ -64,7 +64,7 @@ module _ {C R : Type 0} (mirrors : ℕ → List C → Type 0) (storing : Storing
   pub record IsStoring : Type 0 where
     pub setup_none : (key s : ℕ) → storing.home key ≡ Some s → storing.held (get_or host.setup.after s []) key ≡ None
     pub serve : (i : ℕ) (clock : Reading) (s seat : ℕ) (contents : List C) (request : R) (done : Done C)
-        → IsReady mirrors host i clock clock.at.epoch s contents → seat < length contents → host.owns s contents seat request ≡ true
+        → IsReadyAt mirrors host i clock s seat contents → seat < length contents → host.owns s contents seat request ≡ true
         → host.serve i clock (get_or contents seat host.vacant) request ≡ Some done
         → IsStoringDeed i (resting host i clock) done.commands s contents (set contents seat done.after)
     pub move : (i epoch : ℕ) (clock : Reading) (s : ℕ) (contents : List C) (done : Done (List C))

@@ -1,13 +1,13 @@
 //! What holds of a host's world behind every list of events that are enabled from the setup on, whatever the script, the
 //! workers, the shards and the numbers of the host. These functions do nothing: their contracts are the laws. What they
 //! take of the host is `IsFit` of `specs/Deeds.antt`.
-ghost use Rattle.std.specs.Prelude.{◌≡◌, List, ◌++◌};
+ghost use Rattle.std.specs.Prelude.{◌≡◌, true, false, List, ◌++◌};
 ghost use Rattle.host_core.specs.Host.{Host};
 ghost use Rattle.host_core.specs.World.{World};
 ghost use Rattle.host_core.specs.WorldEvent.{WorldEvent, AreEnabled, run_events};
 ghost use Rattle.host_core.specs.Clear.{HoldsIfClear, HasNothingToShow, IsServedSerially};
 ghost use Rattle.host_core.specs.Storing.{HoldsIfStoring, HoldsAnswered, HoldsCertified};
-ghost use Rattle.host_core.specs.Core.{HoldsAlways, AreAccepted, AreAnswered, IsDone, IsEven, IsInPhase, IsBehindClose, AreSealed, SealedArePermuted, AllCertified, IsWhole};
+ghost use Rattle.host_core.specs.Core.{HoldsAlways, AreAccepted, AreAnswered, AreAnsweredInTime, IsDone, IsRoundDone, IsEven, IsInPhase, IsDueInPhase, IsInRound, IsLevelBehindRound, IsBehindClose, AreSealed, SealedArePermuted, AllCertified, IsWhole};
 
 /// Events that are enabled behind others are enabled with them, and lead where both lead, one behind the other.
 pub fn events_go_on<C, R>()
@@ -22,11 +22,14 @@ pub fn logs_are_accepted<C, R>()
     ensures accepted { (host : Host C R) → HoldsAlways host (AreAccepted host) }
 {}
 
-/// What a log answers is the front of what the script asks of its worker, each request of a phase in the phase's epoch.
-/// Where the last phase is over and no clock ended, it is all that is asked.
+/// What a log answers is the front of what the script asks of its worker, each request of a phase in the phase's epoch, and
+/// in a rolling host in that or a later one. Where the last phase is over and no clock ended, it is all that is asked, and
+/// so it is behind a round.
 pub fn answers_follow_the_script<C, R>()
-    ensures front { (host : Host C R) → HoldsAlways host (AreAnswered host) }
-    ensures whole { (host : Host C R) → HoldsAlways host (IsDone host) }
+    ensures front { (host : Host C R) → host.rolling ≡ false → HoldsAlways host (AreAnswered host) }
+    ensures whole { (host : Host C R) → host.rolling ≡ false → HoldsAlways host (IsDone host) }
+    ensures in_time { (host : Host C R) → HoldsAlways host (AreAnsweredInTime host) }
+    ensures round { (host : Host C R) → host.rolling ≡ true → HoldsAlways host (IsRoundDone host) }
 {}
 
 /// All evicted elements together are a permutation of all added ones with the pending elements of all contents.
@@ -34,10 +37,14 @@ pub fn evicted_elements_are_added_or_wait<C, R>()
     ensures even { (host : Host C R) → HoldsAlways host (IsEven host) }
 {}
 
-/// In a phase each clock and each pending element is of the phase's epoch, and no shard is moved; behind a whole close
-/// each pending element is of the next epoch.
+/// In a phase each clock and each pending element is of the phase's epoch, no shard is moved, and what may be served is the
+/// worker's next request of the phase. In the round of a rolling host they are of the newest epoch or of the one before, and
+/// where the round is over they are of the last phase's. Behind a whole close each pending element is of the next epoch.
 pub fn pending_elements_are_of_the_epoch<C, R>()
-    ensures phase { (host : Host C R) → HoldsAlways host (IsInPhase host) }
+    ensures phase { (host : Host C R) → host.rolling ≡ false → HoldsAlways host (IsInPhase host) }
+    ensures due { (host : Host C R) → host.rolling ≡ false → HoldsAlways host (IsDueInPhase host) }
+    ensures round { (host : Host C R) → host.rolling ≡ true → HoldsAlways host (IsInRound host) }
+    ensures level { (host : Host C R) → HoldsAlways host (IsLevelBehindRound host) }
     ensures close { (host : Host C R) → HoldsAlways host (IsBehindClose host) }
 {}
 

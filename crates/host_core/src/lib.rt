@@ -7,6 +7,10 @@
 //! enabled events that each log is accepted, answers what the script asks, and that each epoch that all have sealed is
 //! certified. Where each operation is done where its key's value is held (`IsStoring`), the contents hold the plain map.
 //!
+//! A rolling host serves all phases in one round, in which no worker waits for a phase's end: once each has scanned its shards
+//! in an epoch, so that nothing waits there in an earlier one, all may go on to the next. It is the same machine, and the same
+//! laws hold, but that an answer may come in a later epoch than its phase's.
+//!
 //! The crate stands on `soundness`, whose histories it speaks of; it has no code to run. Begin with `laws.rt`, then read
 //! `specs/` in the order of its `Lib.antt`.
 #![tactic(auto)]

@@ -1,10 +1,11 @@
 -- A request that is served at a shard: its access is done where the key's value is held.
-use Rattle.std.proofs.Common.{◌≡◌, ℕ, ◌^◌, ◌<◌, Bool, List, [], ◌∷◌, get_or, set, Option, Some, None, sym, ◌∙◌, ap, subst}
+use Rattle.std.proofs.Common.{◌≡◌, ℕ, ◌^◌, ◌<◌, Bool, true, List, [], ◌∷◌, get_or, set, Option, Some, None, sym, ◌∙◌, ap, subst}
 use Rattle.std.specs.List.{AllByRecursion}
 use Rattle.tree_keys.specs.Path.{key_bits}
 use Rattle.lamport_clocks.specs.declared.stamp.Stamp.{Stamp}
 use Rattle.lamport_clocks.specs.Stamp.{IsLater}
 use Rattle.lamport_clocks.specs.Reading.{Reading}
+use Rattle.lamport_clocks.specs.Clock.{is_open}
 use Rattle.record_text.specs.declared.request.Request.{Request}
 use Rattle.record_text.specs.Longest.{longest_of}
 use Rattle.record_text.specs.Tree.{wide_of}
@@ -17,7 +18,7 @@ use Rattle.host_shard.specs.Content.{Content, cold, vacant, pending}
 use Rattle.host_shard.specs.Mirrors.{IsKeyOf}
 use Rattle.host_plan.specs.Plan.{Owns, AreLinks, value_found}
 use Rattle.host_core.specs.Host.{Done, scheme, resting}
-use Rattle.host_core.specs.Deeds.{IsStamped}
+use Rattle.host_core.specs.Deeds.{IsOpenElement}
 use Rattle.host_core.specs.Clear.{IsNotAfter}
 use Rattle.host_laws.specs.Running.{run}
 use Rattle.host_laws.specs.Served.{IsWithin, PlanRuns, access_for, waiting}
@@ -33,7 +34,7 @@ use Rattle.host_world.proofs.SeatLaws.{stage_at, stage_mirrors}
 use Rattle.host_fits.proofs.Keeping.{Setting, ranged}
 use Rattle.host_fits.proofs.PlaceLemmas.{shard_tree}
 use Rattle.host_fits.proofs.ClearLemmas.{not_after, renewing-rises}
-use Rattle.host_fits.proofs.ServeLemmas.{Serves, asked_so, open_now, there, small, stamped}
+use Rattle.host_fits.proofs.ServeLemmas.{Serves, asked_so, there, small, takes_in}
 use Rattle.host_fits.proofs.FitLemmas.{all-weaker, shard_plan, shard_left, shard_behind, shard_did}
 use Rattle.host_fits.proofs.AccessLemmas.{own_shard, OneAccess, since_cold, same_since}
 
@@ -72,15 +73,15 @@ module _ (setting : Setting) (worker : ℕ) (clock : Reading) (s : ℕ) (content
   in_tree : (key : ℕ) → key < 2 ^ key_bits (wide_of setting.settings.header) → key < 2 ^ key_bits (wide_in shard)
   in_tree key in_range = subst (λ (wide : Bool). key < 2 ^ key_bits wide) (sym tree) in_range
 
-  waits_now : shard.stamp.epoch ≡ clock.at.epoch
-  waits_now = (subst (λ (cs : List Content). AllByRecursion (IsStamped (ranged setting) clock.at.epoch) (waiting (pending (get_or cs 0 vacant)))) seats.is
-      (stamped setting worker clock s 0 contents request found serves)).0.1
+  opens_now : is_open clock shard.stamp.epoch ≡ true
+  opens_now = (subst (λ (cs : List Content). AllByRecursion (IsOpenElement (ranged setting) clock) (waiting (pending (get_or cs 0 vacant)))) seats.is
+      (takes_in setting worker clock s 0 contents request found serves)).0.1
 
   rises_there : (key : ℕ) → IsNotAfter (held_since (cold shard ∷ seats.places) key) (held_since (cold now ∷ seats.places) key)
   rises_there key = go (hot_record_of key seats.places)
     where
       go : (o : Option HotRecord) → IsNotAfter (stamp_or o shard.stamp) (stamp_or o now.stamp)
-      go None = renewing-rises clock shard.stamp (open_now clock shard.stamp.epoch waits_now)
+      go None = renewing-rises clock shard.stamp opens_now
       go (Some record') = same_since record'.stamp
 
   pub shard_access : OneAccess setting worker (resting (ranged setting) worker clock) (resting (ranged setting) worker found.clock) found.commands ran.told s

@@ -21,7 +21,7 @@ use Rattle.host_shard.specs.Content.{Content, cold, hot, vacant}
 use Rattle.host_plan.specs.Plan.{content_after}
 use Rattle.host_plan.specs.Request.{is_missed, served}
 use Rattle.host_core.specs.Host.{Done, scheme, resting}
-use Rattle.host_core.specs.Deeds.{IsReady, ServeFits}
+use Rattle.host_core.specs.Deeds.{IsReadyAt, ServeFits}
 use Rattle.host_core.specs.Clear.{IsNotAfter, IsKept, touching, IsClearDeed}
 use Rattle.host_laws.specs.Running.{Told, run, IsHistory}
 use Rattle.host_laws.specs.Carried.{carried, IsCarried}
@@ -183,7 +183,7 @@ module _ (setting : Setting) (worker : ℕ) (clock : Reading) (s : ℕ) (content
 
 -- What a worker serves at a place it owns.
 pub serve_any : (setting : Setting) (worker : ℕ) (clock : Reading) (s seat : ℕ) (contents : List Content) (request : Request) (found : Done Content)
-    → IsSetting setting → IsReady (PlacesMirror setting) (ranged setting) worker clock clock.at.epoch s contents
+    → IsSetting setting → IsReadyAt (PlacesMirror setting) (ranged setting) worker clock s seat contents
     → (ranged setting).owns s contents seat request ≡ true
     → (ranged setting).serve worker clock (get_or contents seat vacant) request ≡ Some found
     → BothFit setting worker clock s seat contents request found

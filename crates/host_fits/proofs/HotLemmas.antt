@@ -1,11 +1,12 @@
 -- A request that is served at a hot place: its access is done where the key's value is held.
-use Rattle.std.proofs.Common.{◌≡◌, ◌⊎◌, ℕ, suc, Bool, List, ◌∷◌, get_or, set, Option, Some, refl, sym, ◌∙◌, ap, subst, inl, inr}
+use Rattle.std.proofs.Common.{◌≡◌, ◌⊎◌, ℕ, suc, Bool, true, List, ◌∷◌, get_or, set, Option, Some, refl, sym, ◌∙◌, ap, subst, inl, inr}
 use Rattle.std.specs.List.{AllByRecursion}
 use Rattle.std.proofs.lemmas.Bool.{cases_eq}
 use Rattle.tree_keys.specs.Path.{key_path}
 use Rattle.lamport_clocks.specs.declared.stamp.Stamp.{Stamp}
 use Rattle.lamport_clocks.specs.Stamp.{IsLater}
 use Rattle.lamport_clocks.specs.Reading.{Reading}
+use Rattle.lamport_clocks.specs.Clock.{is_open}
 use Rattle.record_text.specs.declared.request.Request.{Request}
 use Rattle.record_text.specs.Longest.{longest_of}
 use Rattle.verifier_commands.specs.Change.{Change}
@@ -17,7 +18,7 @@ use Rattle.host_shard.specs.Mirrors.{IsKeyOf, HasKeyOf}
 use Rattle.host_plan.specs.Plan.{Owns, content_after, value_found}
 use Rattle.host_plan.specs.Request.{served_hot}
 use Rattle.host_core.specs.Host.{Done, scheme, resting}
-use Rattle.host_core.specs.Deeds.{IsStamped}
+use Rattle.host_core.specs.Deeds.{IsOpenElement}
 use Rattle.host_core.specs.Clear.{IsNotAfter}
 use Rattle.host_laws.specs.Served.{IsWithin, PlanRuns, waiting}
 use Rattle.protection_moves.specs.Stage.{hot_records}
@@ -34,7 +35,7 @@ use Rattle.host_world.proofs.PlaceLaws.{place_there}
 use Rattle.host_world.proofs.SeatLaws.{stage_at, stage_mirrors}
 use Rattle.host_fits.proofs.Keeping.{Setting, ranged}
 use Rattle.host_fits.proofs.ClearLemmas.{not_after, renewing-rises}
-use Rattle.host_fits.proofs.ServeLemmas.{Serves, asked_so, open_now, planned, runs, logged, there, small, stamped, accessed}
+use Rattle.host_fits.proofs.ServeLemmas.{Serves, asked_so, planned, runs, logged, there, small, takes_in, accessed}
 use Rattle.host_fits.proofs.FitLemmas.{all-weaker}
 use Rattle.host_fits.proofs.AccessLemmas.{own_shard, OneAccess, since_hot, same_since}
 
@@ -107,9 +108,9 @@ module _ (setting : Setting) (worker : ℕ) (clock : Reading) (s k : ℕ) (conte
   new_since = subst (λ (key : ℕ). held_since (cold seats.shard ∷ set places k (hot new)) key ≡ new.stamp) owner.2
       (since_hot old.key seats.shard (set places k (hot new)) new set_there.1)
 
-  waits_now : old.stamp.epoch ≡ clock.at.epoch
-  waits_now = (subst (λ (c : Content). AllByRecursion (IsStamped (ranged setting) clock.at.epoch) (waiting (pending c))) content_is
-      (stamped setting worker clock s (suc k) contents request found serves)).0.1
+  opens_now : is_open clock old.stamp.epoch ≡ true
+  opens_now = (subst (λ (c : Content). AllByRecursion (IsOpenElement (ranged setting) clock) (waiting (pending c))) content_is
+      (takes_in setting worker clock s (suc k) contents request found serves)).0.1
 
   within : AllByRecursion (λ (one : Stamp × Change). IsWithin (Some (pending_hot old)) (Some (pending_hot new)) one.0) ran.told
   within =
@@ -123,7 +124,7 @@ module _ (setting : Setting) (worker : ℕ) (clock : Reading) (s k : ℕ) (conte
       go (inl same) =
           subst (λ (j : ℕ). IsNotAfter (held_since (cold seats.shard ∷ places) j) (held_since (cold seats.shard ∷ set places k (hot new)) j)) (sym same)
           (subst (λ (at : Stamp). IsNotAfter at (held_since (cold seats.shard ∷ set places k (hot new)) request.key)) (sym old_since)
-          (subst (λ (at : Stamp). IsNotAfter old.stamp at) (sym new_since) (renewing-rises clock old.stamp (open_now clock old.stamp.epoch waits_now))))
+          (subst (λ (at : Stamp). IsNotAfter old.stamp at) (sym new_since) (renewing-rises clock old.stamp opens_now)))
       go (inr other) =
           subst (λ (o : Option HotRecord). IsNotAfter (held_since (cold seats.shard ∷ places) key) (stamp_or o seats.shard.stamp))
           (sym (others-set places k old new key owner.1 refl (λ same. other (same ∙ owner.2)))) (same_since (held_since (cold seats.shard ∷ places) key))

@@ -1,5 +1,5 @@
 -- What the shipped host keeps at the places of a shard, as the proofs speak of it.
-use Rattle.std.specs.Prelude.{◌≡◌, ℕ, ◌^◌, ◌<◌, ◌≤◌, ◌&&◌, nat_lt, Bool, List, [], ◌∷◌, length, take, IfSome, Option, Some, None, if◌then◌else◌, suc}
+use Rattle.std.specs.Prelude.{◌≡◌, ℕ, ◌^◌, ◌<◌, ◌≤◌, ◌&&◌, nat_lt, Bool, true, false, List, [], ◌∷◌, length, take, IfSome, Option, Some, None, if◌then◌else◌, suc}
 use Rattle.tree_keys.specs.Path.{key_bits, tree_of, IsIn, key_of, same_bit}
 use Rattle.lamport_clocks.specs.declared.stamp.Stamp.{Stamp}
 use Rattle.lamport_clocks.specs.Reading.{Reading}
@@ -21,22 +21,30 @@ use Rattle.host_world.specs.Seated.{SeatsMirror}
 use Rattle.host_world.specs.Settings.{frontier_bits}
 use Rattle.host_world.specs.ShippedHost.{is_place_of, shipped_host}
 
--- what a shipped host is given
+-- what a shipped host is given, and whether it is rolling
 pub record Setting : Type 0 where
   pub functions : DigestFunctions
   pub settings : Settings
   pub script : List (List Task)
+  pub rolling : Bool
 
 abbrev pub setting_of : DigestFunctions → Settings → List (List Task) → Setting
-setting_of functions settings script = record { functions = functions; settings = settings; script = script }
+setting_of functions settings script = record { functions = functions; settings = settings; script = script; rolling = false }
+
+abbrev pub rolling_setting_of : DigestFunctions → Settings → List (List Task) → Setting
+rolling_setting_of functions settings script = record (setting_of functions settings script) { rolling = true }
+
+-- the shipped host in its mode
+abbrev pub host_in : Setting → Host Content Request
+host_in setting = record (shipped_host setting.functions setting.settings setting.script) { rolling = setting.rolling }
 
 -- how many bits lead to its frontiers
 abbrev pub bits_in : Setting → ℕ
 bits_in setting = frontier_bits setting.settings.shards
 
--- the shipped host, where no seat owns a key that is out of range: no script asks for one
+-- the same, where no seat owns a key that is out of range: no script asks for one
 abbrev pub ranged : Setting → Host Content Request
-ranged setting = record (shipped_host setting.functions setting.settings setting.script) {
+ranged setting = record (host_in setting) {
   owns = λ s seats seat request.
       nat_lt request.key (2 ^ key_bits (wide_of setting.settings.header)) && is_place_of (longest_of setting.settings.header) seats seat request;
 }

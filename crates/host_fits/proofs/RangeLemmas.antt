@@ -1,28 +1,26 @@
 -- No script asks for a key that is out of range. So all events are as they are where no seat owns such a key.
-use Rattle.std.proofs.Common.{◌≡◌, ℕ, ◌^◌, Bool, List, [], ◌∷◌, refl, sym, ◌∙◌, ap, subst}
+use Rattle.std.proofs.Common.{◌≡◌, ℕ, ◌^◌, Bool, List, [], ◌∷◌, Option, inl, inr, refl, sym, ◌∙◌, ap, subst}
 use Rattle.std.specs.Prelude.{◌&&◌}
 use Rattle.std.proofs.lemmas.Bool.{lt-ltb}
 use Rattle.tree_keys.specs.Path.{key_bits}
-use Rattle.record_hash.specs.Functions.{DigestFunctions}
+use Rattle.lamport_clocks.specs.Reading.{Reading}
+use Rattle.record_text.specs.declared.element.Element.{Element}
 use Rattle.record_text.specs.declared.request.Request.{Request}
 use Rattle.record_text.specs.Tree.{wide_of}
-use Rattle.script_text.specs.declared.task.Task.{Task}
 use Rattle.host_shard.specs.Content.{Content}
 use Rattle.host_core.specs.Host.{Host}
 use Rattle.host_core.specs.World.{World, shard_at}
-use Rattle.host_core.specs.WorldEvent.{WorldEvent, takes, loses, serves, gives, advances, moves, opens, step, IsServing, IsEnabled, AreEnabled, run_events}
-use Rattle.host_world.specs.declared.settings.Settings.{Settings}
-use Rattle.host_world.specs.ShippedHost.{shipped_host}
+use Rattle.host_core.specs.WorldEvent.{WorldEvent, takes, loses, serves, gives, advances, moves, opens, raises, enters, scans, finishes, stops, step, IsServing, IsRolling, HasEnded, IsEnabled, AreEnabled, run_events}
 use Rattle.host_world.specs.Behind.{AreInRange}
 use Rattle.host_world.proofs.RangeLaws.{next_in_range}
-use Rattle.host_fits.proofs.Keeping.{setting_of, ranged}
+use Rattle.host_fits.proofs.Keeping.{Setting, host_in, ranged}
 
-module _ (functions : DigestFunctions) (settings : Settings) (script : List (List Task)) (keys : AreInRange settings.header script) where
+module _ (setting : Setting) (keys : AreInRange setting.settings.header setting.script) where
   abbrev host : Host Content Request
-  host = shipped_host functions settings script
+  host = host_in setting
 
   abbrev near : Host Content Request
-  near = ranged (setting_of functions settings script)
+  near = ranged setting
 
   -- ---- events
 
@@ -34,9 +32,28 @@ module _ (functions : DigestFunctions) (settings : Settings) (script : List (Lis
   step_same world (advances i) = refl
   step_same world (moves i s) = refl
   step_same world opens = refl
+  step_same world (raises i) = refl
+  step_same world (enters i) = refl
+  step_same world (scans i place) = refl
+  step_same world (finishes i) = refl
+  step_same world (stops i found) = refl
 
   serving : (world : World Content) (i : ℕ) → IsServing host world i → IsServing near world i
   serving world i is = record { going = is.going; phase = is.phase; there = is.there }
+
+  rolling : (world : World Content) (i : ℕ) → IsRolling host world i → IsRolling near world i
+  rolling world i is = record { serving = serving world i is.serving; rolling = is.rolling; running = is.running }
+
+  ended : (world : World Content) (clock : Reading) (found : Option Element) → HasEnded host world clock found → HasEnded near world clock found
+  ended world clock found (inl last) = inl last
+  ended world clock found (inr (inl past)) = inr (inl past)
+  ended world clock found (inr (inr at)) = inr (inr (record {
+    element = at.element;
+    is = at.is;
+    of_epoch = at.of_epoch;
+    had = record { there = at.had.there; come = at.had.come };
+    ends = at.ends;
+  }))
 
   enabled : (world : World Content) (event : WorldEvent Request) → IsEnabled host world event → IsEnabled near world event
   enabled world (takes i place) may = record {
@@ -51,11 +68,14 @@ module _ (functions : DigestFunctions) (settings : Settings) (script : List (Lis
     serving = serving world i may.serving;
     there = may.there;
     holds = may.holds;
-    next = may.next;
-    owns = ap (λ (b : Bool). b && host.owns place.shard (shard_at world place.shard).contents place.seat request) (lt-ltb request.key (2 ^ key_bits (wide_of settings.header)) (next_in_range functions settings script keys world i request may.next)) ∙ may.owns;
+    due = record { phase = may.due.phase; next = may.due.next; begun = may.due.begun; reached = may.due.reached };
+    owns = ap (λ (b : Bool). b && host.owns place.shard (shard_at world place.shard).contents place.seat request)
+        (lt-ltb request.key (2 ^ key_bits (wide_of setting.settings.header))
+        (next_in_range setting.functions setting.settings setting.script keys _ i may.due.phase request may.due.next))
+        ∙ may.owns;
   }
   enabled world (gives i place) may = record { serving = serving world i may.serving; holds = may.holds }
-  enabled world (advances i) may = record { going = may.going; there = may.there; through = may.through; turns = may.turns }
+  enabled world (advances i) may = record { going = may.going; there = may.there; through = may.through; settled = may.settled; turns = may.turns }
   enabled world (moves i s) may = record {
     going = may.going;
     closing = may.closing;
@@ -68,6 +88,20 @@ module _ (functions : DigestFunctions) (settings : Settings) (script : List (Lis
     in_order = may.in_order;
   }
   enabled world opens may = record { going = may.going; through = may.through; turned = may.turned; moved = may.moved; more = may.more }
+  enabled world (raises i) may = record { rolling = rolling world i may.rolling; wanted = may.wanted; more = may.more; scanned = may.scanned }
+  enabled world (enters i) may = record { rolling = rolling world i may.rolling; newer = may.newer; more = may.more }
+  enabled world (scans i place) may = record {
+    rolling = rolling world i may.rolling;
+    shard = may.shard;
+    first = may.first;
+    holds = may.holds;
+    own = may.own;
+    before = may.before;
+    turned = may.turned;
+    earlier = may.earlier;
+  }
+  enabled world (finishes i) may = record { rolling = rolling world i may.rolling; reached = may.reached }
+  enabled world (stops i found) may = record { rolling = rolling world i may.rolling; ended = ended world _ found may.ended }
 
   pub are_enabled : (world : World Content) (events : List (WorldEvent Request)) → AreEnabled host world events → AreEnabled near world events
   are_enabled world [] all = tt

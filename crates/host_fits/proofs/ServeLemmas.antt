@@ -3,7 +3,6 @@ use Rattle.std.proofs.Common.{◌≡◌, ◌⊎◌, ℕ, zero, suc, ◌^◌, ◌
 use Rattle.std.specs.Prelude.{◌==◌}
 use Rattle.std.specs.List.{AllByRecursion}
 use Rattle.std.proofs.lemmas.Bool.{ltb-true}
-use Rattle.std.proofs.lemmas.Bool.Decides.{nat_tests}
 use Rattle.soundness.specs.Typed.{IsPathTypedIn}
 use Rattle.tree_keys.specs.Path.{key_bits, root_of, IsIn, key_of}
 use Rattle.tree_keys.proofs.TreeLaws.{key_of-path}
@@ -25,12 +24,12 @@ use Rattle.verifier_commands.specs.Outcome.{blob_of}
 use Rattle.verifier_commands.specs.Transition.{Rules, is_root}
 use Rattle.soundness.specs.StateHistory.{rules_under}
 use Rattle.host_shard.specs.declared.link.Link.{Link}
-use Rattle.host_shard.specs.Shard.{Shard, pending_shard}
+use Rattle.host_shard.specs.Shard.{Shard}
 use Rattle.host_shard.specs.Content.{Content, cold, hot, vacant, wide_at, pending}
 use Rattle.host_plan.specs.Request.{value_after}
 use Rattle.host_plan.specs.Plan.{IsOpenAt, clock_after, content_after, value_found}
 use Rattle.host_core.specs.Host.{Done, scheme, resting}
-use Rattle.host_core.specs.Deeds.{IsStamped, IsClock, IsReady, IsDeed}
+use Rattle.host_core.specs.Deeds.{IsStamped, IsOpenElement, IsClock, IsReadyAt, IsDeed}
 use Rattle.host_core.specs.Clear.{IsNotAfter}
 use Rattle.host_laws.specs.Running.{Access, run, accesses_told}
 use Rattle.host_laws.specs.Served.{IsBare, CanTake, PlanRuns, access_for, waiting}
@@ -39,9 +38,8 @@ use Rattle.host_laws.proofs.RequestLaws.{plan_runs}
 use Rattle.host_laws.proofs.MirrorLaws.{mirrors_serve, plan_typed}
 use Rattle.protection_moves.specs.Stage.{hot_paths}
 use Rattle.host_world.specs.Planned.{IsPlanned}
-use Rattle.host_world.specs.Seated.{SeatsMirror, wide_among, waiting_at}
+use Rattle.host_world.specs.Seated.{SeatsMirror, wide_among}
 use Rattle.host_world.specs.ShippedHost.{is_place_of, told, resting_cache}
-use Rattle.host_world.proofs.PlaceLaws.{waits_there}
 use Rattle.host_world.proofs.PlannedLaws.{served_is_planned}
 use Rattle.host_world.proofs.SeatLaws.{tree_is, SeatServes, seat_serves, ServeKeeps, serve_keeps}
 use Rattle.host_fits.proofs.Keeping.{Setting, IsSetting, PlacesMirror, bits_in, served_at, ranged, frontier_in, front_of}
@@ -71,9 +69,6 @@ pub bare_at_rest : (setting : Setting) (worker : ℕ) → IsBare (resting_cache 
 bare_at_rest setting worker =
     bare_if (worker == 0) (new_entry (root_of (wide_of setting.settings.header)) (values.Node (set_up_root setting.functions.digest (wide_of setting.settings.header) (bits_in setting))) Root) refl
 
-pub open_now : (clock : Reading) (epoch : ℕ) → epoch ≡ clock.at.epoch → is_open clock epoch ≡ true
-open_now clock epoch same = grind (arith, nat_tests)
-
 -- what is said of all that waits is said of what does
 of_waiting : (P : Element → Type 0) (o : Option Element) (element : Element) → AllByRecursion P (waiting o) → o ≡ Some element → P element
 of_waiting P None element all is = absurd (none_is element is)
@@ -94,11 +89,11 @@ pub record FrontLeft (clock : Reading) (old new : List Content) : Type 0 where
   pub since : ((front_of new).epoch ≡ clock.at.epoch) ⊎ (front_of new ≡ front_of old)
 
 front_there : (absent : Bool) (digest : Digest) (worker : ℕ) (clock : Reading) (request : Request) (links : List Link) (shard : Shard) (places : List Content)
-    (seat : ℕ) (after : Content) → is_open clock shard.stamp.epoch ≡ true
+    (seat : ℕ) (after : Content) → (seat ≡ 0 → is_open clock shard.stamp.epoch ≡ true)
     → after ≡ content_after absent digest worker (get_or (cold shard ∷ places) seat vacant) links request clock
     → FrontLeft clock (cold shard ∷ places) (set (cold shard ∷ places) seat after)
 front_there absent digest worker clock request links shard places zero after open' is =
-    subst (λ (c : Content). FrontLeft clock (cold shard ∷ places) (c ∷ places)) (sym is) (record { frontier = refl; rises = renewing-rises clock shard.stamp open'; since = inl refl })
+    subst (λ (c : Content). FrontLeft clock (cold shard ∷ places) (c ∷ places)) (sym is) (record { frontier = refl; rises = renewing-rises clock shard.stamp (open' refl); since = inl refl })
 front_there absent digest worker clock request links shard places (suc k) after open' is =
     record { frontier = refl; rises = inr (refl, omega arith); since = inr refl }
 
@@ -107,7 +102,7 @@ front_there absent digest worker clock request links shard places (suc k) after 
 -- a worker that serves a request at its place
 pub record Serves (setting : Setting) (worker : ℕ) (clock : Reading) (s seat : ℕ) (contents : List Content) (request : Request) (found : Done Content) : Type 0 where
   pub settled : IsSetting setting
-  pub ready : IsReady (PlacesMirror setting) (ranged setting) worker clock clock.at.epoch s contents
+  pub ready : IsReadyAt (PlacesMirror setting) (ranged setting) worker clock s seat contents
   pub owns : (ranged setting).owns s contents seat request ≡ true
   pub is : (ranged setting).serve worker clock (get_or contents seat vacant) request ≡ Some found
 
@@ -160,12 +155,13 @@ module _ (setting : Setting) (worker : ℕ) (clock : Reading) (s seat : ℕ) (co
   counters : (clock_after content clock).at.counter ≤ clock.end
   counters = (done_within clock.end (clock_after content clock).at.counter (served_at setting worker clock content request) found serves.is).1
 
-  pub stamped : AllByRecursion (IsStamped (ranged setting) clock.at.epoch) (waiting (pending content))
-  stamped = waits_there (IsStamped (ranged setting) clock.at.epoch) contents seat serves.ready.stamped
+  -- the clock can take in what waits there
+  pub takes_in : AllByRecursion (IsOpenElement (ranged setting) clock) (waiting (pending content))
+  takes_in = serves.ready.open_epochs
 
-  opens : (c : Content) → AllByRecursion (IsStamped (ranged setting) clock.at.epoch) (waiting (pending c)) → IsOpenAt clock c
-  opens (cold shard) all = open_now clock shard.stamp.epoch all.0.1
-  opens (hot record') all = open_now clock record'.stamp.epoch all.0.1
+  opens : (c : Content) → AllByRecursion (IsOpenElement (ranged setting) clock) (waiting (pending c)) → IsOpenAt clock c
+  opens (cold shard) all = all.0.1
+  opens (hot record') all = all.0.1
   opens vacant all = tt
 
   can : CanTake rules (resting (ranged setting) worker clock) content
@@ -173,8 +169,8 @@ module _ (setting : Setting) (worker : ℕ) (clock : Reading) (s seat : ℕ) (co
     rest = record {
       bare = bare_at_rest setting worker;
       room = subst (λ (w : Bool). key_bits w < setting.settings.header.cache) (sym tree_there) serves.settled.room;
-      known = λ element is. (of_waiting (IsStamped (ranged setting) clock.at.epoch) (pending content) element stamped is).0;
-      open_epoch = opens content stamped;
+      known = λ element is. (of_waiting (IsOpenElement (ranged setting) clock) (pending content) element takes_in is).0;
+      open_epoch = opens content takes_in;
     };
     counters = counters;
   }
@@ -224,13 +220,16 @@ module _ (setting : Setting) (worker : ℕ) (clock : Reading) (s seat : ℕ) (co
       (runs.evicted ∙ sym (append-nil (waiting (pending found.after))))
       (ap (λ (xs : List Access). map (ask_of clock.at.epoch) xs) accessed ∙ asked)
 
-  shard_stamped : IsStamped (ranged setting) clock.at.epoch (pending_shard mirrors.shard)
-  shard_stamped = (subst (λ (cs : List Content). AllByRecursion (IsStamped (ranged setting) clock.at.epoch) (waiting_at cs)) mirrors.is serves.ready.stamped).0
+  -- where it is the shard that serves
+  shard_open : seat ≡ 0 → is_open clock mirrors.shard.stamp.epoch ≡ true
+  shard_open first =
+      (subst (λ (c : Content). AllByRecursion (IsOpenElement (ranged setting) clock) (waiting (pending c)))
+      (ap (λ (n : ℕ). get_or contents n vacant) first ∙ ap (λ (cs : List Content). get_or cs 0 vacant) mirrors.is) takes_in).0.1
 
   pub front : FrontLeft clock contents (set contents seat found.after)
   front =
       subst (λ (cs : List Content). found.after ≡ content_after setting.settings.absent digest worker (get_or cs seat vacant) planned.is.links request clock → FrontLeft clock cs (set cs seat found.after)) (sym mirrors.is)
-      (front_there setting.settings.absent digest worker clock request planned.is.links mirrors.shard mirrors.places seat found.after (open_now clock mirrors.shard.stamp.epoch shard_stamped.1))
+      (front_there setting.settings.absent digest worker clock request planned.is.links mirrors.shard mirrors.places seat found.after shard_open)
       planned.is.content
 
   -- the seats mirror again

@@ -1,17 +1,14 @@
 -- Numbers in their ranges serve the proofs.
-use Rattle.std.proofs.Common.{◌≡◌, ℕ, zero, suc, ◌^◌, ◌<◌, ◌≤◌, Bool, true, false, List, nat_le, if◌then◌else◌, refl, arith}
+use Rattle.std.proofs.Common.{◌≡◌, ℕ, zero, suc, ◌^◌, ◌<◌, ◌≤◌, Bool, true, false, nat_le, if◌then◌else◌, refl, arith}
 use Rattle.std.proofs.lemmas.Bool.Decides.{nat_tests}
 use Rattle.std.proofs.lemmas.Nat.{pow_pos}
 use Rattle.std.proofs.Math.Nat.{pow-suc}
 use Rattle.tree_keys.specs.Path.{key_bits}
-use Rattle.record_hash.specs.Functions.{DigestFunctions}
 use Rattle.record_text.specs.Tree.{wide_of}
-use Rattle.script_text.specs.declared.task.Task.{Task}
 use Rattle.host_plan.specs.Setup.{IsShardCount}
-use Rattle.host_world.specs.declared.settings.Settings.{Settings}
 use Rattle.host_world.specs.Settings.{shipped_cache, bits_within}
 use Rattle.host_fits.specs.Promise.{CanRun}
-use Rattle.host_fits.proofs.Keeping.{IsSetting, setting_of}
+use Rattle.host_fits.proofs.Keeping.{Setting, IsSetting}
 
 bits_most : (most shards : ℕ) → bits_within most shards ≤ most
 bits_most zero shards = omega arith
@@ -58,23 +55,22 @@ cache_room : (wide : Bool) → key_bits wide < shipped_cache wide
 cache_room true = omega arith
 cache_room false = omega arith
 
-pub is_setting : (functions : DigestFunctions) (settings : Settings) (script : List (List Task)) → CanRun functions settings script
-    → IsSetting (setting_of functions settings script)
-is_setting functions settings script can = record {
+pub is_setting : (setting : Setting) → CanRun setting.functions setting.settings setting.script → IsSetting setting
+is_setting setting can = record {
   some = can.in_range.header.some_verifiers;
   shards = record {
-    some = bits_some 9 settings.shards two;
-    short = omega (arith, bits_most 10 settings.shards, key_longer (wide_of settings.header));
-    room = omega (arith, bits_most 10 settings.shards, key_longer (wide_of settings.header), room);
-    counters = omega (arith, bits_power 10 settings.shards (omega (arith, two)), can.counters);
+    some = bits_some 9 setting.settings.shards two;
+    short = omega (arith, bits_most 10 setting.settings.shards, key_longer (wide_of setting.settings.header));
+    room = omega (arith, bits_most 10 setting.settings.shards, key_longer (wide_of setting.settings.header), room);
+    counters = omega (arith, bits_power 10 setting.settings.shards (omega (arith, two)), can.counters);
   };
   room = room;
   digests = can.digests;
   threshold = can.in_range.hot;
 }
   where
-    two : 2 ≤ settings.shards
-    two = two_shards settings.shards can.in_range.shards
+    two : 2 ≤ setting.settings.shards
+    two = two_shards setting.settings.shards can.in_range.shards
 
-    room : key_bits (wide_of settings.header) < settings.header.cache
-    room = omega (arith, cache_room (wide_of settings.header), can.in_range.cache)
+    room : key_bits (wide_of setting.settings.header) < setting.settings.header.cache
+    room = omega (arith, cache_room (wide_of setting.settings.header), can.in_range.cache)

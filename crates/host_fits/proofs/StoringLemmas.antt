@@ -35,10 +35,10 @@ use Rattle.host_world.specs.Seated.{SeatsMirror, waiting_at}
 use Rattle.host_world.specs.ShippedHost.{new_seats}
 use Rattle.host_world.proofs.SeatLaws.{stage_at, stage_mirrors, seats_moved}
 use Rattle.host_world.specs.declared.settings.Settings.{Settings}
-use Rattle.host_world.specs.ShippedHost.{shipped_host}
+use Rattle.host_world.specs.ShippedHost.{shipped_host, rolling_host}
 use Rattle.host_fits.specs.Promise.{CanRun}
 use Rattle.host_fits.specs.Holds.{shard_of, storing_of, ContentsHold}
-use Rattle.host_fits.proofs.Keeping.{Setting, IsSetting, setting_of, bits_in, ranged, PlacesMirror}
+use Rattle.host_fits.proofs.Keeping.{Setting, IsSetting, setting_of, rolling_setting_of, bits_in, host_in, ranged, PlacesMirror}
 use Rattle.host_fits.proofs.PlaceLemmas.{all-each, shard_tree}
 use Rattle.host_fits.proofs.ServeLemmas.{Serves}
 use Rattle.host_fits.proofs.RestLemmas.{rest_any}
@@ -145,41 +145,61 @@ is_storing setting settled = record {
 
 -- ---- the world
 
-module _ (functions : DigestFunctions) (settings : Settings) (script : List (List Task)) (events : List (WorldEvent Request)) (can : CanRun functions settings script) where
+module _ (setting : Setting) (events : List (WorldEvent Request)) (can : CanRun setting.functions setting.settings setting.script) where
   abbrev host : Host Content Request
-  host = shipped_host functions settings script
+  host = host_in setting
 
-  abbrev near : Host Content Request
-  near = ranged (setting_of functions settings script)
-
-  settled : IsSetting (setting_of functions settings script)
-  settled = is_setting functions settings script can
+  settled : IsSetting setting
+  settled = is_setting setting can
 
   -- what a machine holds is what the contents hold
-  contents_hold : (world : World Content) (stored : Stored) → HoldsMap (storing_of settings) world stored → ContentsHold settings world stored
-  contents_hold world stored holds key in_range = holds key (shard_of settings key) (home_is (setting_of functions settings script) key in_range)
+  contents_hold : (world : World Content) (stored : Stored) → HoldsMap (storing_of setting.settings) world stored → ContentsHold setting.settings world stored
+  contents_hold world stored holds key in_range = holds key (shard_of setting.settings key) (home_is setting key in_range)
 
   -- Behind whatever events the contents hold what the operations leave.
-  pub holds_answered : AreEnabled host (set_up host) events
-      → ContentsHold settings (run_events host (set_up host) events)
+  answered_in : AreEnabled host (set_up host) events
+      → ContentsHold setting.settings (run_events host (set_up host) events)
       (stored_behind none_everywhere (operations_in (order_of (histories host (run_events host (set_up host) events)))))
-  holds_answered enabled =
+  answered_in enabled =
       contents_hold (run_events host (set_up host) events) _
-      (subst (λ (w : World Content). HoldsAnswered near (storing_of settings) w)
-      (run_same functions settings script can.keys (set_up host) events)
-      (always_answered_held (PlacesMirror (setting_of functions settings script)) (storing_of settings) near
-      (is_fit (setting_of functions settings script) settled) (is_storing (setting_of functions settings script) settled) events
-      (are_enabled functions settings script can.keys (set_up host) events enabled)))
+      (subst (λ (w : World Content). HoldsAnswered (ranged setting) (storing_of setting.settings) w)
+      (run_same setting can.keys (set_up host) events)
+      (always_answered_held (PlacesMirror setting) (storing_of setting.settings) (ranged setting) (is_fit setting settled) (is_storing setting settled) events
+      (are_enabled setting can.keys (set_up host) events enabled)))
 
   -- And behind a whole last close, what the certified operations do.
-  pub holds_certified : AreEnabled host (set_up host) events
+  certified_in : AreEnabled host (set_up host) events
+      → ((i : ℕ) → i < length (run_events host (set_up host) events).workers → HasAdvanced host (run_events host (set_up host) events) i 2)
+      → ContentsHold setting.settings (run_events host (set_up host) events)
+      (stored_behind none_everywhere (certified_operations (scheme host) setting.settings.header.first (histories host (run_events host (set_up host) events))))
+  certified_in enabled advanced =
+      contents_hold (run_events host (set_up host) events) _
+      (subst (λ (w : World Content). HoldsCertified (ranged setting) (storing_of setting.settings) w)
+      (run_same setting can.keys (set_up host) events)
+      (always_certified_held (PlacesMirror setting) (storing_of setting.settings) (ranged setting) (is_fit setting settled) (is_storing setting settled) events
+      (are_enabled setting can.keys (set_up host) events enabled)) advanced)
+
+-- So it is of the shipped host, and of the rolling one.
+module _ (functions : DigestFunctions) (settings : Settings) (script : List (List Task)) (events : List (WorldEvent Request)) (can : CanRun functions settings script) where
+  abbrev AnsweredHeld : Host Content Request → Type 0
+  AnsweredHeld host = AreEnabled host (set_up host) events
+      → ContentsHold settings (run_events host (set_up host) events)
+      (stored_behind none_everywhere (operations_in (order_of (histories host (run_events host (set_up host) events)))))
+
+  abbrev CertifiedHeld : Host Content Request → Type 0
+  CertifiedHeld host = AreEnabled host (set_up host) events
       → ((i : ℕ) → i < length (run_events host (set_up host) events).workers → HasAdvanced host (run_events host (set_up host) events) i 2)
       → ContentsHold settings (run_events host (set_up host) events)
       (stored_behind none_everywhere (certified_operations (scheme host) settings.header.first (histories host (run_events host (set_up host) events))))
-  holds_certified enabled advanced =
-      contents_hold (run_events host (set_up host) events) _
-      (subst (λ (w : World Content). HoldsCertified near (storing_of settings) w)
-      (run_same functions settings script can.keys (set_up host) events)
-      (always_certified_held (PlacesMirror (setting_of functions settings script)) (storing_of settings) near
-      (is_fit (setting_of functions settings script) settled) (is_storing (setting_of functions settings script) settled) events
-      (are_enabled functions settings script can.keys (set_up host) events enabled)) advanced)
+
+  pub holds_answered : AnsweredHeld (shipped_host functions settings script)
+  holds_answered = answered_in (setting_of functions settings script) events can
+
+  pub holds_certified : CertifiedHeld (shipped_host functions settings script)
+  holds_certified = certified_in (setting_of functions settings script) events can
+
+  pub rolling_holds_answered : AnsweredHeld (rolling_host functions settings script)
+  rolling_holds_answered = answered_in (rolling_setting_of functions settings script) events can
+
+  pub rolling_holds_certified : CertifiedHeld (rolling_host functions settings script)
+  rolling_holds_certified = certified_in (rolling_setting_of functions settings script) events can

@@ -5,7 +5,7 @@ use Rattle.merkle_records.specs.Merkle.{GivesDigests}
 use Rattle.script_text.specs.declared.task.Task.{Task}
 use Rattle.host_core.specs.Host.{Host}
 use Rattle.host_core.specs.World.{World}
-use Rattle.host_core.specs.Core.{AreAccepted, AreAnswered, IsDone, IsEven, IsInPhase, IsBehindClose, AreSealed, SealedArePermuted, AllCertified, IsWhole}
+use Rattle.host_core.specs.Core.{AreAccepted, AreAnswered, AreAnsweredInTime, IsDone, IsRoundDone, IsEven, IsInPhase, IsInRound, IsLevelBehindRound, IsBehindClose, AreSealed, SealedArePermuted, AllCertified, IsWhole}
 use Rattle.host_core.specs.Clear.{HasNothingToShow, IsServedSerially}
 use Rattle.host_world.specs.declared.settings.Settings.{Settings}
 use Rattle.host_world.specs.Behind.{AreInRange}
@@ -29,6 +29,24 @@ pub record IsPromised {C R : Type 0} (host : Host C R) (world : World C) : Type 
   pub done : IsDone host world
   pub even : IsEven host world
   pub in_phase : IsInPhase host world
+  pub behind_close : IsBehindClose host world
+  pub sealed : AreSealed host world
+  pub permuted : SealedArePermuted host world
+  pub certified : AllCertified host world
+  pub whole : IsWhole host world
+  pub nothing_to_show : HasNothingToShow host world
+  pub serially : IsServedSerially host world
+
+-- What holds of a world of the rolling host: the same, but that an answer is in its phase's epoch or in a later one, that all is
+-- answered behind the round, that in the round each pending element is of the newest epoch or of the one before, and that where
+-- the round is over each is of the last phase's.
+pub record IsRollingPromised {C R : Type 0} (host : Host C R) (world : World C) : Type 0 where
+  pub accepted : AreAccepted host world
+  pub answered : AreAnsweredInTime host world
+  pub done : IsRoundDone host world
+  pub even : IsEven host world
+  pub in_round : IsInRound host world
+  pub level : IsLevelBehindRound host world
   pub behind_close : IsBehindClose host world
   pub sealed : AreSealed host world
   pub permuted : SealedArePermuted host world

@@ -28,8 +28,8 @@ ghost use Rattle.host_order.specs.Close.{MovesKeepEpoch};
 ghost use Rattle.host_world.specs.declared.settings.Settings.{Settings};
 ghost use Rattle.host_world.specs.Behind.{AreInRange, HaveShortValues};
 ghost use Rattle.host_world.specs.Moving.{seats_of};
-ghost use Rattle.host_world.specs.ShippedHost.{shipped_host};
-ghost use Rattle.host_fits.specs.Promise.{CanRun, IsPromised};
+ghost use Rattle.host_world.specs.ShippedHost.{shipped_host, rolling_host};
+ghost use Rattle.host_fits.specs.Promise.{CanRun, IsPromised, IsRollingPromised};
 ghost use Rattle.host_fits.specs.Holds.{ContentsHold};
 
 /// Whatever the script, the workers, the shards, the first epoch and the counters' end: behind every list of events that
@@ -42,8 +42,18 @@ pub fn the_shipped_host_keeps_its_promise()
         AreEnabled host (set_up host) events → IsPromised host (run_events host (set_up host) events) }
 {}
 
+/// The same of the rolling host, which serves all phases in one round: behind every list of events that are enabled from its
+/// setup on its promise holds. It is asked what is asked of the other.
+pub fn the_rolling_host_keeps_its_promise()
+    ensures promised { (functions : DigestFunctions) (settings : Settings) (script : List (List Task)) (events : List (WorldEvent Request))
+        → CanRun functions settings script
+        → let host = rolling_host functions settings script in
+        AreEnabled host (set_up host) events → IsRollingPromised host (run_events host (set_up host) events) }
+{}
+
 /// Behind whatever events the contents hold the plain map: of each key the data value that the operations of all logs leave, in their
-/// one order. Behind a whole last close, where each worker has advanced twice, these operations are the certified ones.
+/// one order. Behind a whole last close, where each worker has advanced twice, these operations are the certified ones. So it is
+/// of the rolling host too.
 pub fn the_contents_hold_the_plain_map()
     ensures answered { (functions : DigestFunctions) (settings : Settings) (script : List (List Task)) (events : List (WorldEvent Request))
         → CanRun functions settings script
@@ -54,6 +64,19 @@ pub fn the_contents_hold_the_plain_map()
     ensures certified { (functions : DigestFunctions) (settings : Settings) (script : List (List Task)) (events : List (WorldEvent Request))
         → CanRun functions settings script
         → let host = shipped_host functions settings script in
+        AreEnabled host (set_up host) events
+        → ((i : ℕ) → i < length (run_events host (set_up host) events).workers → HasAdvanced host (run_events host (set_up host) events) i 2)
+        → ContentsHold settings (run_events host (set_up host) events)
+        (stored_behind none_everywhere (certified_operations (scheme host) settings.header.first (histories host (run_events host (set_up host) events)))) }
+    ensures rolling_answered { (functions : DigestFunctions) (settings : Settings) (script : List (List Task)) (events : List (WorldEvent Request))
+        → CanRun functions settings script
+        → let host = rolling_host functions settings script in
+        AreEnabled host (set_up host) events
+        → ContentsHold settings (run_events host (set_up host) events)
+        (stored_behind none_everywhere (operations_in (order_of (histories host (run_events host (set_up host) events))))) }
+    ensures rolling_certified { (functions : DigestFunctions) (settings : Settings) (script : List (List Task)) (events : List (WorldEvent Request))
+        → CanRun functions settings script
+        → let host = rolling_host functions settings script in
         AreEnabled host (set_up host) events
         → ((i : ℕ) → i < length (run_events host (set_up host) events).workers → HasAdvanced host (run_events host (set_up host) events) i 2)
         → ContentsHold settings (run_events host (set_up host) events)
@@ -99,10 +122,13 @@ pub fn moves_are_what_the_host_does()
 {}
 
 /// A request moves the clock on and leaves the owners as they were, and a close of a shard leaves the epoch: so what many
-/// workers did at once in a phase or in a close was one list of events, as `host_order` says.
+/// workers did at once in a phase or in a close was one list of events, as `host_order` says. The close behind the round of a
+/// rolling host leaves the epoch too.
 pub fn the_shipped_host_is_steady()
     ensures steady { (functions : DigestFunctions) (settings : Settings) (script : List (List Task))
         → IsSteady (shipped_host functions settings script) }
     ensures close { (functions : DigestFunctions) (settings : Settings) (script : List (List Task))
         → MovesKeepEpoch (shipped_host functions settings script) }
+    ensures rolling_close { (functions : DigestFunctions) (settings : Settings) (script : List (List Task))
+        → MovesKeepEpoch (rolling_host functions settings script) }
 {}

@@ -6,7 +6,7 @@ use Rattle.lamport_clocks.specs.Clock.{last_epoch}
 use Rattle.log_codec.specs.declared.command.Command.TheVariants.{NextEpoch}
 use Rattle.host_core.specs.Host.{Host, asked}
 use Rattle.host_core.specs.World.{Worker, Seats, World, unmoved, fresh, worker_at, epoch_of}
-use Rattle.host_core.specs.WorldEvent.{advances, with_worker, logging, next_clock, step, IsNext, IsPhaseOver, IsLast, AllMoved, HasAdvanced, MayAdvance, AreEnabled, run_events}
+use Rattle.host_core.specs.WorldEvent.{advances, with_worker, logging, next_clock, step, IsNext, IsPhaseOver, IsRoundOver, IsLast, AllMoved, HasAdvanced, MayAdvance, AreEnabled, run_events}
 use Rattle.host_order.specs.Close.{advances_from}
 
 abbrev pub advanced_worker : Worker → Worker
@@ -18,6 +18,7 @@ module _ {C R : Type 0} (host : Host C R) (world : World C) where
     pub going : world.over ≡ false
     pub through : IsPhaseOver host world
     pub more : (i : ℕ) → i < length world.workers → ((worker_at host world i).clock.at.epoch == last_epoch) ≡ false
+    pub settled : host.rolling ≡ true → IsRoundOver host world
     pub turns : (i : ℕ) → i < length world.workers
         → HasAdvanced host world i 0 ⊎ (HasAdvanced host world i 1 × IsLast host world × AllMoved world)
 
@@ -30,6 +31,7 @@ module _ {C R : Type 0} (host : Host C R) (world : World C) where
     pub going : later.over ≡ false
     pub count : length later.workers ≡ length world.workers
     pub closing : 0 < j → later.closing ≡ true
+    pub words : (later.newest ≡ world.newest) × (later.scanned ≡ world.scanned)
 
   -- what of a worker an advance leaves
   pub shows : {X : Type 0} (show : Worker → X) → ((w : Worker) → show (advanced_worker w) ≡ show w) → (later : World C) (j : ℕ)
@@ -53,6 +55,16 @@ module _ {C R : Type 0} (host : Host C R) (world : World C) where
           (ap (slice_get (asked host i)) (sym (shows (λ w. w.served) (λ w. refl) later j advanced i)) ∙ next
           ∙ ap (λ (n : ℕ). Some (n, request)) advanced.phase))
 
+  -- and so is the round
+  still_settled : (later : World C) (j : ℕ) → Advanced later j → IsRoundOver host world → IsRoundOver host later
+  still_settled later j advanced over i within =
+      let was = over i (subst (λ (n : ℕ). i < n) advanced.count within) in (
+        shows (λ w. w.stopped) (λ w. refl) later j advanced i ∙ was.0,
+        ap (slice_get (asked host i)) (shows (λ w. w.served) (λ w. refl) later j advanced i) ∙ was.1,
+        ap (λ (scanned : List ℕ). get_or scanned i host.header.first) advanced.words.1 ∙ was.2
+            ∙ ap (λ (n : ℕ). host.header.first + n) (sym advanced.phase),
+      )
+
   -- the close is still the last
   pub still_last : (later : World C) (j : ℕ) → Advanced later j → IsLast host world → IsLast host later
   still_last later j advanced (inl end) = inl (omega (arith, end, advanced.phase))
@@ -70,6 +82,7 @@ module _ {C R : Type 0} (host : Host C R) (world : World C) where
     going = advanced.going;
     there = subst (λ (n : ℕ). j < n) (sym advanced.count) within;
     through = still_through later j advanced can.through;
+    settled = λ rolling. still_settled later j advanced (can.settled rolling);
     turns = go (can.turns j within);
   }
     where
@@ -100,6 +113,7 @@ module _ {C R : Type 0} (host : Host C R) (world : World C) where
         going = advanced.going;
         count = length-set later.workers j (advanced_worker (worker_at host later j)) ∙ advanced.count;
         closing = λ some. refl;
+        words = advanced.words;
       })
     where
       own : worker_at host later j ≡ worker_at host world j
@@ -143,6 +157,7 @@ module _ {C R : Type 0} (host : Host C R) (world : World C) where
     going = can.going;
     count = refl;
     closing = λ some. absurd (omega (arith, some));
+    words = (refl, refl);
   }
 
   -- All workers may advance, and have advanced then.

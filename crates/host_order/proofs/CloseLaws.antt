@@ -5,7 +5,7 @@ use Rattle.lamport_clocks.specs.Reading.{Reading}
 use Rattle.lamport_clocks.specs.Clock.{last_epoch}
 use Rattle.host_core.specs.Host.{Host, Done, asked}
 use Rattle.host_core.specs.World.{Worker, Seats, World, unmoved, worker_at, shard_at, epoch_of}
-use Rattle.host_core.specs.WorldEvent.{next_clock, IsNext, IsPhaseOver, IsLast, AllMoved, HasAdvanced, MayAdvance, MayOpen, AreEnabled, run_events}
+use Rattle.host_core.specs.WorldEvent.{next_clock, IsNext, IsPhaseOver, IsRoundOver, IsLast, AllMoved, HasAdvanced, MayAdvance, MayOpen, AreEnabled, run_events}
 use Rattle.host_core.proofs.EventLaws.{enabled-append, run-append}
 use Rattle.host_order.specs.Close.{Moves, moves_of, MovesKeepEpoch, AreMoves, IsToClose, IsCloseTold, advances_from, all_move_events, close_events, seats_after, EndsClosed, NoneStuck, HasOneClose, OrdersClose}
 use Rattle.host_order.proofs.AdvanceLemmas.{advanced_worker, CanAdvance, Advanced, shows, all_advance}
@@ -39,6 +39,7 @@ module _ {C R : Type 0} (host : Host C R) where
     can_advance = record {
       going = is.going;
       through = is.through;
+      settled = is.settled;
       more = λ i within. ap (λ (n : ℕ). n == last_epoch) ((is.epochs is.phase).0 i within) ∙ is.more;
       turns = λ i within. inl ((is.epochs is.phase).0 i within ∙ omega arith);
     }
@@ -149,6 +150,7 @@ module _ {C R : Type 0} (host : Host C R) where
       shards = shard_is;
       counts = (count_is, shard_count_is);
       phase = (phase_is, moved.going);
+      words = (moved.words.0 ∙ advanced.words.0, moved.words.1 ∙ advanced.words.1);
     }
 
     -- ---- what may follow
@@ -164,6 +166,15 @@ module _ {C R : Type 0} (host : Host C R) where
         go (inl stopped) = inl (ends.stopped i (later_there i within) ∙ stopped)
         go (inr none) = inr (λ request next. none request
             (ap (slice_get (asked host i)) (sym (ends.served i (later_there i within))) ∙ next ∙ ap (λ (n : ℕ). Some (n, request)) phase_is))
+
+    settled_is : host.rolling ≡ true → IsRoundOver host later
+    settled_is rolling i within =
+        let there = later_there i within in
+        let was = is.settled rolling i there in (
+          ends.stopped i there ∙ was.0,
+          ap (slice_get (asked host i)) (ends.served i there) ∙ was.1,
+          ap (λ (scanned : List ℕ). get_or scanned i host.header.first) ends.words.1 ∙ was.2 ∙ ap (λ (n : ℕ). host.header.first + n) (sym phase_is),
+        )
 
     last_back : IsLast host later → IsLast host world
     last_back (inl end) = inl (omega (arith, end, phase_is))
@@ -207,6 +218,7 @@ module _ {C R : Type 0} (host : Host C R) where
     can_again none last more = record {
       going = moved.going;
       through = through_is;
+      settled = settled_is;
       more = λ i within.
           ap (λ (n : ℕ). n == last_epoch) (turned_is i (later_there i within) ∙ ap (λ (n : ℕ). (host.header.first + n) + 1) phase_is ∙ next (epoch_of host world)) ∙ more;
       turns = λ i within. inr (turned_is i (later_there i within), last_on last, moved_is none);
@@ -220,6 +232,7 @@ module _ {C R : Type 0} (host : Host C R) where
       going = moved.going;
       there = subst (λ (n : ℕ). 0 < n) (sym count_is) is.some;
       through = through_is;
+      settled = settled_is;
       turns = inr (turned_is 0 is.some, last_on last, moved_is none);
     }
 

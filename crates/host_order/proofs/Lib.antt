@@ -1,9 +1,6 @@
--- How the one order of a phase is proved, in reading order.
-mod ReplayLemmas
-mod ChainLemmas
-mod RisingLemmas
-mod PartLemmas
-mod OrderLemmas
+-- How the one order of a phase and of a close is proved, in reading order.
+mod TurnLemmas
+mod HadLemmas
 mod StopLemmas
 pub mod PhaseLaws
 mod AdvanceLemmas

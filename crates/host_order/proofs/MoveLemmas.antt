@@ -89,6 +89,7 @@ module _ {C R : Type 0} (host : Host C R) (base : World C) where
     pub phase : later.phase ≡ base.phase
     pub count : length later.workers ≡ length base.workers
     pub shard_count : length later.shards ≡ length base.shards
+    pub words : (later.newest ≡ base.newest) × (later.scanned ≡ base.scanned)
 
   pub none_moved : IsMoveBase → HaveMoved base (λ i. []) (λ i. false)
   none_moved is = record {
@@ -100,6 +101,7 @@ module _ {C R : Type 0} (host : Host C R) (base : World C) where
     phase = refl;
     count = refl;
     shard_count = refl;
+    words = (refl, refl);
   }
     where
       fresh_is : (w : Worker) → w.stuck ≡ false → w ≡ moved_worker {C = C} w [] false
@@ -255,6 +257,7 @@ module _ {C R : Type 0} (host : Host C R) (base : World C) where
           phase = moved.phase;
           count = length-set later.workers i worker' ∙ moved.count;
           shard_count = length-set later.shards s (record { contents = done.after; moved = true }) ∙ moved.shard_count;
+          words = moved.words;
         }
 
     -- Where the worker's clock would pass its end, that is all that is told.
@@ -294,6 +297,7 @@ module _ {C R : Type 0} (host : Host C R) (base : World C) where
           phase = moved.phase;
           count = length-set later.workers i worker' ∙ moved.count;
           shard_count = moved.shard_count;
+          words = moved.words;
         }
 
   -- ---- one worker's moves, and those of all

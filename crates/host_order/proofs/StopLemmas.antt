@@ -1,15 +1,15 @@
 -- Stops, replayed: each a take, a serve that ends its worker's clock, and a give.
-use Rattle.std.proofs.Common.{◌≡◌, ◌≢◌, ◌⊎◌, ℕ, ◌<◌, ◌==◌, ◌||◌, Bool, true, false, List, [], ◌∷◌, length, slice_get, Option, Some, None, refl, sym, ◌∙◌, ap, subst, inl, inr}
+use Rattle.std.proofs.Common.{◌≡◌, ◌≢◌, ◌⊎◌, ℕ, ◌+◌, ◌<◌, ◌≤◌, ◌==◌, ◌||◌, Bool, true, false, List, [], ◌∷◌, length, slice_get, Option, Some, None, refl, sym, ◌∙◌, ap, subst, inl, inr}
 use Rattle.std.specs.List.{AllByRecursion}
 use Rattle.std.proofs.lemmas.Bool.{cases_eq, eq-eqb, ne_eqb}
 use Rattle.std.proofs.lemmas.Option.{none-some}
 use Rattle.std.proofs.lemmas.List.{length-set, get_or-set_same, get_or-set_other, set-set}
 use Rattle.host_core.specs.Host.{Host, Done, asked}
 use Rattle.host_core.specs.World.{Place, Worker, World, fresh, worker_at, shard_at}
-use Rattle.host_core.specs.WorldEvent.{WorldEvent, takes, serves, gives, with_worker, after_serve, step, IsServing, MayTake, MayServe, MayGive, AreEnabled, run_events}
+use Rattle.host_core.specs.WorldEvent.{WorldEvent, takes, serves, gives, with_worker, after_serve, step, AreUpTo, IsServing, MayTake, MayServe, MayGive, AreEnabled, run_events}
 use Rattle.host_order.specs.Serving.{content_at}
 use Rattle.host_order.specs.Told.{IsOpenTo, Stop, AreOfOthers, AreEnded, replay_stops, stops_by}
-use Rattle.host_order.proofs.ReplayLemmas.{IsIdle}
+use Rattle.round_order.proofs.TurnLaws.{IsIdle}
 
 module _ {C R : Type 0} (host : Host C R) where
   -- ---- one stop
@@ -18,6 +18,8 @@ module _ {C R : Type 0} (host : Host C R) where
   pub record IsStop (world : World C) (stop : Stop R) : Type 0 where
     pub may : IsOpenTo host world stop.worker stop.place stop.request
     pub next : slice_get (asked host stop.worker) (worker_at host world stop.worker).served ≡ Some (world.phase, stop.request)
+    pub begun : host.header.first + world.phase ≤ (worker_at host world stop.worker).clock.at.epoch
+    pub reached : AreUpTo (worker_at host world stop.worker).clock.at.epoch (host.pending (content_at host world stop.place))
     pub ends : host.serve stop.worker (worker_at host world stop.worker).clock (content_at host world stop.place) stop.request ≡ None
 
   abbrev pub stopped_worker : Worker → Worker
@@ -88,7 +90,12 @@ module _ {C R : Type 0} (host : Host C R) where
           serving = there_with holding;
           there = is.may.at;
           holds = ap (λ (w : Worker). w.holds) (same-at holding);
-          next = ap (λ (w : Worker). slice_get (asked host i) w.served) (same-at holding) ∙ is.next;
+          due = record {
+            phase = world.phase;
+            next = ap (λ (w : Worker). slice_get (asked host i) w.served) (same-at holding) ∙ is.next;
+            begun = subst (λ (w : Worker). host.header.first + world.phase ≤ w.clock.at.epoch) (sym (same-at holding)) is.begun;
+            reached = subst (λ (w : Worker). AreUpTo w.clock.at.epoch (host.pending (content_at host world stop.place))) (sym (same-at holding)) is.reached;
+          };
           owns = is.may.owns;
         }
 
@@ -132,6 +139,8 @@ module _ {C R : Type 0} (host : Host C R) where
             owns = is_other.may.owns;
           };
           next = ap (λ (w : Worker). slice_get (asked host other.worker) w.served) same ∙ is_other.next;
+          begun = subst (λ (w : Worker). host.header.first + world.phase ≤ w.clock.at.epoch) (sym same) is_other.begun;
+          reached = subst (λ (w : Worker). AreUpTo w.clock.at.epoch (host.pending (content_at host world other.place))) (sym same) is_other.reached;
           ends = ap (λ (w : Worker). host.serve other.worker w.clock (content_at host world other.place) other.request) same ∙ is_other.ends;
         }
 
@@ -173,6 +182,7 @@ module _ {C R : Type 0} (host : Host C R) where
     pub idle : IsIdle host later
     pub count : length later.workers ≡ length world.workers
     pub phase : later.phase ≡ world.phase
+    pub words : (later.newest ≡ world.newest) × (later.scanned ≡ world.scanned)
 
   pub stops_leave : (world : World C) (stops : List (Stop R)) → IsIdle host world → AllByRecursion (IsStop world) stops → AreOfOthers stops
       → Stops world (run_events host world (replay_stops stops)) stops
@@ -186,6 +196,7 @@ module _ {C R : Type 0} (host : Host C R) where
     idle = idle;
     count = refl;
     phase = refl;
+    words = (refl, refl);
   }
     where
       or_false : (b : Bool) → b ≡ (b || false)
@@ -238,4 +249,5 @@ module _ {C R : Type 0} (host : Host C R) where
         idle = leads.idle;
         count = leads.count ∙ length-set world.workers stop.worker (stopped_worker (worker_at host world stop.worker));
         phase = leads.phase;
+        words = leads.words;
       }

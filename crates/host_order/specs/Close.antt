@@ -6,7 +6,7 @@ use Rattle.lamport_clocks.specs.Clock.{last_epoch}
 use Rattle.log_codec.specs.declared.command.Command.TheVariants.{NextEpoch}
 use Rattle.host_core.specs.Host.{Host, Done}
 use Rattle.host_core.specs.World.{Seats, World, worker_at, shard_at, epoch_of}
-use Rattle.host_core.specs.WorldEvent.{WorldEvent, advances, moves, opens, next_clock, IsPhaseOver, IsLast, IsEnabled, AreEnabled, run_events}
+use Rattle.host_core.specs.WorldEvent.{WorldEvent, advances, moves, opens, next_clock, IsPhaseOver, IsRoundOver, IsLast, IsEnabled, AreEnabled, run_events}
 use Rattle.host_core.specs.Core.{IsInPhase}
 
 -- what a worker made of its shards in a close, in their order, and whether its clock ended at the next of them
@@ -36,12 +36,13 @@ module _ {C R : Type 0} (host : Host C R) (world : World C) where
       (s < length world.shards) × (host.move i clock s (shard_at world s).contents ≡ Some done)
       × AreMoves i (s + length world.workers) done.clock dones stuck
 
-  -- a phase that is over, with an epoch to come
+  -- a phase that is over, or in a rolling host the round, with an epoch to come
   pub record IsToClose : Type 0 where
     pub some : 0 < length world.workers
     pub going : world.over ≡ false
     pub phase : world.closing ≡ false
     pub through : IsPhaseOver host world
+    pub settled : host.rolling ≡ true → IsRoundOver host world
     pub epochs : IsInPhase host world
     pub running : (i : ℕ) → i < length world.workers → (worker_at host world i).stuck ≡ false
     pub more : (epoch_of host world == last_epoch) ≡ false
@@ -81,7 +82,7 @@ abbrev pub seats_after : {C : Type 0} → Seats C → Option (Done (List C)) →
 seats_after seats None = seats
 seats_after seats (Some done) = record { contents = done.after; moved = true }
 
--- Each worker advanced and logged its moves; each shard is what its worker made of it.
+-- Each worker advanced and logged its moves; each shard is what its worker made of it. No epoch was raised or noted as scanned.
 pub record EndsClosed {C R : Type 0} (host : Host C R) (world later : World C) (close : List (Moves C)) : Type 0 where
   pub logs : (i : ℕ) → i < length world.workers → (worker_at host later i).log
       ≡ ((worker_at host world i).log ++ NextEpoch ∷ []) ++ flat_map (λ done. done.commands) (moves_of close i).dones
@@ -95,6 +96,7 @@ pub record EndsClosed {C R : Type 0} (host : Host C R) (world later : World C) (
       ≡ seats_after (shard_at world s) (slice_get (moves_of close (s % length world.workers)).dones (s / length world.workers))
   pub counts : (length later.workers ≡ length world.workers) × (length later.shards ≡ length world.shards)
   pub phase : (later.phase ≡ world.phase) × (later.over ≡ false)
+  pub words : (later.newest ≡ world.newest) × (later.scanned ≡ world.scanned)
 
 -- no clock ended in the close
 abbrev pub NoneStuck : {C : Type 0} → World C → List (Moves C) → Type 0

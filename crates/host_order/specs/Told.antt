@@ -111,7 +111,7 @@ AreEnded host world (stop ∷ stops) =
     × AreEnded host (run_events host world (replay_stops (stop ∷ []))) stops
 
 -- The later world has the last contents and the last clocks; each worker has logged its commands, and those of the stops
--- are stopped.
+-- are stopped. No epoch was raised or noted as scanned.
 pub record EndsWith {C R : Type 0} (host : Host C R) (world later : World C) (lists : List (List (Serving C R)))
     (pasts : List (List (List (Serving C R)))) (stops : List (Stop R)) : Type 0 where
   pub contents : (place : Place) → content_at host later place ≡ content_behind (content_at host world place) (past_of pasts place)
@@ -123,6 +123,7 @@ pub record EndsWith {C R : Type 0} (host : Host C R) (world later : World C) (li
   pub stuck : (i : ℕ) → (worker_at host later i).stuck ≡ (worker_at host world i).stuck
   pub idle : (i : ℕ) → i < length world.workers → (worker_at host later i).holds ≡ None
   pub phase : (later.phase ≡ world.phase) × (later.closing ≡ false) × (later.over ≡ false)
+  pub words : (later.newest ≡ world.newest) × (later.scanned ≡ world.scanned)
 
 -- What is told of a phase was one list of enabled events, in which each serving was done as it is told and each stop ended its
 -- worker's clock, and which ends where all is as it is told.

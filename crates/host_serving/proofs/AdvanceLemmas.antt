@@ -5,7 +5,7 @@ use Rattle.std.proofs.lemmas.List.{length-set, get_or-set_same, get_or-set_other
 use Rattle.lamport_clocks.specs.Clock.{last_epoch}
 use Rattle.host_core.specs.Host.{Host, asked}
 use Rattle.host_core.specs.World.{Worker, Seats, World, unmoved, fresh, worker_at}
-use Rattle.host_core.specs.WorldEvent.{advances, with_worker, step, IsNext, IsPhaseOver, IsLast, AllMoved, HasAdvanced, MayAdvance}
+use Rattle.host_core.specs.WorldEvent.{advances, with_worker, step, IsNext, IsPhaseOver, IsRoundOver, IsLast, AllMoved, HasAdvanced, MayAdvance}
 use Rattle.host_world.specs.declared.fault.ClockEnd.{ClockEnd}
 use Rattle.host_world.specs.Ending.{end_of, end_at}
 use Rattle.host_serving.specs.Closing.{advanced, IsKept, CanAllAdvance, HaveAdvanced}
@@ -26,6 +26,16 @@ module _ {C R : Type 0} (host : Host C R) where
       go (inr none') = inr (λ request next. none' request
           (ap (slice_get (asked host i)) (sym (kept i).served) ∙ next ∙ ap (λ (n : ℕ). Some (n, request)) phase))
 
+  -- a round that was over is over still
+  pub round_still : (world later : World C) → later.phase ≡ world.phase → later.scanned ≡ world.scanned → length later.workers ≡ length world.workers
+      → ((i : ℕ) → IsKept (worker_at host world i) (worker_at host later i)) → IsRoundOver host world → IsRoundOver host later
+  round_still world later phase scanned workers kept over i within =
+      let was = over i (subst (λ (n : ℕ). i < n) workers within) in (
+        (kept i).stopped ∙ was.0,
+        ap (slice_get (asked host i)) (kept i).served ∙ was.1,
+        ap (λ (all : List ℕ). get_or all i host.header.first) scanned ∙ was.2 ∙ ap (λ (n : ℕ). host.header.first + n) (sym phase),
+      )
+
   -- and a last close is the last still
   pub last_still : (world later : World C) → later.phase ≡ world.phase → length later.workers ≡ length world.workers
       → ((i : ℕ) → IsKept (worker_at host world i) (worker_at host later i)) → IsLast host world → IsLast host later
@@ -41,6 +51,7 @@ module _ {C R : Type 0} (host : Host C R) where
       behind = λ i above. refl;
       shards = refl;
       phase = refl;
+      scanned = refl;
       going = can.going;
       workers = refl;
       closing = λ some. absurd (omega (arith, some));
@@ -66,6 +77,7 @@ module _ {C R : Type 0} (host : Host C R) where
         going = have.going;
         there = subst (λ (n : ℕ). j < n) (sym have.workers) there;
         through = over_still world later have.phase have.workers (advance_keeps later j have) can.through;
+        settled = λ rolling. round_still world later have.phase have.scanned have.workers (advance_keeps later j have) (can.settled rolling);
         turns = go (can.turns j there);
       }
         where
@@ -96,6 +108,7 @@ module _ {C R : Type 0} (host : Host C R) where
             ∙ have.behind i (omega (arith, above));
         shards = have.shards;
         phase = have.phase;
+        scanned = have.scanned;
         going = have.going;
         workers = length-set later.workers j (advanced (worker_at host later j)) ∙ have.workers;
         closing = λ some. refl;

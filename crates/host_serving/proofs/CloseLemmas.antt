@@ -4,12 +4,12 @@ use Rattle.std.proofs.lemmas.Bool.{cases_lt, false≢true}
 use Rattle.std.proofs.lemmas.List.{length-map}
 use Rattle.host_core.specs.Host.{Host, asked_in, asked_from}
 use Rattle.host_core.specs.World.{Worker, Seats, World, unmoved, worker_at, shard_at, epoch_of}
-use Rattle.host_core.specs.WorldEvent.{WorldEvent, takes, loses, serves, gives, advances, moves, opens, step, IsEnabled, IsLast, AllMoved, HasAdvanced, MayOpen}
+use Rattle.host_core.specs.WorldEvent.{WorldEvent, takes, loses, serves, gives, advances, moves, opens, raises, enters, scans, finishes, stops, step, IsEnabled, IsLast, AllMoved, HasAdvanced, MayOpen}
 use Rattle.host_world.specs.declared.fault.ClockEnd.{ClockEnd}
 use Rattle.host_serving.specs.Leading.{CanDoNoMore}
 use Rattle.host_serving.specs.Standing.{turns_of, asked_by, IsServedUpTo, IsServedOut, IsClosed, NoneStopped, NoneStuckBelow}
 use Rattle.host_serving.specs.Closing.{IsKept, IsThroughMoves, IsStuckInMoves, CanAllAdvance, HaveTurned, CanMoveAll, HaveAdvanced, EndsAdvance, HaveAllMoved, HaveSomeStuck, EndsMoves, ShardsAreClosed, EndsShards}
-use Rattle.host_serving.proofs.AdvanceLemmas.{over_still, advance_keeps}
+use Rattle.host_serving.proofs.AdvanceLemmas.{over_still, round_still, advance_keeps}
 use Rattle.host_serving.proofs.MoveLemmas.{kept-then, turned_still}
 
 -- ---- what is asked
@@ -40,7 +40,7 @@ take-whole (x ∷ xs) = ap (λ (ys : List _). x ∷ ys) (take-whole xs)
 
 module _ {C R : Type 0} (host : Host C R) where
   -- where a phase is served, nothing of the next is
-  asked_next : (i phase : ℕ) → phase < length host.script → asked_by host i phase (length (turns_of host phase)) ≡ asked_by host i (suc phase) 0
+  pub asked_next : (i phase : ℕ) → phase < length host.script → asked_by host i phase (length (turns_of host phase)) ≡ asked_by host i (suc phase) 0
   asked_next i phase within =
       ap (λ (turns : List (ℕ × R)). length (asked_from i 0 (take phase host.script)) + length (asked_in i phase turns)) (take-whole (turns_of host phase))
       ∙ sym (asked-more i 0 phase phase host.script within)
@@ -60,6 +60,11 @@ module _ {C R : Type 0} (host : Host C R) where
       going (advances i) may = may.going
       going (moves i s) may = may.going
       going opens may = may.going
+      going (raises i) may = may.rolling.serving.going
+      going (enters i) may = may.rolling.serving.going
+      going (scans i place) may = may.rolling.serving.going
+      going (finishes i) may = may.rolling.serving.going
+      going (stops i found) may = may.rolling.serving.going
 
   -- so it is where an advance came to an end
   pub advance_rests : (world later : World C) (end : Option ClockEnd) → EndsAdvance host world later end → IfSome end (λ _. CanDoNoMore host later)
@@ -106,6 +111,11 @@ module _ {C R : Type 0} (host : Host C R) where
       go (advances i) may = again i (turned.turned i may.there) may.turns
       go (moves i s) may = not_moves i s may.running may.still may.shard may.own (have.each i (subst (λ (n : ℕ). i < n) workers may.there))
       go opens may = not_all may.moved
+      go (raises i) may = not_phase may.rolling.serving.phase
+      go (enters i) may = not_phase may.rolling.serving.phase
+      go (scans i place) may = not_phase may.rolling.serving.phase
+      go (finishes i) may = not_phase may.rolling.serving.phase
+      go (stops i found) may = not_phase may.rolling.serving.phase
 
   -- where all have advanced twice
   pub twice_rests : (world : World C) → 0 < length world.workers → world.closing ≡ true → ((i : ℕ) → i < length world.workers → HasAdvanced host world i 2) → CanDoNoMore host world
@@ -126,13 +136,18 @@ module _ {C R : Type 0} (host : Host C R) where
       go (advances i) may = again i (twice i may.there) may.turns
       go (moves i s) may = omega (arith, twice i may.there, may.turned)
       go opens may = omega (arith, twice 0 some, may.turned 0 some)
+      go (raises i) may = not_phase may.rolling.serving.phase
+      go (enters i) may = not_phase may.rolling.serving.phase
+      go (scans i place) may = not_phase may.rolling.serving.phase
+      go (finishes i) may = not_phase may.rolling.serving.phase
+      go (stops i found) may = not_phase may.rolling.serving.phase
 
   -- ---- the first half of a close
 
   module _ (world : World C) (served : IsServedOut host world)
       (clocked : (i : ℕ) → i < length world.workers → HasAdvanced host world i 0) (still : (s : ℕ) → s < length world.shards → (shard_at world s).moved ≡ false) where
     pub begins : CanAllAdvance host world
-    begins = record { going = served.served.going; through = served.over; turns = λ i within. inl (clocked i within) }
+    begins = record { going = served.served.going; through = served.over; settled = served.settled; turns = λ i within. inl (clocked i within) }
 
     module _ (middle : World C) (some : 0 < length world.workers) (have : HaveAdvanced host world middle (length world.workers)) where
       -- all may move their shards once all have advanced
@@ -176,6 +191,7 @@ module _ {C R : Type 0} (host : Host C R) where
             record {
               all = turned_still host middle later moved.keeps moves_begin.all;
               through = over_still host world later phase workers (kept moved.keeps.kept) served.over;
+              settled = λ rolling. round_still host world later phase (moved.keeps.scanned ∙ have.scanned) workers (kept moved.keeps.kept) (served.settled rolling);
               phase = phase;
               workers = workers;
               kept = kept moved.keeps.kept;
@@ -216,6 +232,7 @@ module _ {C R : Type 0} (host : Host C R) where
     again last = record {
       going = closed.all.going;
       through = closed.through;
+      settled = closed.settled;
       turns = λ i within. inr (closed.all.turned i within, last_on last, closed.moved);
     }
 

@@ -1,9 +1,9 @@
 -- Phases and closes are of their forms also where logs were handed out before; and a run so far goes on by a phase, or by a close.
-use Rattle.std.proofs.Common.{◌≡◌, ℕ, zero, suc, Bool, List, [], ◌∷◌, ◌++◌, length, Option, None, is_none, if◌then◌else◌, refl, sym, ◌∙◌, ap, subst, append_assoc, append-nil}
+use Rattle.std.proofs.Common.{◌≡◌, ℕ, zero, suc, ◌-◌, Bool, false, List, [], ◌∷◌, ◌++◌, length, Option, None, is_none, if◌then◌else◌, refl, sym, ◌∙◌, ap, subst, append_assoc, append-nil, arith}
 use Rattle.log_codec.specs.declared.command.Command.{Command}
 use Rattle.lamport_clocks.specs.Reading.{Reading}
 use Rattle.host_core.specs.Host.{Host}
-use Rattle.host_core.specs.World.{World, fresh}
+use Rattle.host_core.specs.World.{World, fresh, first_phase, set_up}
 use Rattle.host_core.specs.WorldEvent.{WorldEvent, opens, IsLast, AreEnabled, step, run_events}
 use Rattle.host_core.proofs.EventLaws.{run-append}
 use Rattle.host_order.specs.Serving.{Serving, content_at, in_one_order, replay}
@@ -15,9 +15,10 @@ use Rattle.host_world.specs.Behind.{before_each, with_logs}
 use Rattle.host_world.proofs.FrontLaws.{length-before_each, same_unlogged, clock_with, step_with, ends_with, last_other}
 use Rattle.host_serving.specs.Leading.{first_of, first_end, LeadsBy, LeadsAs, Leads}
 use Rattle.host_serving.specs.Form.{AreOfPhase, until_end, unless_ended, own_moves_from, all_advance, own_moves, moves_of_each, all_move, events_of_shards, events_of_close, AreOfClose, Round, events_of, AreInForm, AreInRounds}
-use Rattle.host_serving.specs.Standing.{IsServedUpTo, NoneStopped}
+use Rattle.host_serving.specs.Standing.{asked_by, IsServedUpTo, HaveServedBefore, NoneStopped}
 use Rattle.host_serving.proofs.LeadingLaws.{first_end-append, run-with, first-with, by-then, by-with}
-use Rattle.host_serving.proofs.BegunLemmas.{nothing_begun, enabled-behind, first_of-behind}
+use Rattle.host_serving.proofs.BeforeLemmas.{run_before}
+use Rattle.host_serving.proofs.BegunLemmas.{nothing_begun, enabled-front, enabled-behind, first_of-behind}
 
 module _ {C R : Type 0} (host : Host C R) where
   -- ---- where logs were handed out before
@@ -149,6 +150,12 @@ module _ {C R : Type 0} (host : Host C R) where
       → Leads host world later end
   as-leads Form world later end so = record { events = so.events; enabled = so.enabled; is = so.is; first = so.first }
 
+  -- Behind the setup of a host that is not rolling nothing is asked before the phase.
+  pub set_up_before : host.rolling ≡ false → HaveServedBefore host (set_up host)
+  set_up_before plain i within =
+      let same : asked_by host i (first_phase host) 0 ≡ asked_by host i 0 0 = ap (λ (b : Bool). asked_by host i (if b then length host.script - 1 else 0) 0) plain in
+      omega (arith, same)
+
   -- Before its first event a run is in form.
   pub run-none : (world : World C) → LeadsAs AreInRounds host world world None
   run-none world = record {
@@ -199,9 +206,9 @@ module _ {C R : Type 0} (host : Host C R) where
         (by-with host logs world later second next.events (record { enabled = next.enabled; is = next.is; first = next.first }))
 
     -- Where a phase begins and no clock has ended, the run goes on by a phase.
-    pub run-phase : first ≡ None → IsServedUpTo host world 0 → NoneStopped host world → LeadsAs AreOfPhase host world later second
+    pub run-phase : HaveServedBefore host start → first ≡ None → IsServedUpTo host world 0 → NoneStopped host world → LeadsAs AreOfPhase host world later second
         → LeadsAs AreInRounds host start (with_logs logs later) (first_of first second)
-    run-phase unended begins running next = record {
+    run-phase before unended begins running next = record {
       events = so_far.events ++ next.events;
       enabled = (led next).enabled;
       is = (led next).is;
@@ -220,13 +227,16 @@ module _ {C R : Type 0} (host : Host C R) where
         enabled : AreEnabled host behind begun
         enabled = enabled-behind host start (events_of rounds) begun (subst (AreEnabled host start) so_far.form.are so_far.enabled)
 
+        enabled_rounds : AreEnabled host start (events_of rounds)
+        enabled_rounds = enabled-front host start (events_of rounds) begun (subst (AreEnabled host start) so_far.form.are so_far.enabled)
+
         unended_begun : first_end host behind begun ≡ None
         unended_begun =
             first_of-behind (first_end host start (events_of rounds)) (first_end host behind begun)
             (sym (first_end-append host start (events_of rounds) begun) ∙ ap (first_end host start) (sym so_far.form.are) ∙ so_far.first ∙ unended)
 
         none_begun : begun ≡ []
-        none_begun = nothing_begun host logs behind world begun so_far.form.begun enabled now_is unended_begun begins running
+        none_begun = nothing_begun host logs behind world begun (run_before host start (events_of rounds) enabled_rounds before) so_far.form.begun enabled now_is unended_begun begins running
 
     -- By a close it goes on where it stands.
     pub run-close : LeadsAs AreOfClose host world later second → LeadsAs AreInRounds host start (with_logs logs later) (first_of first second)
@@ -260,18 +270,18 @@ module _ {C R : Type 0} (host : Host C R) where
   -- A run that stands in the one world, and has come to this end or to none, goes on to the other.
   pub record GoesOn (world later : World C) (end next : Option ClockEnd) : Type 0 where
     pub leads : Leads host world later next
-    pub on : (logs : List (List Command)) (start : World C) → LeadsAs AreInRounds host start (with_logs logs world) end
+    pub on : (logs : List (List Command)) (start : World C) → HaveServedBefore host start → LeadsAs AreInRounds host start (with_logs logs world) end
         → LeadsAs AreInRounds host start (with_logs logs later) (first_of end next)
 
   module _ (world later : World C) (end next : Option ClockEnd) where
     pub on_by_phase : end ≡ None → IsServedUpTo host world 0 → NoneStopped host world → LeadsAs AreOfPhase host world later next → GoesOn world later end next
     on_by_phase unended begins running so = record {
       leads = as-leads AreOfPhase world later next so;
-      on = λ logs start so_far. run-phase logs start world later end next so_far unended begins running so;
+      on = λ logs start before so_far. run-phase logs start world later end next so_far before unended begins running so;
     }
 
     pub on_by_close : LeadsAs AreOfClose host world later next → GoesOn world later end next
     on_by_close so = record {
       leads = as-leads AreOfClose world later next so;
-      on = λ logs start so_far. run-close logs start world later end next so_far so;
+      on = λ logs start before so_far. run-close logs start world later end next so_far so;
     }

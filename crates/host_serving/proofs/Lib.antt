@@ -7,5 +7,6 @@ mod MoveLemmas
 mod ClosePlanLemmas
 mod CloseLemmas
 mod CloseWorldLemmas
+mod BeforeLemmas
 mod BegunLemmas
 pub mod FormLaws

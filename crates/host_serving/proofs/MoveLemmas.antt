@@ -39,6 +39,7 @@ module _ {C R : Type 0} (host : Host C R) where
   pub keeps_turned-none : (world : World C) → KeepsTurned host world world
   keeps_turned-none world = record {
     phase = refl;
+    scanned = refl;
     going = refl;
     closing = refl;
     workers = refl;
@@ -57,6 +58,7 @@ module _ {C R : Type 0} (host : Host C R) where
   pub keeps_turned-then : (world middle later : World C) → KeepsTurned host world middle → KeepsTurned host middle later → KeepsTurned host world later
   keeps_turned-then world middle later one two = record {
     phase = two.phase ∙ one.phase;
+    scanned = two.scanned ∙ one.scanned;
     going = two.going ∙ one.going;
     closing = two.closing ∙ one.closing;
     workers = two.workers ∙ one.workers;
@@ -93,6 +95,7 @@ module _ {C R : Type 0} (host : Host C R) where
         record {
           keeps = record {
             phase = refl;
+            scanned = refl;
             going = refl;
             closing = refl;
             workers = length-set world.workers i now;
@@ -114,6 +117,7 @@ module _ {C R : Type 0} (host : Host C R) where
         record {
           keeps = record {
             phase = refl;
+            scanned = refl;
             going = refl;
             closing = refl;
             workers = length-set world.workers i now;

@@ -4,6 +4,7 @@ use Rattle.std.proofs.lemmas.Bool.{eq-eqb, ne_eqb}
 use Rattle.std.proofs.lemmas.Option.{none-some, same_Some}
 use Rattle.host_core.specs.Host.{Host, asked_in, asked_from, asked}
 use Rattle.host_core.specs.World.{World, worker_at}
+use Rattle.host_core.specs.WorldEvent.{IsRoundOver}
 use Rattle.host_serving.specs.Standing.{turns_of, asked_by, IsServedUpTo, IsServedOut}
 
 -- what is found behind a list
@@ -145,8 +146,13 @@ module _ {C R : Type 0} (host : Host C R) where
       absurd (omega (arith, later))
 
 -- All turns are served, so no worker has more to do.
-pub phase_served : {C R : Type 0} (host : Host C R) (world : World C) (k : ℕ) → IsServedUpTo host world k → k ≡ length (turns_of host world.phase) → IsServedOut host world
-phase_served {C} {R} host world k so_far all = record { served = served; over = λ i there. ((served.each i there).idle, through i there (served.each i there).served) }
+pub phase_served : {C R : Type 0} (host : Host C R) (world : World C) (k : ℕ) → (host.rolling ≡ true → IsRoundOver host world) → IsServedUpTo host world k
+    → k ≡ length (turns_of host world.phase) → IsServedOut host world
+phase_served {C} {R} host world k settled so_far all = record {
+  served = served;
+  over = λ i there. ((served.each i there).idle, through i there (served.each i there).served);
+  settled = settled;
+}
   where
     served : IsServedUpTo host world (length (turns_of host world.phase))
     served = subst (IsServedUpTo host world) all so_far

@@ -3,7 +3,7 @@ use Rattle.std.specs.Prelude.{◌≡◌, ◌≢◌, ◌⊎◌, ℕ, ◌<◌, ◌
 use Rattle.log_codec.specs.declared.command.Command.TheVariants.{NextEpoch}
 use Rattle.host_core.specs.Host.{Host}
 use Rattle.host_core.specs.World.{Worker, World, worker_at, shard_at}
-use Rattle.host_core.specs.WorldEvent.{IsPhaseOver, IsLast, AllMoved, HasAdvanced, logging, next_clock}
+use Rattle.host_core.specs.WorldEvent.{IsPhaseOver, IsRoundOver, IsLast, AllMoved, HasAdvanced, logging, next_clock}
 use Rattle.host_world.specs.declared.fault.ClockEnd.{ClockEnd}
 use Rattle.host_serving.specs.Leading.{CanDoNoMore}
 use Rattle.host_serving.specs.Standing.{NoneStuckBelow}
@@ -42,6 +42,7 @@ module _ {C R : Type 0} (host : Host C R) (world : World C) where
   pub record CanAllAdvance : Type 0 where
     pub going : world.over ≡ false
     pub through : IsPhaseOver host world
+    pub settled : host.rolling ≡ true → IsRoundOver host world
     pub turns : (i : ℕ) → i < length world.workers
         → HasAdvanced host world i 0 ⊎ (HasAdvanced host world i 1 × IsLast host world × AllMoved world)
 
@@ -70,6 +71,7 @@ module _ {C R : Type 0} (host : Host C R) (world : World C) where
     pub behind : (i : ℕ) → count ≤ i → worker_at host later i ≡ worker_at host world i
     pub shards : later.shards ≡ world.shards
     pub phase : later.phase ≡ world.phase
+    pub scanned : later.scanned ≡ world.scanned
     pub going : later.over ≡ false
     pub workers : length later.workers ≡ length world.workers
     pub closing : 0 < count → later.closing ≡ true
@@ -83,6 +85,7 @@ module _ {C R : Type 0} (host : Host C R) (world : World C) where
   -- What moves leave of the world and its workers.
   pub record KeepsTurned (later : World C) : Type 0 where
     pub phase : later.phase ≡ world.phase
+    pub scanned : later.scanned ≡ world.scanned
     pub going : later.over ≡ world.over
     pub closing : later.closing ≡ world.closing
     pub workers : length later.workers ≡ length world.workers
@@ -121,6 +124,7 @@ EndsMoves host world later (Some end) = HaveSomeStuck host world later × NoneSt
 pub record ShardsAreClosed {C R : Type 0} (host : Host C R) (world later : World C) : Type 0 where
   pub all : HaveTurned host later
   pub through : IsPhaseOver host later
+  pub settled : host.rolling ≡ true → IsRoundOver host later
   pub phase : later.phase ≡ world.phase
   pub workers : length later.workers ≡ length world.workers
   pub kept : (i : ℕ) → IsKept (worker_at host world i) (worker_at host later i)

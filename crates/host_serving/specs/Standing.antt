@@ -2,7 +2,7 @@
 use Rattle.std.specs.Prelude.{◌≡◌, ◌⊎◌, ℕ, suc, ◌+◌, ◌<◌, ◌≤◌, true, false, List, [], length, take, get_or, Option, None, IfSome}
 use Rattle.host_core.specs.Host.{Host, asked_in, asked_from}
 use Rattle.host_core.specs.World.{Worker, World, worker_at}
-use Rattle.host_core.specs.WorldEvent.{IsPhaseOver, HasAdvanced}
+use Rattle.host_core.specs.WorldEvent.{IsPhaseOver, IsRoundOver, HasAdvanced}
 use Rattle.host_world.specs.declared.fault.ClockEnd.{ClockEnd}
 
 -- what a phase asks, each request with its worker
@@ -28,10 +28,15 @@ module _ {C R : Type 0} (host : Host C R) (world : World C) where
     pub within : world.phase < length host.script
     pub each : (i : ℕ) → i < length world.workers → HasServedUpTo (worker_at host world i) (asked_by host i world.phase turns)
 
-  -- all turns of the phase are served so, and no worker has more to do in it
+  -- each worker has served all that is asked of it before the phase
+  abbrev pub HaveServedBefore : Type 0
+  HaveServedBefore = (i : ℕ) → i < length world.workers → asked_by host i world.phase 0 ≤ (worker_at host world i).served
+
+  -- all turns of the phase are served so, and no worker has more to do in it, nor in a rolling host in the round
   pub record IsServedOut : Type 0 where
     pub served : IsServedUpTo (length (turns_of host world.phase))
     pub over : IsPhaseOver host world
+    pub settled : host.rolling ≡ true → IsRoundOver host world
 
   -- no worker's clock ended in this phase
   abbrev pub NoneStopped : Type 0

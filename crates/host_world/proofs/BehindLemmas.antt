@@ -79,7 +79,7 @@ module _ (functions : DigestFunctions) (settings : Settings) (script : List (Lis
       let seats = (shard_at world place.shard).contents in
       let clock = (worker_at (host functions settings script) world i).clock in (
         owns_longer (longest_of settings.header) longest_blob (longest_fits settings.header) (get_or seats place.seat vacant) request.key
-            (seat_serves (longest_of settings.header) functions.digest seats whole.mirrors place.seat request (subst (λ (wide : Bool). request.key < 2 ^ key_bits wide) (sym whole.tree) (next_in_range functions settings script behind.keys world i request may.next)) may.owns).own,
+            (seat_serves (longest_of settings.header) functions.digest seats whole.mirrors place.seat request (subst (λ (wide : Bool). request.key < 2 ^ key_bits wide) (sym whole.tree) (next_in_range functions settings script behind.keys _ i may.due.phase request may.due.next)) may.owns).own,
         open_at clock _ (get_or seats place.seat vacant) (omega (arith, epoch, ap moved_by still))
             (waits_there (λ element. element.stamp.epoch ≡ _) seats place.seat whole.stamped),
       )

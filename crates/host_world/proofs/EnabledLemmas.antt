@@ -1,12 +1,13 @@
 -- Events that are enabled, as tests of the world tell it.
-use Rattle.std.proofs.Common.{◌≡◌, ℕ, zero, suc, ◌+◌, ◌<◌, ◌≤◌, ◌%◌, Bool, true, false, not, ◌&&◌, ◌||◌, List, [], ◌∷◌, length, slice_get, Option, Some, None, is_none, refl, sym, ◌∙◌, subst, inl, inr, ◌⊎◌, arith}
+use Rattle.std.proofs.Common.{◌≡◌, ℕ, zero, suc, ◌+◌, ◌<◌, ◌≤◌, ◌%◌, Bool, true, false, not, ◌&&◌, ◌||◌, List, [], ◌∷◌, length, get_or, slice_get, Option, Some, None, is_none, refl, sym, ◌∙◌, subst, inl, inr, ◌⊎◌, arith}
 use Rattle.std.specs.Prelude.{◌==◌, nat_lt, nat_le}
 use Rattle.std.specs.List.{AllByRecursion}
 use Rattle.std.proofs.lemmas.Bool.{false≢true, and_parts, cases_lt, leb-true, ltb-true, eqb-true}
 use Rattle.std.proofs.lemmas.Option.{none-some}
+use Rattle.record_text.specs.declared.element.Element.{Element}
 use Rattle.host_core.specs.Host.{Host, asked}
 use Rattle.host_core.specs.World.{Place, World, worker_at, shard_at, epoch_of}
-use Rattle.host_core.specs.WorldEvent.{WorldEvent, takes, loses, serves, gives, advances, moves, opens, step, Holds, IsNext, IsLast, AllMoved, HasAdvanced, IsServing, MayTake, MayServe, MayAdvance, MayMove, IsEnabled, AreEnabled}
+use Rattle.host_core.specs.WorldEvent.{WorldEvent, takes, loses, serves, gives, advances, moves, opens, raises, enters, scans, finishes, stops, step, AreUpTo, Holds, IsNext, IsLast, AllMoved, HasAdvanced, IsServing, MayTake, MayServe, MayAdvance, MayMove, IsEnabled, AreEnabled}
 
 -- ---- tests
 
@@ -42,6 +43,17 @@ below_all (suc n) p is i there = go (cases_lt i n) (below_all n p parts.1 i)
     go : (i < n) ⊎ (n ≤ i) → (i < n → p i ≡ true) → p i ≡ true
     go (inl less) rest = rest less
     go (inr more) rest = subst (λ (k : ℕ). p k ≡ true) (omega (arith, more, there)) parts.0
+
+-- none of them waits in a later epoch
+abbrev up_to : ℕ → List Element → Bool
+up_to epoch [] = true
+up_to epoch (element ∷ elements) = nat_le element.stamp.epoch epoch && up_to epoch elements
+
+are_up_to : (epoch : ℕ) (elements : List Element) → up_to epoch elements ≡ true → AreUpTo epoch elements
+are_up_to epoch [] is = tt
+are_up_to epoch (element ∷ elements) is =
+    let parts = and_parts (nat_le element.stamp.epoch epoch) (up_to epoch elements) is in
+    (leb-true element.stamp.epoch epoch parts.0, are_up_to epoch elements parts.1)
 
 module _ {C R : Type 0} (host : Host C R) where
   -- ---- what is tested of a world
@@ -86,7 +98,9 @@ module _ {C R : Type 0} (host : Host C R) where
   serving_at world i place request =
       are_true (serving world i)
       ∷ nat_lt place.shard (length world.shards) ∷ nat_lt place.seat (length (shard_at world place.shard).contents)
-      ∷ host.owns place.shard (shard_at world place.shard).contents place.seat request ∷ []
+      ∷ host.owns place.shard (shard_at world place.shard).contents place.seat request
+      ∷ nat_le (epoch_of host world) (worker_at host world i).clock.at.epoch
+      ∷ up_to (worker_at host world i).clock.at.epoch (host.pending (get_or (shard_at world place.shard).contents place.seat host.vacant)) ∷ []
 
   may_serve : (world : World C) (i : ℕ) (place : Place) (request : R) → are_true (serving_at world i place request) ≡ true
       → Holds (worker_at host world i) place false → IsNext host world i request → MayServe host world i place request
@@ -96,7 +110,12 @@ module _ {C R : Type 0} (host : Host C R) where
         serving = is_serving world i tests.0;
         there = (ltb-true place.shard (length world.shards) tests.1.0, ltb-true place.seat (length (shard_at world place.shard).contents) tests.1.1.0);
         holds = holds;
-        next = next;
+        due = record {
+          phase = world.phase;
+          next = next;
+          begun = leb-true (epoch_of host world) (worker_at host world i).clock.at.epoch tests.1.1.1.1.0;
+          reached = are_up_to (worker_at host world i).clock.at.epoch _ tests.1.1.1.1.1.0;
+        };
         owns = tests.1.1.1.0;
       }
 
@@ -117,23 +136,24 @@ module _ {C R : Type 0} (host : Host C R) where
   abbrev in_last_phase : World C → Bool
   in_last_phase world = nat_le (length host.script) (suc world.phase)
 
-  -- the phase is over, and the worker has not advanced, or once where all shards are moved in a last close
+  -- the host is not rolling, the phase is over, and the worker has not advanced, or once where all shards are moved in a last close
   abbrev advancing : World C → ℕ → List Bool
   advancing world i =
-      not world.over ∷ nat_lt i (length world.workers)
+      not host.rolling ∷ not world.over ∷ nat_lt i (length world.workers)
       ∷ below (length world.workers) (holds_none world) ∷ below (length world.workers) (none_next world)
       ∷ (advanced world i 0 || (advanced world i 1 && (in_last_phase world && below (length world.shards) (is_moved world)))) ∷ []
 
   may_advance : (world : World C) (i : ℕ) → are_true (advancing world i) ≡ true → MayAdvance host world i
   may_advance world i is = record {
-    going = is_false world.over tests.0;
-    there = ltb-true i (length world.workers) tests.1.0;
+    going = is_false world.over tests.1.0;
+    there = ltb-true i (length world.workers) tests.1.1.0;
     through = λ j there. (
-      is_nothing (worker_at host world j).holds (below_all (length world.workers) (holds_none world) tests.1.1.0 j there),
+      is_nothing (worker_at host world j).holds (below_all (length world.workers) (holds_none world) tests.1.1.1.0 j there),
       inr (λ request next. none-some _ (sym (is_nothing (slice_get (asked host j) (worker_at host world j).served)
-          (below_all (length world.workers) (none_next world) tests.1.1.1.0 j there)) ∙ next)),
+          (below_all (length world.workers) (none_next world) tests.1.1.1.1.0 j there)) ∙ next)),
     );
-    turns = go (advanced world i 0) refl tests.1.1.1.1.0;
+    settled = λ rolling. absurd (false≢true (sym (is_false host.rolling tests.0) ∙ rolling));
+    turns = go (advanced world i 0) refl tests.1.1.1.1.1.0;
   }
     where
       tests : AllByRecursion (λ b. b ≡ true) (advancing world i)
@@ -184,6 +204,11 @@ module _ {C R : Type 0} (host : Host C R) where
   IsTested world (advances i) = are_true (advancing world i) ≡ true
   IsTested world (moves i s) = are_true (moving world i s) ≡ true
   IsTested world opens = ⊥
+  IsTested world (raises i) = ⊥
+  IsTested world (enters i) = ⊥
+  IsTested world (scans i place) = ⊥
+  IsTested world (finishes i) = ⊥
+  IsTested world (stops i found) = ⊥
 
   abbrev pub AreTested : World C → List (WorldEvent R) → Type 0
   AreTested world [] = Unit {0}
@@ -197,6 +222,11 @@ module _ {C R : Type 0} (host : Host C R) where
   is_enabled world (advances i) is = may_advance world i is
   is_enabled world (moves i s) is = may_move world i s is
   is_enabled world opens is = absurd is
+  is_enabled world (raises i) is = absurd is
+  is_enabled world (enters i) is = absurd is
+  is_enabled world (scans i place) is = absurd is
+  is_enabled world (finishes i) is = absurd is
+  is_enabled world (stops i found) is = absurd is
 
   -- Events of which all tests answer yes are enabled.
   pub are_enabled : (world : World C) (events : List (WorldEvent R)) → AreTested world events → AreEnabled host world events

@@ -1,13 +1,15 @@
 -- Logs in front of those of a world's workers change nothing of what may happen, of what happens, and of where clocks end.
-use Rattle.std.proofs.Common.{◌≡◌, ℕ, zero, suc, ◌<◌, ◌==◌, ◌%◌, Bool, true, false, List, [], ◌∷◌, ◌++◌, length, get_or, set, replicate, slice_get, Option, Some, None, is_none, inl, inr, ◌⊎◌, if◌then◌else◌, refl, sym, ◌∙◌, ap, subst, append_assoc, arith}
+use Rattle.std.proofs.Common.{◌≡◌, ℕ, zero, suc, ◌+◌, ◌<◌, ◌≤◌, ◌==◌, ◌%◌, max, Bool, true, false, List, [], ◌∷◌, ◌++◌, length, get_or, set, replicate, slice_get, Option, Some, None, is_none, inl, inr, ◌⊎◌, if◌then◌else◌, refl, sym, ◌∙◌, ap, subst, append_assoc, arith}
 use Rattle.std.proofs.lemmas.List.{length-set, append-nil}
 use Rattle.lamport_clocks.specs.Reading.{Reading}
 use Rattle.lamport_clocks.specs.Clock.{last_epoch}
 use Rattle.log_codec.specs.declared.command.Command.{Command}
 use Rattle.log_codec.specs.declared.command.Command.TheVariants.{NextEpoch}
 use Rattle.host_core.specs.Host.{Host, Done, asked}
-use Rattle.host_core.specs.World.{Place, Worker, Seats, World, fresh, worker_at, shard_at}
-use Rattle.host_core.specs.WorldEvent.{WorldEvent, takes, loses, serves, gives, advances, moves, opens, IsEnabled, IsThrough, IsPhaseOver, IsLast, IsNext, HasAdvanced, IsServing, step, with_worker, after_serve, after_move, after_advance, next_clock, logging, having_served}
+use Rattle.host_core.specs.World.{Place, Worker, Seats, World, fresh, worker_at, shard_at, scanned_at, epoch_of}
+use Rattle.host_core.specs.Deeds.{pending_of}
+use Rattle.record_text.specs.declared.element.Element.{Element}
+use Rattle.host_core.specs.WorldEvent.{WorldEvent, takes, loses, serves, gives, advances, moves, opens, raises, enters, scans, finishes, stops, AreUpTo, AreFrom, IsEnabled, IsThrough, IsPhaseOver, IsRoundOver, IsLast, IsNext, HasAdvanced, HasEnded, IsServing, IsRolling, step, with_worker, after_serve, after_move, after_scan, after_advance, next_clock, logging, having_served, having_scanned}
 use Rattle.host_world.specs.declared.fault.ClockEnd.{ClockEnd}
 use Rattle.host_world.specs.Behind.{logged_before, before_each, with_logs}
 use Rattle.host_world.specs.Ending.{end_of, end_at}
@@ -101,11 +103,46 @@ module _ {C R : Type 0} (host : Host C R) where
     last_other (inl end) = inl end
     last_other (inr stopped) = inr (stopped.0, omega (arith, stopped.1, count), ap (λ (w : Worker). w.stopped) (same stopped.0) ∙ stopped.2)
 
+    -- the round is over
+    pub round_other : IsRoundOver host world → IsRoundOver host other
+    round_other over i there =
+        let was = over i (omega (arith, there, count)) in (
+          ap (λ (w : Worker). w.stopped) (same i) ∙ was.0,
+          ap (λ (w : Worker). slice_get (asked host i) w.served) (same i) ∙ was.1,
+          was.2,
+        )
+
+    rolling_other : (i : ℕ) → IsRolling host world i → IsRolling host other i
+    rolling_other i may = record {
+      serving = serving_other i may.serving;
+      rolling = may.rolling;
+      running = ap (λ (w : Worker). w.stopped) (same i) ∙ may.running;
+    }
+
+    -- a clock has ended
+    ended_other : (clock : Reading) (found : Option Element) → HasEnded host world clock found → HasEnded host other clock found
+    ended_other clock found (inl last) = inl last
+    ended_other clock found (inr (inl past)) = inr (inl past)
+    ended_other clock found (inr (inr at)) = inr (inr (record {
+      element = at.element;
+      is = at.is;
+      of_epoch = at.of_epoch;
+      had = record {
+        there = omega (arith, at.had.there, count);
+        come = subst (λ (c : Reading). (at.element.stamp.epoch < c.at.epoch) ⊎ ((at.element.stamp.epoch ≡ c.at.epoch) × (at.element.stamp.counter ≤ c.at.counter)))
+            (sym (ap (λ (w : Worker). w.clock) (same at.element.verifier))) at.had.come;
+      };
+      ends = at.ends;
+    }))
+
     pub advanced_other : (i times : ℕ) → HasAdvanced host world i times → HasAdvanced host other i times
     advanced_other i times advanced = ap (λ (w : Worker). w.clock.at.epoch) (same i) ∙ advanced
 
   module _ (world : World C) (workers : List Worker) (count : length workers ≡ length world.workers)
       (same : (i : ℕ) → unlogged (get_or workers i (fresh host.header)) ≡ unlogged (worker_at host world i)) where
+    clock_same : (i : ℕ) → (get_or workers i (fresh host.header)).clock ≡ (worker_at host world i).clock
+    clock_same i = ap (λ (w : Worker). w.clock) (same i)
+
     -- what is enabled in the one is in the other
     pub enabled_other : (event : WorldEvent R) → IsEnabled host world event → IsEnabled host (record world { workers = workers }) event
     enabled_other (takes i place) may = record {
@@ -124,7 +161,12 @@ module _ {C R : Type 0} (host : Host C R) where
       serving = serving_other world workers count same i may.serving;
       there = may.there;
       holds = ap (λ (w : Worker). w.holds) (same i) ∙ may.holds;
-      next = subst (λ (n : ℕ). slice_get (asked host i) n ≡ Some (world.phase, request)) (sym (ap (λ (w : Worker). w.served) (same i))) may.next;
+      due = record {
+        phase = may.due.phase;
+        next = subst (λ (n : ℕ). slice_get (asked host i) n ≡ Some (may.due.phase, request)) (sym (ap (λ (w : Worker). w.served) (same i))) may.due.next;
+        begun = subst (λ (c : Reading). host.header.first + may.due.phase ≤ c.at.epoch) (sym (clock_same i)) may.due.begun;
+        reached = subst (λ (c : Reading). AreUpTo c.at.epoch (host.pending (get_or (shard_at world place.shard).contents place.seat host.vacant))) (sym (clock_same i)) may.due.reached;
+      };
       owns = may.owns;
     }
     enabled_other (gives i place) may = record {
@@ -135,6 +177,7 @@ module _ {C R : Type 0} (host : Host C R) where
       going = may.going;
       there = omega (arith, may.there, count);
       through = over_other world workers count same may.through;
+      settled = λ rolling. round_other world workers count same (may.settled rolling);
       turns = turns may.turns;
     }
       where
@@ -160,6 +203,37 @@ module _ {C R : Type 0} (host : Host C R) where
       turned = λ i there. advanced_other world workers count same i 1 (may.turned i (omega (arith, there, count)));
       moved = may.moved;
       more = λ last. may.more (last_other (record world { workers = workers }) world.workers (sym count) (λ i. sym (same i)) last);
+    }
+    enabled_other (raises i) may = record {
+      rolling = rolling_other world workers count same i may.rolling;
+      wanted = subst (λ (c : Reading). c.at.epoch < epoch_of host world) (sym (clock_same i)) may.wanted;
+      more = subst (λ (c : Reading). c.at.epoch < last_epoch) (sym (clock_same i)) may.more;
+      scanned = λ j there. subst (λ (c : Reading). c.at.epoch ≤ scanned_at host world j) (sym (clock_same i)) (may.scanned j (omega (arith, there, count)));
+    }
+    enabled_other (enters i) may = record {
+      rolling = rolling_other world workers count same i may.rolling;
+      newer = subst (λ (c : Reading). c.at.epoch < world.newest) (sym (clock_same i)) may.newer;
+      more = subst (λ (c : Reading). c.at.epoch < last_epoch) (sym (clock_same i)) may.more;
+    }
+    enabled_other (scans i place) may = record {
+      rolling = rolling_other world workers count same i may.rolling;
+      shard = may.shard;
+      first = may.first;
+      holds = ap (λ (w : Worker). w.holds) (same i) ∙ may.holds;
+      own = subst (λ (n : ℕ). place.shard % n ≡ i) (sym count) may.own;
+      before = may.before;
+      turned = ap (λ (c : Reading). c.at.epoch) (clock_same i) ∙ may.turned;
+      earlier = may.earlier;
+    }
+    enabled_other (finishes i) may = record {
+      rolling = rolling_other world workers count same i may.rolling;
+      reached = λ s there own. subst (λ (c : Reading). AreFrom c.at.epoch (pending_of host (shard_at world s).contents)) (sym (clock_same i))
+          (may.reached s there (subst (λ (n : ℕ). s % n ≡ i) count own));
+    }
+    enabled_other (stops i found) may = record {
+      rolling = rolling_other world workers count same i may.rolling;
+      ended = subst (λ (c : Reading). HasEnded host (record world { workers = workers }) c found) (sym (clock_same i))
+          (ended_other world workers count same (worker_at host world i).clock found may.ended);
     }
 
   module _ (logs : List (List Command)) (world : World C) where
@@ -205,6 +279,15 @@ module _ {C R : Type 0} (host : Host C R) where
         ap (λ (w : World C). record w { shards = set world.shards s (record { contents = done.after; moved = true }) })
         (changed_with (λ (w : Worker). logging w done.commands done.clock) (logging-before done.commands done.clock) i)
 
+    scan_with : (i : ℕ) (place : Place) (shard : Seats C) (done : Option (Done (List C)))
+        → after_scan (with_logs logs world) i (worker_at host (with_logs logs world) i) place shard done
+        ≡ with_logs logs (after_scan world i (worker_at host world i) place shard done)
+    scan_with i place shard None = changed_with (λ (w : Worker). record w { stopped = true }) (λ log worker. refl) i
+    scan_with i place shard (Some done) =
+        ap (λ (w : World C). record w { shards = set world.shards place.shard (record shard { contents = done.after }) })
+        (changed_with (λ (w : Worker). having_scanned (logging w done.commands done.clock) place)
+        (λ log worker. ap (λ (w : Worker). having_scanned w place) (logging-before done.commands done.clock log worker)) i)
+
     advance_with : (i : ℕ) → after_advance (with_logs logs world) i (worker_at host (with_logs logs world) i) ≡ with_logs logs (after_advance world i (worker_at host world i))
     advance_with i =
         ap (λ (e : ℕ). if e == last_epoch then record (with_logs logs world) { over = true }
@@ -236,6 +319,15 @@ module _ {C R : Type 0} (host : Host C R) where
         ap (λ (c : Reading). after_move (with_logs logs world) i (worker_at host (with_logs logs world) i) s (host.move i c s (shard_at world s).contents)) (clock_with i)
         ∙ move_with i s _
     step_with opens = refl
+    step_with (raises i) = ap (λ (c : Reading). record (with_logs logs world) { newest = max world.newest (suc c.at.epoch) }) (clock_with i)
+    step_with (enters i) =
+        changed_with (λ (w : Worker). logging w (NextEpoch ∷ []) (next_clock w.clock)) (λ log worker. logging-before (NextEpoch ∷ []) (next_clock worker.clock) log worker) i
+    step_with (scans i place) =
+        ap (λ (c : Reading). after_scan (with_logs logs world) i (worker_at host (with_logs logs world) i) place (shard_at world place.shard)
+        (host.move i c place.shard (shard_at world place.shard).contents)) (clock_with i)
+        ∙ scan_with i place (shard_at world place.shard) _
+    step_with (finishes i) = ap (λ (c : Reading). record (with_logs logs world) { scanned = set world.scanned i c.at.epoch }) (clock_with i)
+    step_with (stops i found) = changed_with (λ (w : Worker). record w { stopped = true }) (λ log worker. refl) i
 
     -- where clocks end
     end_with : (i : ℕ) → end_at host (with_logs logs world) i ≡ end_at host world i
@@ -254,6 +346,12 @@ module _ {C R : Type 0} (host : Host C R) where
     ends_with (moves i s) =
         ap (λ (c : Reading). if is_none (host.move i c s (shard_at world s).contents) then Some (record { worker = i; at = c.at }) else None) (clock_with i)
     ends_with opens = refl
+    ends_with (raises i) = refl
+    ends_with (enters i) = refl
+    ends_with (scans i place) =
+        ap (λ (c : Reading). if is_none (host.move i c place.shard (shard_at world place.shard).contents) then Some (record { worker = i; at = c.at }) else None) (clock_with i)
+    ends_with (finishes i) = refl
+    ends_with (stops i found) = ap (λ (e : ClockEnd). Some e) (end_with i)
 
   -- ---- how many workers there are
 
@@ -266,6 +364,11 @@ module _ {C R : Type 0} (host : Host C R) where
       → length (after_move world i worker s done).workers ≡ length world.workers
   length-after_move world i s worker None = length-set world.workers i _
   length-after_move world i s worker (Some done) = length-set world.workers i _
+
+  length-after_scan : (world : World C) (i : ℕ) (worker : Worker) (place : Place) (shard : Seats C) (done : Option (Done (List C)))
+      → length (after_scan world i worker place shard done).workers ≡ length world.workers
+  length-after_scan world i worker place shard None = length-set world.workers i _
+  length-after_scan world i worker place shard (Some done) = length-set world.workers i _
 
   -- as many as before
   pub length-step : (world : World C) (event : WorldEvent R) → length (step host world event).workers ≡ length world.workers
@@ -282,3 +385,8 @@ module _ {C R : Type 0} (host : Host C R) where
       go false = length-set world.workers i _
   length-step world (moves i s) = length-after_move world i s _ _
   length-step world opens = refl
+  length-step world (raises i) = refl
+  length-step world (enters i) = length-set world.workers i _
+  length-step world (scans i place) = length-after_scan world i _ place (shard_at world place.shard) _
+  length-step world (finishes i) = refl
+  length-step world (stops i found) = length-set world.workers i _

@@ -1,6 +1,7 @@
 -- The frontiers of a world's shards stay where the setup put them.
 use Rattle.std.proofs.Common.{◌≡◌, ℕ, zero, suc, ◌<◌, ◌==◌, Bool, true, false, List, [], ◌∷◌, get_or, set, map, Option, Some, None, if◌then◌else◌, refl, sym, ◌∙◌, ap, subst, arith}
 use Rattle.std.specs.Prelude.{IfSome}
+use Rattle.std.proofs.lemmas.Bool.{false≢true}
 use Rattle.std.proofs.lemmas.List.{map-set, set-get_or}
 use Rattle.tree_keys.specs.Path.{root_of}
 use Rattle.lamport_clocks.specs.Reading.{Reading}
@@ -13,7 +14,7 @@ use Rattle.merkle_records.specs.Merkle.{Digest, GivesDigests}
 use Rattle.log_codec.specs.declared.command.Command.TheVariants.{NextEpoch}
 use Rattle.host_core.specs.Host.{Done}
 use Rattle.host_core.specs.World.{Place, Seats, World, unmoved, worker_at, shard_at, set_up}
-use Rattle.host_core.specs.WorldEvent.{WorldEvent, takes, loses, serves, gives, advances, moves, opens, IsEnabled, AreEnabled, MayServe, MayMove, step, run_events, with_worker, with_shard, after_serve, after_move, logging, next_clock}
+use Rattle.host_core.specs.WorldEvent.{WorldEvent, takes, loses, serves, gives, advances, moves, opens, raises, enters, scans, finishes, stops, IsEnabled, AreEnabled, MayServe, MayMove, step, run_events, with_worker, with_shard, after_serve, after_move, logging, next_clock}
 use Rattle.host_shard.specs.Content.{Content, cold, hot, vacant}
 use Rattle.host_plan.specs.Setup.{paths_below, first_content}
 use Rattle.script_text.specs.declared.task.Task.{Task}
@@ -143,6 +144,11 @@ module _ (functions : DigestFunctions) (settings : Settings) (script : List (Lis
       go false = refl
   step_frontiers world (moves i s) orderly may = move_step world i s orderly may _ refl
   step_frontiers world opens orderly may = opened_frontiers world.shards
+  step_frontiers world (raises i) orderly may = absurd (false≢true may.rolling.rolling)
+  step_frontiers world (enters i) orderly may = absurd (false≢true may.rolling.rolling)
+  step_frontiers world (scans i place) orderly may = absurd (false≢true may.rolling.rolling)
+  step_frontiers world (finishes i) orderly may = absurd (false≢true may.rolling.rolling)
+  step_frontiers world (stops i found) orderly may = absurd (false≢true may.rolling.rolling)
 
   run_frontiers : (world : World Content) (events : List (WorldEvent Request)) → IsOrderly functions settings script world
       → AreEnabled (host functions settings script) world events → frontiers (run_events (host functions settings script) world events) ≡ frontiers world

@@ -14,7 +14,7 @@ use Rattle.record_text.specs.Longest.{longest_of}
 use Rattle.merkle_records.specs.Merkle.{GivesDigests}
 use Rattle.host_core.specs.Host.{Done, Host}
 use Rattle.host_core.specs.World.{Place, Worker, Seats, World, fresh, unmoved, worker_at, shard_at, epoch_of, set_up}
-use Rattle.host_core.specs.WorldEvent.{WorldEvent, takes, loses, serves, gives, advances, moves, opens, IsEnabled, AreEnabled, MayServe, MayMove, MayOpen, step, run_events, with_worker, with_shard, after_serve, after_move, after_advance, next_clock, logging}
+use Rattle.host_core.specs.WorldEvent.{WorldEvent, takes, loses, serves, gives, advances, moves, opens, raises, enters, scans, finishes, stops, IsEnabled, AreEnabled, MayServe, MayMove, MayOpen, step, run_events, with_worker, with_shard, after_serve, after_move, after_advance, next_clock, logging}
 use Rattle.log_codec.specs.declared.command.Command.TheVariants.{NextEpoch}
 use Rattle.host_shard.specs.Content.{Content, vacant}
 use Rattle.host_shard.specs.Shard.{new_shard}
@@ -146,7 +146,7 @@ module _ (functions : DigestFunctions) (settings : Settings) (script : List (Lis
         let whole : IsOrderlyShard (longest_of settings.header) (wide_of settings.header) functions.digest clock.at.epoch seats.contents =
         subst (λ (e : ℕ). IsOrderlyShard (longest_of settings.header) (wide_of settings.header) functions.digest e seats.contents) (omega (arith, epoch, ap moved_by still)) (orderly.shards place.shard may.there.0) in
         let small : wide_among seats.contents ≡ wide_of settings.header → request.key < 2 ^ key_bits (wide_among seats.contents) =
-        λ tree. subst (λ (wide : Bool). request.key < 2 ^ key_bits wide) (sym tree) (next_in_range functions settings script keys world i request may.next) in
+        λ tree. subst (λ (wide : Bool). request.key < 2 ^ key_bits wide) (sym tree) (next_in_range functions settings script keys _ i may.due.phase request may.due.next) in
         let kept = serve_keeps settings.absent (longest_of settings.header) functions.digest i clock seats.contents place.seat request done digests whole.mirrors (small whole.tree) may.owns is in
         let after : IsOrderlyShard (longest_of settings.header) (wide_of settings.header) functions.digest clock.at.epoch (set seats.contents place.seat done.after) = record {
           mirrors = kept.mirrors;
@@ -229,6 +229,11 @@ module _ (functions : DigestFunctions) (settings : Settings) (script : List (Lis
     step_orderly world (advances i) orderly may = advance_orderly world i orderly
     step_orderly world (moves i s) orderly may = move_orderly world i s orderly may _ refl
     step_orderly world opens orderly may = open_orderly world orderly may
+    step_orderly world (raises i) orderly may = absurd (false≢true may.rolling.rolling)
+    step_orderly world (enters i) orderly may = absurd (false≢true may.rolling.rolling)
+    step_orderly world (scans i place) orderly may = absurd (false≢true may.rolling.rolling)
+    step_orderly world (finishes i) orderly may = absurd (false≢true may.rolling.rolling)
+    step_orderly world (stops i found) orderly may = absurd (false≢true may.rolling.rolling)
 
     -- events that are enabled
     pub run_orderly : (world : World Content) (events : List (WorldEvent Request)) → IsOrderly functions settings script world → AreEnabled host world events → IsOrderly functions settings script (run_events host world events)

@@ -13,10 +13,7 @@ use Rattle.record_text.specs.Tree.{wide_of}
 use Rattle.record_text.specs.Longest.{longest_of}
 use Rattle.script_text.specs.declared.task.Task.{Task}
 use Rattle.script_text.specs.Text.{IsTask, AreTasks}
-use Rattle.host_shard.specs.Content.{Content}
-use Rattle.host_core.specs.Host.{asked_in, asked_from}
-use Rattle.host_core.specs.World.{World}
-use Rattle.host_core.specs.WorldEvent.{IsNext}
+use Rattle.host_core.specs.Host.{asked_in, asked_from, asked}
 use Rattle.host_laws.proofs.ToldLaws.{all-append}
 use Rattle.host_world.specs.declared.settings.Settings.{Settings}
 use Rattle.host_world.specs.Behind.{AreInRange, HaveShortValues}
@@ -94,8 +91,8 @@ at_index limit (first ∷ asks) zero ask all is = subst (InRange limit) (same_So
 at_index limit (first ∷ asks) (suc k) ask all is = at_index limit asks k ask all.1 is
 
 -- A worker's next request asks for a key in range.
-pub next_in_range : (functions : DigestFunctions) (settings : Settings) (script : List (List Task)) → AreInRange settings.header script → (world : World Content) (i : ℕ) (request : Request)
-    → IsNext (shipped_host functions settings script) world i request → request.key < 2 ^ key_bits (wide_of settings.header)
-next_in_range functions settings script keys world i request is =
+pub next_in_range : (functions : DigestFunctions) (settings : Settings) (script : List (List Task)) → AreInRange settings.header script → (served i phase : ℕ) (request : Request)
+    → slice_get (asked (shipped_host functions settings script) i) served ≡ Some (phase, request) → request.key < 2 ^ key_bits (wide_of settings.header)
+next_in_range functions settings script keys served i phase request is =
     let limit = 2 ^ key_bits (wide_of settings.header) in
-    at_index limit (asked_from i 0 (map (map turn_of) script)) _ (world.phase, request) (in_phases (λ request. request.key < limit) i 0 script keys) is
+    at_index limit (asked_from i 0 (map (map turn_of) script)) served (phase, request) (in_phases (λ request. request.key < limit) i 0 script keys) is

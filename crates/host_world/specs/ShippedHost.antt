@@ -1,5 +1,5 @@
 -- The host that is shipped.
-use Rattle.std.specs.Prelude.{ℕ, ◌^◌, ◌==◌, ◌&&◌, Bool, false, not, List, [], ◌∷◌, length, map, get_or, replicate, nat_lt, nat_le, Option, Some, None, if◌then◌else◌}
+use Rattle.std.specs.Prelude.{ℕ, ◌^◌, ◌==◌, ◌&&◌, Bool, true, false, not, List, [], ◌∷◌, length, map, get_or, replicate, nat_lt, nat_le, Option, Some, None, if◌then◌else◌}
 use Rattle.std.specs.List.{list_any}
 use Rattle.tree_keys.specs.Path.{is_prefix}
 use Rattle.lamport_clocks.specs.Reading.{Reading}
@@ -102,7 +102,12 @@ shipped_host functions settings script =
       owns = λ s seats seat request. is_place_of longest seats seat request;
       telling = told;
       script = map (map turn_of) script;
+      rolling = false;
       setup = set_up_by header bits;
       serve = λ i clock content request. serve_at settings.absent functions.digest i clock content request;
       move = λ i clock s seats. move_seats functions.digest i settings.hot (stage_of clock seats);
     }
+
+-- the same, where all phases are served in one round
+abbrev pub rolling_host : DigestFunctions → Settings → List (List Task) → Host Content Request
+rolling_host functions settings script = record (shipped_host functions settings script) { rolling = true }

@@ -1,5 +1,5 @@
 -- What the code's world shows: a world of the machine.
-use Rattle.std.specs.Prelude.{List, ◌∷◌, map}
+use Rattle.std.specs.Prelude.{List, ◌∷◌, map, replicate}
 use Rattle.record_text.specs.declared.request.Request.{Request}
 use Rattle.host_core.specs.World.{Place, Holding}
 use Rattle.host_core.specs.World as machine
@@ -33,7 +33,7 @@ contents_of seats = shown_content seats.first ∷ map shown_content seats.hot.it
 abbrev pub shown_seats : Seats → machine.Seats Content
 shown_seats seats = record { contents = contents_of seats; moved = seats.moved }
 
--- the world, with the shards and workers so
+-- the world, with the shards and workers so: that of a host that is not rolling, which never raises an epoch or notes a scan
 abbrev pub shown_world : {D : Type 0} → World D → machine.World Content
 shown_world world = record {
   shards = map shown_seats world.shards.items;
@@ -41,6 +41,8 @@ shown_world world = record {
   phase = world.phase;
   closing = world.closing;
   over = world.over;
+  newest = world.settings.header.first;
+  scanned = replicate world.settings.header.verifiers world.settings.header.first;
 }
 
 -- the value whose functions are the world's digests

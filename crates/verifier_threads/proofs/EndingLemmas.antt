@@ -1,5 +1,5 @@
 -- Where a run ends: what is served, and what its report says.
-use Rattle.std.proofs.Common.{◌≡◌, ◌*◌, ◌-◌, ℕ, zero, suc, ◌<◌, ◌≤◌, false, List, [], ◌∷◌, length, map, get_or, replicate, Option, Some, None, inr, refl, sym, ◌∙◌, ap, subst, arith}
+use Rattle.std.proofs.Common.{◌≡◌, ◌*◌, ◌-◌, ℕ, zero, suc, ◌<◌, ◌≤◌, Bool, false, if◌then◌else◌, List, [], ◌∷◌, length, map, get_or, replicate, Option, Some, None, inr, refl, sym, ◌∙◌, ap, subst, arith}
 use Rattle.std.specs.List.{AllByRecursion}
 use Rattle.std.proofs.lemmas.List.{length-map, length-replicate}
 use Rattle.fv_outside.specs.Written.{Grows, GrowsByFront}
@@ -18,7 +18,7 @@ use Rattle.merkle_records.specs.Scheme.{scheme_of}
 use Rattle.bundle_report.specs.Logs.{empty_logs}
 use Rattle.bundle_report.proofs.DueLaws.{lines-due}
 use Rattle.host_core.specs.Host.{Host}
-use Rattle.host_core.specs.World.{Worker, World, logs_of, set_up, fresh, worker_at}
+use Rattle.host_core.specs.World.{first_phase, Worker, World, logs_of, set_up, fresh, worker_at}
 use Rattle.host_core.specs.WorldEvent.{WorldEvent, AreEnabled, HasAdvanced, run_events}
 use Rattle.host_shard.specs.Content.{Content}
 use Rattle.script_text.specs.declared.task.Task.{Task}
@@ -36,7 +36,7 @@ use Rattle.host_fits.specs.Holds.{ContentsHold}
 use Rattle.run_reports.specs.Runs.{map_certified}
 use Rattle.host_serving.specs.Leading.{Leads, LeadsAs}
 use Rattle.host_serving.specs.Form.{AreInRounds}
-use Rattle.host_serving.specs.Standing.{HasServedUpTo}
+use Rattle.host_serving.specs.Standing.{asked_by, HasServedUpTo}
 use Rattle.host_serving.proofs.LeadingLaws.{leads-none}
 use Rattle.host_serving.proofs.FormLaws.{run-none}
 use Rattle.host_rounds.specs.SoFar.{RunsSoFar, Keeps, HaveRun, AllCounted, lines_due, summary_due, end_due}
@@ -84,12 +84,20 @@ module _ {C R : Type 0} (host : Host C R) where
   new_running (suc i) = ap (λ (w : Worker). w.stopped) (get-replicate (host.header.verifiers - 1) i (fresh host.header))
 
   -- so the first phase begins
-  pub set_up-begins : 0 < length host.script → IsAtPhase host (set_up host) None
-  set_up-begins some = record {
-    begins = record { going = refl; phase = refl; within = some; each = λ i there. new_worker i };
+  pub set_up-begins : host.rolling ≡ false → 0 < length host.script → IsAtPhase host (set_up host) None
+  set_up-begins plain some = record {
+    begins = record {
+      going = refl;
+      phase = refl;
+      within = subst (λ (n : ℕ). n < length host.script) (sym first) some;
+      each = λ i there. subst (λ (n : ℕ). HasServedUpTo (worker_at host (set_up host) i) (asked_by host i n 0)) (sym first) (new_worker i);
+    };
     running = λ i there. new_running i;
     unended = refl;
   }
+    where
+      first : first_phase host ≡ 0
+      first = ap (λ (b : Bool). if b then length host.script - 1 else 0) plain
 
 -- a world that is set up, of settings that suffice
 pub record IsRunningFrom (functions : DigestFunctions) (settings : Settings) (script : List (List Task)) (world : World Content) : Type 0 where

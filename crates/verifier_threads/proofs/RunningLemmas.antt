@@ -22,7 +22,7 @@ use Rattle.host_fits.specs.Promise.{CanRun}
 use Rattle.host_serving.specs.Leading.{Leads, LeadsAs, first_of}
 use Rattle.host_serving.specs.Form.{AreInRounds}
 use Rattle.host_serving.proofs.LeadingLaws.{leads-with}
-use Rattle.host_serving.proofs.FormLaws.{GoesOn}
+use Rattle.host_serving.proofs.FormLaws.{GoesOn, set_up_before}
 use Rattle.fv_outside.specs.declared.failure.Failure.{Failure}
 use Rattle.fv_outside.specs.declared.failure.Failure.TheVariants as failures
 use Rattle.host_rounds.specs.Round.{logs_with}
@@ -127,7 +127,7 @@ module _ (account : Account) (functions : DigestFunctions) (settings : Settings)
     each = running.each ∙ sym (leads-length own_host world later next way.leads);
     passed = through-leads own_host 0 (no_logs settings.header.verifiers) (set_up own_host) past (with_logs running.logs world) (with_logs running.logs later) running.passed
         (next, leads-with own_host running.logs world later next way.leads);
-    way = way.on running.logs (set_up own_host) running.way;
+    way = way.on running.logs (set_up own_host) (set_up_before own_host refl) running.way;
     rests = running.rests;
     keeps = running.keeps;
     written = running.written;

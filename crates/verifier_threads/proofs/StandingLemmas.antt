@@ -6,7 +6,7 @@ use Rattle.host_core.specs.Host.{Host}
 use Rattle.host_core.specs.World.{Worker, World, fresh, worker_at}
 use Rattle.host_world.specs.declared.fault.ClockEnd.{ClockEnd}
 use Rattle.host_world.specs.Behind.{before_each, with_logs}
-use Rattle.host_world.proofs.FrontLaws.{unlogged, length-before_each, same_unlogged, over_other, advanced_other, enabled_other, enabled_without}
+use Rattle.host_world.proofs.FrontLaws.{unlogged, length-before_each, same_unlogged, over_other, round_other, advanced_other, enabled_other, enabled_without}
 use Rattle.host_serving.specs.Leading.{CanDoNoMore}
 use Rattle.host_serving.specs.Standing.{HasServedUpTo, IsServedUpTo, IsServedOut, NoneStopped, SomeStopped, IsLowest, IsClosed, IsAllServed, asked_by, turns_of}
 use Rattle.verifier_threads.specs.Running.{with_no_log, all_handed_out, IsAtPhase, IsAtClose}
@@ -46,6 +46,7 @@ module _ {C R : Type 0} (host : Host C R) (world : World C) (workers : List Work
   out_other is = record {
     served = up_to_other (length (turns_of host world.phase)) is.served;
     over = over_other host world workers count same is.over;
+    settled = λ rolling. round_other host world workers count same (is.settled rolling);
   }
 
   pub running_other : NoneStopped host world → NoneStopped host other

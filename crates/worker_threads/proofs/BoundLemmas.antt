@@ -1,5 +1,5 @@
 -- Behind the setup there are as many workers as verifiers, and each clock ends with the header's counter.
-use Rattle.std.proofs.Common.{◌≡◌, ℕ, zero, suc, ◌-◌, ◌<◌, ◌≤◌, ◌==◌, Bool, true, false, List, [], ◌∷◌, ◌++◌, replicate, length, get_or, set, nat_lt, Option, Some, None, if◌then◌else◌, refl, sym, ◌∙◌, ap, subst, arith}
+use Rattle.std.proofs.Common.{◌≡◌, ℕ, zero, suc, ◌-◌, ◌<◌, ◌≤◌, ◌==◌, Bool, true, false, List, [], ◌∷◌, ◌++◌, replicate, length, get_or, set, nat_lt, Option, Some, None, if◌then◌else◌, refl, sym, ◌∙◌, ap, subst, true≢false, arith}
 use Rattle.std.proofs.lemmas.List.{length-replicate, length-set}
 use Rattle.std.proofs.lemmas.Option.{none-some, same_Some}
 use Rattle.lamport_clocks.specs.Reading.{Reading}
@@ -136,6 +136,7 @@ module _ (functions : DigestFunctions) (settings : Settings) (script : List (Lis
     step_bounded (advances i) may = advance_bounded i
     step_bounded (moves i s) may = move_bounded i s may.shard _ refl
     step_bounded opens may = others_bounded settings world (step host world opens) refl bounded
+    step_bounded event may = absurd (true≢false (sym may.rolling.rolling))
 
     -- one event more
     step_behind : (event : WorldEvent Request) → IsEnabled host world event → IsBehindSetup functions settings script (step host world event)

@@ -6,7 +6,7 @@ use Rattle.std.proofs.lemmas.Option.{none-some}
 use Rattle.std.proofs.lemmas.List.{get_or-set_same}
 use Rattle.host_core.specs.Host.{Host, Done}
 use Rattle.host_core.specs.World.{Place, Worker, Seats, World, fresh, worker_at, shard_at}
-use Rattle.host_core.specs.WorldEvent.{WorldEvent, takes, loses, serves, gives, advances, moves, opens, AreEnabled, step, run_events, after_serve, logging, having_served}
+use Rattle.host_core.specs.WorldEvent.{WorldEvent, takes, serves, gives, AreEnabled, step, run_events, after_serve, logging, having_served}
 use Rattle.host_world.specs.declared.fault.ClockEnd.{ClockEnd}
 use Rattle.host_world.specs.Ending.{end_at, end_of}
 use Rattle.host_world.proofs.FrontLaws.{length-step}
@@ -45,13 +45,10 @@ module _ {C R : Type 0} (host : Host C R) where
   step-stays world (takes j place) i turn is =
       flag-set world.workers j i (record (worker_at host world j) { holds = Some (record { place = place; used = false }) }) (fresh host.header) true is
       (flag-own world i j true is)
-  step-stays world (loses j place) i turn is = absurd turn
   step-stays world (serves j place request) i turn is = serve-stays world j i place (shard_at world place.shard) _ is
   step-stays world (gives j place) i turn is =
       flag-set world.workers j i (record (worker_at host world j) { holds = None }) (fresh host.header) true is (flag-own world i j true is)
-  step-stays world (advances j) i turn is = absurd turn
-  step-stays world (moves j s) i turn is = absurd turn
-  step-stays world opens i turn is = absurd turn
+  step-stays world event i turn is = absurd turn
 
   run-stays : (world : World C) (events : List (WorldEvent R)) (i : ℕ) → AllByRecursion IsOfTurn events → (worker_at host world i).stopped ≡ true
       → (worker_at host (run_events host world events) i).stopped ≡ true
@@ -88,7 +85,6 @@ module _ {C R : Type 0} (host : Host C R) where
           → ((i : ℕ) → i < length world.workers → (worker_at host (run_events host world (event ∷ events)) i).stopped ≡ false)
           → end_of host world event ≡ None
       one (takes i place) turn may running = refl
-      one (loses i place) turn may running = absurd turn
       one (serves i place request) turn may running = go _ refl
         where
           go : (what : Option (Done C)) → host.serve i (worker_at host world i).clock (get_or (shard_at world place.shard).contents place.seat host.vacant) request ≡ what
@@ -99,9 +95,7 @@ module _ {C R : Type 0} (host : Host C R) where
               absurd (true≢false (sym (run-stays (step host world (serves i place request)) events i turns.1 stopped) ∙ running i there))
           go (Some done) is = serve-end _ done (end_at host world i) is
       one (gives i place) turn may running = refl
-      one (advances i) turn may running = absurd turn
-      one (moves i s) turn may running = absurd turn
-      one opens turn may running = absurd turn
+      one other turn may running = absurd turn
 
   -- ---- where a turn's worker is stopped behind it, its clock ended
 

@@ -45,7 +45,7 @@ module _ (functions : DigestFunctions) (settings : Settings) (script : List (Lis
 
   -- The phase is served.
   pub served_out : IsServedOut host later
-  served_out = phase_served host later (length (turns_of host world.phase)) up_to (ap (λ (n : ℕ). length (turns_of host n)) (sym same_phase))
+  served_out = phase_served host later (length (turns_of host world.phase)) (λ rolling. absurd (true≢false (sym rolling))) up_to (ap (λ (n : ℕ). length (turns_of host n)) (sym same_phase))
     where
       each : (i : ℕ) → i < length world.workers
           → HasServedUpTo (worker_at host later i) (asked_by host i world.phase (length (turns_of host world.phase)))

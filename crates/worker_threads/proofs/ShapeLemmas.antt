@@ -5,7 +5,7 @@ use Rattle.std.proofs.lemmas.List.{length-set}
 use Rattle.stamp_order.proofs.InOrderLaws.{every-append}
 use Rattle.host_core.specs.Host.{Host, Done}
 use Rattle.host_core.specs.World.{Place, Worker, Seats, World, unmoved, worker_at, shard_at}
-use Rattle.host_core.specs.WorldEvent.{WorldEvent, takes, loses, serves, gives, advances, moves, opens, step, run_events, after_serve}
+use Rattle.host_core.specs.WorldEvent.{WorldEvent, takes, serves, gives, step, run_events, after_serve}
 use Rattle.host_order.specs.Serving.{Serving, in_one_order, replay}
 use Rattle.host_order.specs.Told.{Stop, joined, replay_stops, phase_events}
 use Rattle.host_world.proofs.FrontLaws.{length-step}
@@ -60,12 +60,9 @@ module _ {C : Type 0} where
 -- the event is one of a turn at a place
 abbrev pub IsOfTurn : {R : Type 0} → WorldEvent R → Type 0
 IsOfTurn (takes i place) = Unit {0}
-IsOfTurn (loses i place) = ⊥
 IsOfTurn (serves i place request) = Unit {0}
 IsOfTurn (gives i place) = Unit {0}
-IsOfTurn (advances i) = ⊥
-IsOfTurn (moves i s) = ⊥
-IsOfTurn opens = ⊥
+IsOfTurn event = ⊥
 
 stops-turns : {R : Type 0} (stops : List (Stop R)) → AllByRecursion IsOfTurn (replay_stops stops)
 stops-turns [] = tt
@@ -89,12 +86,9 @@ module _ {C R : Type 0} (host : Host C R) where
 
   step-shaped : (world : World C) (event : WorldEvent R) → IsOfTurn event → AreShaped world.shards (step host world event).shards
   step-shaped world (takes i place) is = shaped-self world.shards
-  step-shaped world (loses i place) is = absurd is
   step-shaped world (serves i place request) is = serve-shaped world i (worker_at host world i) place _
   step-shaped world (gives i place) is = shaped-self world.shards
-  step-shaped world (advances i) is = absurd is
-  step-shaped world (moves i s) is = absurd is
-  step-shaped world opens is = absurd is
+  step-shaped world event is = absurd is
 
   -- Events of turns leave the shards their shape,
   pub run-shaped : (world : World C) (events : List (WorldEvent R)) → AllByRecursion IsOfTurn events

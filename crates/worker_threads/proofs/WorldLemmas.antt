@@ -40,9 +40,10 @@ same_worker a b log clock served holds stopped stuck =
     λ k. record { log = log k; clock = clock k; served = served k; holds = holds k; stopped = stopped k; stuck = stuck k }
 
 -- and so are worlds
-same_world : {C : Type 0} (a b : World C) → a.shards ≡ b.shards → a.workers ≡ b.workers → a.phase ≡ b.phase → a.closing ≡ b.closing → a.over ≡ b.over → a ≡ b
-same_world a b shards workers phase closing over =
-    λ k. record { shards = shards k; workers = workers k; phase = phase k; closing = closing k; over = over k }
+same_world : {C : Type 0} (a b : World C) → a.shards ≡ b.shards → a.workers ≡ b.workers → a.phase ≡ b.phase → a.closing ≡ b.closing → a.over ≡ b.over
+    → a.newest ≡ b.newest → a.scanned ≡ b.scanned → a ≡ b
+same_world a b shards workers phase closing over newest scanned =
+    λ k. record { shards = shards k; workers = workers k; phase = phase k; closing = closing k; over = over k; newest = newest k; scanned = scanned k }
 
 module _ (functions : DigestFunctions) (settings : Settings) (script : List (List Task)) (logs : List (List Command)) (world later : World Content)
     (each : length logs ≡ length world.workers) (tasks : List Task) (terms : Terms) (after : List code.Content) (rows : List Row)
@@ -191,3 +192,5 @@ module _ (functions : DigestFunctions) (settings : Settings) (script : List (Lis
         (sym (ap (λ (w : World Content). w.phase) run_is ∙ ends.phase.0))
         (is.begins.phase ∙ sym (ap (λ (w : World Content). w.closing) run_is ∙ ends.phase.1))
         (is.begins.going ∙ sym (ap (λ (w : World Content). w.over) run_is ∙ ends.phase.2))
+        (sym (ap (λ (w : World Content). w.newest) run_is ∙ ends.words.0))
+        (sym (ap (λ (w : World Content). w.scanned) run_is ∙ ends.words.1))

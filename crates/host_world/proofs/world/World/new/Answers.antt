@@ -21,7 +21,7 @@ returns-clause-set_up g c =
     let bits = frontier_bits settings.shards in
     let power : settings.shards ≡ 2 ^ bits = shards_are settings.shards c.requires.settings.shards in
     let others = replicate (header.verifiers - 1) (fresh header) in
-    let world : List (Seats Content) → List Worker → World Content = λ (shards : List (Seats Content)) (workers : List Worker). record { shards = shards; workers = workers; phase = 0; closing = false; over = false } in
+    let world : List (Seats Content) → List Worker → World Content = λ (shards : List (Seats Content)) (workers : List Worker). record { shards = shards; workers = workers; phase = 0; closing = false; over = false; newest = header.first; scanned = replicate header.verifiers header.first } in
     ap (λ (shards : List (Seats Content)). world shards (map shown_worker c.in_ok-workers.workers.items))
     (c.in_ok-shards.ensures.seats ∙ ap (λ (contents : List Content). map unmoved (map new_seats contents)) (c.in-Ok.ensures.contents bits power))
     ∙ ap (world _)

@@ -89,4 +89,4 @@ returns-clause-begins g c =
     let world = c.args.world in
     let host = host_of (g.D.Digests.functions (digests_of world)) world in
     subst (λ (w : World Content). IsAtPhase host w None) (sym c.requires.setup)
-    (set_up-begins host (omega (arith, c.requires.some, length-map (requests_of world) (map turn_of))))
+    (set_up-begins host refl (omega (arith, c.requires.some, length-map (requests_of world) (map turn_of))))

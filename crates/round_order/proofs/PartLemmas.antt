@@ -1,5 +1,5 @@
 -- Lists that are joined: what is picked out of them is one of them.
-use Rattle.std.proofs.Common.{◌≡◌, ◌≢◌, ℕ, zero, suc, Bool, true, false, List, [], ◌∷◌, ◌++◌, map, filter, get_or, refl, ◌∙◌, ap, append-nil, arith}
+use Rattle.std.proofs.Common.{◌≡◌, ◌≢◌, ℕ, zero, suc, ◌<◌, Bool, true, false, List, [], ◌∷◌, ◌++◌, map, length, filter, get_or, refl, ◌∙◌, ap, append-nil, arith}
 use Rattle.std.specs.List.{flat_map, AllByRecursion}
 use Rattle.std.proofs.lemmas.Bool.{cond-true, cond-false}
 use Rattle.std.proofs.lemmas.List.Elements.{filter-append}
@@ -59,3 +59,12 @@ module _ {X : Type 0} where
   get_or-joined [] s = refl
   get_or-joined (lists ∷ groups) zero = refl
   get_or-joined (lists ∷ groups) (suc s) = get_or-joined groups s
+
+module _ {C E : Type 0} (P : E → Type 0) (f : C → List E) where
+  -- a content's part of what holds of all that comes of contents
+  pub content_part : (contents : List C) (seat : ℕ) (d : C) → seat < length contents
+      → AllByRecursion P (flat_map f contents) → AllByRecursion P (f (get_or contents seat d))
+  content_part [] seat d within all = absurd (omega (arith, within))
+  content_part (content ∷ contents) zero d within all = every-front P (f content) (flat_map f contents) all
+  content_part (content ∷ contents) (suc seat) d within all =
+      content_part contents seat d (omega (arith, within)) (every-back P (f content) (flat_map f contents) all)
