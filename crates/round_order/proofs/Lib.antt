@@ -10,6 +10,6 @@ mod RisingLemmas
 mod PartLemmas
 mod PastLemmas
 mod OrderLemmas
-mod RoundLemmas
-mod EndLemmas
+pub mod RoundLaws
+pub mod EndLaws
 pub mod PhaseLaws

@@ -17,7 +17,7 @@ use Rattle.round_order.proofs.GoingLaws.{on_to-there}
 use Rattle.round_order.proofs.WayLemmas.{Way}
 use Rattle.round_order.proofs.ReadyLemmas.{IsMoving}
 use Rattle.round_order.proofs.ChainLaws.{Found, LeadsTo, found}
-use Rattle.round_order.proofs.RoundLemmas.{round_led, round_ready, ends_told}
+use Rattle.round_order.proofs.RoundLaws.{round_led, round_ready, ends_told}
 use Rattle.round_order.proofs.RisingLemmas.{did_moves, one_there}
 use Rattle.round_order.proofs.PartLemmas.{content_part, every-joined, every-part}
 use Rattle.round_order.proofs.PastLemmas.{past_part, every-past, to_pasts, to_lists}

@@ -155,14 +155,18 @@ pub record EndsWith {C R : Type 0} (host : Host C R) (world later : World C) (to
   pub clocks : (i : ℕ) → i < length world.workers
       → (worker_at host later i).clock ≡ on_to (finals i) (clock_behind (worker_at host world i).clock (list_of lists i))
   pub served : (i : ℕ) → (worker_at host later i).served ≡ served_behind (worker_at host world i).served (list_of lists i)
+  pub stuck : (i : ℕ) → (worker_at host later i).stuck ≡ (worker_at host world i).stuck
   pub idle : (i : ℕ) → i < length world.workers → (worker_at host later i).holds ≡ None
+  pub counts : (length later.workers ≡ length world.workers) × (length later.shards ≡ length world.shards) × (length later.scanned ≡ length world.scanned)
   pub phase : (later.phase ≡ world.phase) × (later.closing ≡ false) × (later.over ≡ false)
 
--- What is told of a round was one list of enabled events, which ends where all is as it is told.
+-- What is told of a round was one list of enabled events, which ends where all is as it is told and stops no worker.
 pub record HasOneOrder {C R : Type 0} (host : Host C R) (world : World C) (epoch top : ℕ) (finals : ℕ → ℕ) (lists : List (List (Turn C R)))
     (pasts : List (List (List (Turn C R)))) : Type 0 where
   pub enabled : AreEnabled host world (round_events finals (length world.workers) top epoch (in_one_order (joined lists)))
   pub ends : EndsWith host world (run_events host world (round_events finals (length world.workers) top epoch (in_one_order (joined lists)))) top finals lists pasts
+  pub stopped : (i : ℕ) → (worker_at host (run_events host world (round_events finals (length world.workers) top epoch (in_one_order (joined lists)))) i).stopped
+      ≡ (worker_at host world i).stopped
 
 -- It is so wherever the workers' lists and the places' pasts are of a world that is level.
 abbrev pub OrdersRound : {C R : Type 0} → Host C R → Type 0

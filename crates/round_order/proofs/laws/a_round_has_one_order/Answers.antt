@@ -1,4 +1,4 @@
-use Rattle.round_order.proofs.RoundLemmas.{orders_round}
+use Rattle.round_order.proofs.RoundLaws.{orders_round}
 use Rattle.round_order.proofs.laws.a_round_has_one_order.Goals as goal
 
 pub returns : goal.returns

@@ -1,4 +1,4 @@
-use Rattle.round_order.proofs.EndLemmas.{ends_rounds}
+use Rattle.round_order.proofs.EndLaws.{ends_rounds}
 use Rattle.round_order.proofs.laws.rounds_end_so.Goals as goal
 
 pub returns : goal.returns

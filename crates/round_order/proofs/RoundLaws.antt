@@ -32,6 +32,8 @@ module _ {C R : Type 0} (host : Host C R) (scans : Bool) (steady : IsSteady host
     clocks = λ i there. leads.clocks i there
         ∙ ap (λ (zs : List (Turn C R)). on_to (finals i) (clock_behind (worker_at host world i).clock zs)) (part i);
     served = λ i. leads.served i ∙ ap (served_behind (worker_at host world i).served) (part i);
+    stuck = leads.stuck;
+    counts = (leads.count, leads.shards, leads.marks);
     idle = λ i within. leads.up.idle i (subst (λ (n : ℕ). i < n) (sym leads.count) within);
     phase = (leads.phase, leads.up.phase, leads.up.going);
   }
@@ -45,6 +47,7 @@ module _ {C R : Type 0} (host : Host C R) (scans : Bool) (steady : IsSteady host
       record {
         enabled = led.way.enabled;
         ends = subst (λ (later : World C). EndsWith host world later top finals lists pasts) (sym led.way.is) (ends_told led.later led.leads);
+        stopped = λ i. ap (λ (later : World C). (worker_at host later i).stopped) led.way.is ∙ led.leads.stopped i;
       }
 
 -- What is told of a round has one order.

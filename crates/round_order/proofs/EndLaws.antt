@@ -18,10 +18,10 @@ use Rattle.round_order.specs.Steady.{IsSteady}
 use Rattle.round_order.specs.Told.{IsLevel, CanRoll, AreTold, joined, finishes_from, round_events, EndsWith, final_clock, IsWholeRound, whole_events, EndsWhole, RoundStop, IsInTheWay, IsStopTold, AreOfOthers, stop_events, stops_by, stopped_events, EndsStopped, EndsRounds}
 use Rattle.round_order.proofs.GoingLaws.{aim-past}
 use Rattle.round_order.proofs.WayLemmas.{Way, way-none, way-then, way-cons}
-use Rattle.round_order.proofs.NoteLemmas.{note, note-at, CanNote, marked, finishes_way}
+use Rattle.round_order.proofs.NoteLemmas.{note, note-length, note-at, CanNote, marked, finishes_way}
 use Rattle.round_order.proofs.ReadyLemmas.{every-content}
 use Rattle.round_order.proofs.ChainLaws.{Led}
-use Rattle.round_order.proofs.RoundLemmas.{turns, round_led, ends_told}
+use Rattle.round_order.proofs.RoundLaws.{turns, round_led, ends_told}
 
 -- a worker but for whether it is stopped
 abbrev unflagged : Worker → Worker
@@ -41,6 +41,7 @@ module _ {C R : Type 0} (host : Host C R) where
   record IsLike (later other : World C) : Type 0 where
     pub shards : other.shards ≡ later.shards
     pub count : length other.workers ≡ length later.workers
+    pub marks : length other.scanned ≡ length later.scanned
     pub same : (i : ℕ) → unflagged (worker_at host other i) ≡ unflagged (worker_at host later i)
     pub phase : other.phase ≡ later.phase
     pub closing : other.closing ≡ later.closing
@@ -54,6 +55,8 @@ module _ {C R : Type 0} (host : Host C R) where
     logs = λ i there. ap (λ (w : Worker). w.log) (like.same i) ∙ ends.logs i there;
     clocks = λ i there. ap (λ (w : Worker). w.clock) (like.same i) ∙ ends.clocks i there;
     served = λ i. ap (λ (w : Worker). w.served) (like.same i) ∙ ends.served i;
+    stuck = λ i. ap (λ (w : Worker). w.stuck) (like.same i) ∙ ends.stuck i;
+    counts = (like.count ∙ ends.counts.0, ap (λ (all : List (Seats C)). length all) like.shards ∙ ends.counts.1, like.marks ∙ ends.counts.2);
     idle = λ i there. ap (λ (w : Worker). w.holds) (like.same i) ∙ ends.idle i there;
     phase = (like.phase ∙ ends.phase.0, like.closing ∙ ends.phase.1, like.over ∙ ends.phase.2);
   }
@@ -71,6 +74,7 @@ module _ {C R : Type 0} (host : Host C R) where
   like-one later world i like = record {
     shards = like.shards;
     count = length-set world.workers i (record (worker_at host world i) { stopped = true }) ∙ like.count;
+    marks = like.marks;
     same = λ j. shows-set unflagged world.workers i (record (worker_at host world i) { stopped = true }) (fresh host.header) refl j ∙ like.same j;
     phase = like.phase;
     closing = like.closing;
@@ -187,7 +191,7 @@ module _ {C R : Type 0} (host : Host C R) (scans : Bool) (steady : IsSteady host
   ends = ends_told host scans steady world epoch top finals level lists pasts told later led.leads
 
   like-self : IsLike host later later
-  like-self = record { shards = refl; count = refl; same = λ i. refl; phase = refl; closing = refl; over = refl }
+  like-self = record { shards = refl; count = refl; marks = refl; same = λ i. refl; phase = refl; closing = refl; over = refl }
 
   -- ---- a whole round
 
@@ -239,7 +243,7 @@ module _ {C R : Type 0} (host : Host C R) (scans : Bool) (steady : IsSteady host
     ends_whole = record {
       enabled = close_way.enabled;
       ends = subst (λ (w : World C). EndsWith host world w top finals lists pasts) (sym close_way.is)
-          (ends-like host world top finals lists pasts later closed (record { shards = refl; count = refl; same = λ i. refl; phase = refl; closing = refl; over = refl }) ends);
+          (ends-like host world top finals lists pasts later closed (record { shards = refl; count = refl; marks = note-length top 0 (length world.workers) later.scanned; same = λ i. refl; phase = refl; closing = refl; over = refl }) ends);
       over = subst (IsRoundOver host) (sym close_way.is) over;
       through = subst (IsPhaseOver host) (sym close_way.is) through;
     }

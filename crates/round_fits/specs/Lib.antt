@@ -1,0 +1,2 @@
+-- The definitions of the rolling host's round.
+pub mod Rounds
