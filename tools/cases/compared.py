@@ -60,7 +60,7 @@ def wanted_for(asked, given):
 
 
 def meeting(asked, given):
-    """The options of a run in which two workers come to one shard in a phase, if that is asked for."""
+    """The options of a run in which two workers come to one shard in a phase, or may in rolling epochs, if that is asked for."""
     try:
         options = words.options_of(asked)
         if "--shards" not in options or not is_there(asked):
@@ -69,6 +69,8 @@ def meeting(asked, given):
     except (words.Usage, BadScript):
         return None
     bits = options["--shards"].bit_length() - 1
+    if options.get("--rolling", False) and options["--verifiers"] > 1:
+        return options
     came = [{(bits_of(request.path)[:bits], request.worker) for request in phase} for phase in phases]
     return options if any(len(pairs) > len({shard for shard, _ in pairs}) for pairs in came) else None
 

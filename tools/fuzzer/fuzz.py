@@ -4,7 +4,8 @@ usage: tools/run fuzzer.fuzz PROGRAM.. [--minutes M] [--jobs J] [--seed S] [--ki
 
 Each input of fuzzer.inputs goes to each program, and its output, its status, what it says on standard error and the file of its
 vault must be what the slow program finds. Where workers meet at a shard, so that the order is not determined, what they wrote
-is judged by slow.judge. The inputs follow from the seed and their numbers alone, not from how many jobs there are.
+is judged by slow.judge. Where an input is the bundle of a schedule of the slow host, what slow.schedules finds broken differs too.
+The inputs follow from the seed and their numbers alone, not from how many jobs there are.
 
 An input on which anything differs is kept in the folder as a case for cases.run, with NAME.found, which says what differs.
 Each minute a line says how far it is; at the end a summary has, of each kind, how many inputs there were, by exit status, and
@@ -53,9 +54,10 @@ def batch(programs, seed, number, names, folder):
     """How many inputs of a batch there were, by kind and status, and what was kept of it."""
     counts, kept = Counter(), []
     for place in range(number * BATCH, (number + 1) * BATCH):
-        kind, words, given = random_input(random.Random(f"{seed} {place}"), place, names)
+        kind, words, given, broken = random_input(random.Random(f"{seed} {place}"), place, names)
         try:
             status, wrong = tried(programs, words, given)
+            wrong += broken
         except Exception as fault:  # of the slow program, which should have none
             status, wrong = "none", [repr(fault)]
         counts[kind, status] += 1

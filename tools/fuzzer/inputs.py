@@ -1,7 +1,7 @@
 """Inputs for the fuzzer: random bundles, scripts, words, receipts and loads, most of them changed somewhere.
 
 An input is made of a chance and of its number, and says with which words the program is called on which bytes. A bundle is one
-that cases.write plays or that the slow host writes, or is spliced of two.
+that cases.write plays or that the slow host writes, by its own order or by a random schedule of its workers, or is spliced of two.
 """
 from typing import NamedTuple
 
@@ -10,7 +10,7 @@ from tools.cases.compared import VAULT
 from tools.cases.words import BUNDLE, CASES, RECEIPT, SCRIPT, TO_SIGN
 from tools.fuzzer.changes import BUNDLE_CHANGES, behind_header, frames_of
 from tools.fuzzer.edges import BLOBS, BYTE_CHANGES, LIST_CHANGES, changed_item, cut, edge, flip, flip_bit, often
-from tools.slow import fastver, host, receipts, seals
+from tools.slow import fastver, host, receipts, schedules, seals
 from tools.slow.commands import COMMANDS
 from tools.slow.digests import ShaDigests
 from tools.slow.script import BadScript, read_script
@@ -23,6 +23,7 @@ class Input(NamedTuple):
     kind: str
     words: list
     given: bytes
+    broken: list = []  # what the slow program breaks that must hold
 
 
 def random_key(chance):
@@ -79,6 +80,14 @@ def follows(chance, _):
 def upgrades(chance, _):
     key, bundle = random_bundle(chance)
     return ["upgrade", "--key", key], bundle
+
+
+def scheduled(chance, _):
+    """The bundle of a random schedule of workers, of the right machine or of a wrong one, of which the check may raise an alarm."""
+    wrong = chance.choice([{}, {}, *schedules.WRONG.values()])
+    schedule = schedules.Schedule(chance, chance.random() < 0.7, chance.random() < 0.5, **wrong).run()
+    key, broken = schedule.options["--key"].hex(), [] if wrong else [f"{name}: {what}" for name, what in schedule.broken]
+    return [chance.choice(["check", "audit", "follow"]), "--key", key], schedule.world.vault, broken
 
 
 # ---- seals
@@ -172,13 +181,16 @@ def more_words(chance):
     return ["--receipts"] * (chance.random() < 0.2) + ["--absent"] * (chance.random() < 0.2) + ["--logs", VAULT]
 
 
+def rolling_word(chance):
+    return ["--rolling"] * (chance.random() < 0.3)
+
+
 def runs(chance, _):
     """Runs of one worker, or of several that mostly keep to shards of their own."""
     workers = chance.choice([1, 1, 1, 2, 3, 5, 64])
     words, script = random_run(chance, workers)
     script = script if chance.random() < 0.5 else other_lines(chance, script)
-    rolling = ["--rolling"] * (workers == 1 and chance.random() < 0.3)  # the order of several isn't determined
-    return words + rolling + more_words(chance), script
+    return words + rolling_word(chance) * (workers == 1) + more_words(chance), script
 
 
 def signs(chance, _):
@@ -196,7 +208,7 @@ def signs(chance, _):
 def meetings(chance, _):
     """Runs of several workers that meet at shards and keys."""
     words, script = random_run(chance, chance.choice([2, 2, 3, 4, 8, 16]), shared=True)
-    return words + more_words(chance), script
+    return words + rolling_word(chance) + more_words(chance), script
 
 
 def loads(chance, _):
@@ -343,6 +355,7 @@ KINDS = {
     "audit": (audits, 3),
     "follow": (follows, 1),
     "upgrade": (upgrades, 1),
+    "schedule": (scheduled, 2),
     "sign": (signs, 1),
     "seal": (sealings, 1),
     "resume": (resumings, 1),

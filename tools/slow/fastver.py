@@ -16,7 +16,7 @@ import re
 import sys
 from typing import NamedTuple
 
-from tools.slow import host, load, receipts, seals
+from tools.slow import host, load, receipts, seals, world
 from tools.slow.bundles import Header
 from tools.slow.digests import ShaDigests, ToyDigests
 from tools.slow.script import BadScript, read_script, sign
@@ -177,14 +177,13 @@ def summary(found, shape):
     return written
 
 
-def told(command, options, vault, ended):
-    """What `run` or `gen` answers where a host has written this bundle, and the clock of a worker ended, if one did."""
-    digests = ShaDigests(options["--key"])
-    found = findings(digests, vault)
+def told(command, options, found, vault, ended):
+    """What `run` or `gen` answers where a host has written a bundle with these findings, and a worker's clock ended, if one did."""
     if command == "gen":
         written, last, status = summary(found, load_of(options)), "", 0
     else:
-        written, last, status = report(found, digests if options["--receipts"] else None), found.last, found.status
+        digests = ShaDigests(options["--key"]) if options["--receipts"] else None
+        written, last, status = report(found, digests), found.last, found.status
     if ended is not None:
         last, status = clock_end(ended), 10
     return answer(written, last, status, vault)
@@ -203,12 +202,12 @@ def accept(digests, data):
 def header_of(options):
     """The header of what a host writes."""
     bits, numbers = options.get("--bits", 64), (options["--first"], options["--counter"])
-    return Header(options["--verifiers"], host.CACHES[bits], *numbers, options.get("--format", 1), bits, options.get("--clients", 0))
+    return Header(options["--verifiers"], world.CACHES[bits], *numbers, options.get("--format", 1), bits, options.get("--clients", 0))
 
 
 def settings_of(options):
     more = options.get("--absent", False), options.get("--rolling", False)
-    return host.Settings(header_of(options), options["--shards"], options["--hot"], *more)
+    return world.Settings(header_of(options), options["--shards"], options["--hot"], *more)
 
 
 def load_of(options):
@@ -224,15 +223,15 @@ def phases_of(command, options, data):
 
 def signed(digests, options, data):
     """The lines of a client, signed."""
-    header = Header(1, host.CACHES[options["--bits"]], 0, 1, 4, options["--bits"], 65536)
+    header = Header(1, world.CACHES[options["--bits"]], 0, 1, 4, options["--bits"], 65536)
     return Answer(sign(data, header, digests, options["--client"]).encode(), 0, "")
 
 
 def obeyed(command, options, data, device):
     digests = ShaDigests(options["--key"])
     if command in ("run", "gen"):
-        phases = phases_of(command, options, data)
-        return told(command, options, *host.run(digests, settings_of(options), phases))
+        vault, ended = host.run(digests, settings_of(options), phases_of(command, options, data))
+        return told(command, options, findings(digests, vault), vault, ended)
     if command == "check" and options["--seal"] is not None:
         return check_and_seal(digests, data, device)
     if command == "check":

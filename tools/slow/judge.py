@@ -7,49 +7,26 @@ In the first form WORDS are those of `run` or `gen`, OUTPUT is what was printed 
 wrong, a line each, and fails where anything is. The second form has PROGRAM serve COUNT random scripts whose workers meet at
 shards and keys, each TIMES times, and judges each vault.
 
-In which order the requests were served is read off the vault: by the stamps of the evicts behind them, and by worker where
-stamps are equal. The slow host, which serves them in that order, must come to the same vault.
+In which order the requests were served is read off the vault, as orders.py says. The slow host, which serves them in that order,
+must come to the same vault.
 """
 import os
 import random
+import re
 import subprocess
 import sys
 import tempfile
-from collections import deque
 
 from tools.cases.later import LATER
 from tools.cases.scripts import random_run
-from tools.slow import fastver, host, words
+from tools.slow import fastver, host, orders, words
 from tools.slow.bundles import read_bundle
 from tools.slow.digests import ShaDigests
+from tools.slow.shards import Sent
 from tools.slow.verifier import findings
+from tools.slow.world import NotEnabled
 
 SECONDS = 60
-ASKED = ("get", "put", "absent", "signedGet", "signedPut")  # commands that answer a request
-
-
-def evicts(header, number, log):
-    """Of each request in a worker's log: the stamp of the first evict behind it, and the worker."""
-    text, asked, found = header.reader(log), False, []
-    while text.at < len(log):
-        command = header.command(text)
-        if command[0] == "evictB" and asked:
-            found.append((command[-1], number))
-        asked = command[0] in ASKED or asked and command[0] != "evictB"
-    return found
-
-
-def in_their_order(phases, first, served):
-    """The phases with their requests in the order in which they were served, and behind them those that weren't."""
-    ordered = []
-    for epoch, requests in enumerate(phases, first):
-        waiting = {}
-        for request in requests:
-            waiting.setdefault(request.worker, deque()).append(request)
-        workers = [worker for stamp, worker in sorted(served) if stamp[0] == epoch and worker in waiting]
-        order = [waiting[worker].popleft() for worker in workers if waiting[worker]]
-        ordered.append(order + [request for left in waiting.values() for request in left])
-    return ordered
 
 
 def asked_of(worker, phases, first):
@@ -63,6 +40,38 @@ def answered_by(worker, found):
     return [(it.moment[0], it.deed, it.of, it.what if it.deed == "put" else None, it.signature) for it in events]
 
 
+def is_answering(asked, answered, rolling):
+    """Whether answers are those that are asked for, each in its phase's epoch, or of a rolling host there or in a later one."""
+    in_time = all(got[0] >= want[0] if rolling else got[0] == want[0] for want, got in zip(asked, answered))
+    return in_time and [want[1:] for want in asked] == [got[1:] for got in answered]
+
+
+def is_ended(world, worker, moment):
+    """Whether a worker's clock stands so, and has ended by itself or at an element that another may have sent."""
+    sent = [Sent(min(other.clock, (moment[0], world.header.end)), other.number) for other in world.workers]
+    return worker.clock == moment and any(world.is_enabled(("stop", worker.number, one)) for one in [None, *sent])
+
+
+def ended_by(world, output):
+    """The worker of a rolling host whose clock ended, as its world says, or as an output tells that its world allows."""
+    said = re.fullmatch(rb"clock end worker ([0-9]+) at ([0-9]+)\.([0-9]+)", (output.splitlines() or [b""])[-1])
+    if world.ended is not None or said is None:
+        return world.ended
+    number, *moment = map(int, said.groups())
+    named = world.workers[number] if number < len(world.workers) else None
+    return named if named is not None and is_ended(world, named, tuple(moment)) else None
+
+
+def replayed(digests, settings, phases, logs, output):
+    """What the slow host writes that does what logs tell, in one order, and the worker whose clock ended, if one did."""
+    if not settings.rolling or settings.header.end < settings.shards:
+        return host.run(digests, settings, orders.phases_in_order(phases, settings.header.first, orders.all_turns(logs)))
+    world = orders.rolled(digests, settings, phases, logs)
+    host.close(world)
+    world.end_round()
+    return world.vault, ended_by(world, output)
+
+
 def faults(asked, script, vault, output, status):
     """What is wrong, as texts."""
     options = words.options_of(asked)
@@ -72,15 +81,17 @@ def faults(asked, script, vault, output, status):
     if found.status != 0:
         return [f"the bundle is not certified whole: {found.last.strip()}"]
     header, logs, _ = read_bundle(vault)
-    served = [evict for number, log in enumerate(logs) for evict in evicts(header, number, log)]
-    wanted, ended = host.run(digests, settings, in_their_order(phases, first, served))
-    told, wrong = fastver.told(asked[0], options, vault, ended), []
-    if ended is None and found.count != len(phases):
-        wrong.append(f"{found.count} of {len(phases)} epochs are certified")
-    for worker in range(len(logs)):
-        asked, answered = asked_of(worker, phases, first), answered_by(worker, found)
-        if answered != (asked if ended is None else asked[: len(answered)]):
-            wrong.append(f"worker {worker} answers otherwise than it is asked")
+    asked_of_each = [asked_of(worker, phases, first) for worker in range(len(logs))]
+    answered = [answered_by(worker, found) for worker in range(len(logs))]
+    if any(not is_answering(asks[: len(answers)], answers, settings.rolling) for asks, answers in zip(asked_of_each, answered)):
+        return ["workers answer otherwise than they are asked"]
+    try:
+        wanted, ended = replayed(digests, settings, phases, [orders.commands_of(header, log) for log in logs], output)
+    except NotEnabled as event:
+        return [f"a worker does what it may not: {event}"]
+    told, wrong = fastver.told(asked[0], options, found, vault, ended), []
+    if ended is None and (found.count != len(phases) or list(map(len, asked_of_each)) != list(map(len, answered))):
+        wrong.append(f"{found.count} of {len(phases)} epochs are certified, and not all that is asked is answered")
     if vault != wanted:
         wrong.append("the vault is not what the host writes in any order")
     if (output, status) != (told.written, told.status):
@@ -109,6 +120,7 @@ def judge_random(program, count, times, seed):
         version = 1 + number // 2 % 3
         asked, script = random_run(chance, chance.choice([2, 3, 8]), hot, shared=True, version=version)
         asked += ["--absent"] if number % 5 == 1 and "--absent" not in LATER else []
+        asked += ["--rolling"] if number % 4 == 2 and "--rolling" not in LATER else []
         if fastver.fastver(asked, script)[0].status not in (0, 10):
             continue
         seen = set()

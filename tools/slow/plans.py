@@ -12,9 +12,10 @@ import sys
 
 from tools.slow.bundles import Header
 from tools.slow.digests import ToyDigests
-from tools.slow.host import CACHES, Deed, Host, Settings, Visit, Worker
 from tools.slow.rows import row
 from tools.slow.script import request_in
+from tools.slow.shards import Deed, Visit
+from tools.slow.world import CACHES, Settings, Worker, World
 
 END = 16777215
 
@@ -23,35 +24,35 @@ def digits(digest):
     return digest.lstrip(b"\0").hex() or "00"
 
 
-def serve(host, worker, line, shards, absent):
+def serve(world, worker, line):
     """A request, at the shard of its key."""
-    request = request_in(b"0 " + line, host.header)
-    shard = int(request.path[: shards.bit_length() - 1], 2)
-    visit = Visit(host.digests, host.shards[shard], Deed(worker, END), absent)
+    request = request_in(b"0 " + line, world.header)
+    shard = world.shards[world.place_of(request.path).shard]
+    visit = Visit(world.digests, shard, Deed(worker, END), world.settings.absent)
     visit.serve(request)
     worker.keep(visit.deed)
 
 
-def close(host, worker, threshold):
+def close(world, worker):
     """The next epoch, to which each shard is moved."""
-    worker.logged.append(("nextEpoch",))
-    worker.clock = worker.clock[0] + 1, 0
-    for shard in host.shards:
-        visit = Visit(host.digests, shard, Deed(worker, END))
-        visit.move(threshold)
+    worker.go_on()
+    for shard in world.shards:
+        visit = Visit(world.digests, shard, Deed(worker, END))
+        visit.move(world.settings.hot)
         worker.keep(visit.deed)
 
 
 def main():
     absent = sys.argv[4:] == ["absent"]
     shards, number, counter, *threshold = map(int, sys.argv[1:4] if absent else sys.argv[1:])
-    host, worker = Host(ToyDigests(), Settings(Header(1, CACHES[64], 0, END), shards, None)), Worker(number, (0, counter))
+    settings = Settings(Header(1, CACHES[64], 0, END), shards, threshold[0] if threshold else None, absent)
+    world, worker = World(ToyDigests(), settings, [[]]), Worker(number, (0, counter))
     for line in sys.stdin.buffer.read().splitlines():
         if line == b"epoch":
-            close(host, worker, threshold[0] if threshold else None)
+            close(world, worker)
         else:
-            serve(host, worker, line, shards, absent)
-    for command in worker.logged:
+            serve(world, worker, line)
+    for command in worker.log:
         print(row(command, digits))
 
 

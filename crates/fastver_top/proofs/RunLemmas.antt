@@ -17,7 +17,7 @@ use Rattle.fv_outside.specs.declared.failure.Failure.TheVariants as failures
 use Rattle.bundle_report.specs.Report.{told_by}
 use Rattle.script_text.specs.declared.task.Task.{Task}
 use Rattle.host_world.specs.declared.fault.ClockEnd.{ClockEnd}
-use Rattle.host_world.specs.declared.settings.Settings.{Settings}
+use Rattle.shipped_host.specs.declared.settings.Settings.{Settings}
 use Rattle.fv_outside.specs.declared.failure.Failure.{Failure}
 use Rattle.host_rounds.specs.SoFar.{lines_due, end_due}
 use Rattle.host_rounds.proofs.RoundLaws.{bundle-due, bundle-end, bundle-text}

@@ -1,5 +1,5 @@
 -- Where a script is served to its end, a check of the logs ends with the number of its phases.
-use Rattle.std.proofs.Common.{◌≡◌, ℕ, suc, ◌<◌, ◌^◌, ◌==◌, Bool, true, false, List, [], ◌∷◌, length, Option, Some, None, Result, Ok, Err, inl, refl, sym, ◌∙◌, ap, subst, arith, ⊎_elim}
+use Rattle.std.proofs.Common.{◌≡◌, ℕ, suc, ◌<◌, ◌^◌, ◌==◌, ◌-◌, if◌then◌else◌, Bool, true, false, List, [], ◌∷◌, length, Option, Some, None, Result, Ok, Err, inl, refl, sym, ◌∙◌, ap, subst, arith, ⊎_elim}
 use Rattle.std.proofs.lemmas.List.{length-map}
 use Rattle.std.proofs.lemmas.Bool.{cases_lt}
 use Rattle.std.specs.List.{onto_first}
@@ -19,10 +19,10 @@ use Rattle.lamport_clocks.specs.Clock.{last_epoch}
 use Rattle.host_core.specs.Host.{Host, Done as Deed}
 use Rattle.host_core.specs.World.{Place, Worker, Seats, World, set_up, logs_of, worker_at, shard_at}
 use Rattle.host_core.specs.WorldEvent.{WorldEvent, takes, loses, serves, gives, advances, moves, opens, raises, enters, scans, finishes, stops, step, IsEnabled, AreEnabled, run_events, HasAdvanced, after_serve, after_move, after_scan, after_advance}
-use Rattle.host_world.specs.Behind.{AreInRange}
-use Rattle.host_world.specs.Settings.{IsSettings}
-use Rattle.host_world.specs.ShippedHost.{shipped_host}
-use Rattle.host_world.specs.declared.settings.Settings.{Settings}
+use Rattle.shipped_host.specs.Ranges.{AreInRange}
+use Rattle.shipped_host.specs.Settings.{IsSettings}
+use Rattle.shipped_host.specs.ShippedHost.{shipped_host}
+use Rattle.shipped_host.specs.declared.settings.Settings.{Settings}
 use Rattle.host_fits.specs.Promise.{CanRun}
 use Rattle.host_rounds.specs.SoFar.{end_due}
 use Rattle.run_reports.specs.Runs.{HoldsOfRuns}
@@ -100,6 +100,11 @@ module _ {C R : Type 0} (host : Host C R) where
 
 -- ---- how a check ends
 
+-- a host's first phase is one of its script
+first-there : (rolling : Bool) (n : ℕ) → 0 < n → (if rolling then n - 1 else 0) < n
+first-there true n some = omega (arith, some)
+first-there false n some = some
+
 -- what a check promises, for whatever runs
 abbrev pub EndsWithPhases : Type 0
 EndsWithPhases = HoldsOfRuns (λ host world.
@@ -115,7 +120,8 @@ module _ (functions : DigestFunctions) (settings : Settings) (script : List (Lis
       let phases : length host.script ≡ length script = length-map script _ in
       let there : served.world.phase < length host.script =
       subst (λ (w : World _). w.phase < length host.script) (sym served.way.is)
-      (phase-there host (set_up host) served.way.events served.way.enabled (omega (arith, some, phases))) in
+      (phase-there host (set_up host) served.way.events served.way.enabled
+      (first-there settings.rolling (length host.script) (omega (arith, some, phases)))) in
       let count : suc served.world.phase ≡ length script = omega (arith, there, whole.last, phases) in
       let ends = promise functions settings script served.way.events can first served.way.enabled in
       let advanced = subst (λ (w : World _). (i : ℕ) → i < length w.workers → HasAdvanced host w i 2) served.way.is whole.closed.advanced in

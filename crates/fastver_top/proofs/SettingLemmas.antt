@@ -1,6 +1,6 @@
 -- Numbers that words give are those of a host.
 use Rattle.std.proofs.Common.{◌==◌, ◌<◌, ◌≤◌, ℕ, Bool, true, false, Option, Some, None, IfSome, refl, arith}
-use Rattle.host_world.specs.Settings.{IsSettings, shipped_cache}
+use Rattle.shipped_host.specs.Settings.{IsSettings, shipped_cache}
 use Rattle.program_words.specs.declared.host_words.HostNumbers.{HostNumbers}
 use Rattle.program_words.specs.HostWords.{AreHostNumbers}
 use Rattle.fastver_top.specs.Running.{settings_for}
@@ -31,4 +31,5 @@ settings_in_range numbers are = record {
   cache = refl;
   shards = record { bits = are.shards.bits; some = are.shards.some; most = are.shards.most; power = are.shards.power };
   hot = some_touches numbers.hot 1000000 are.hot;
+  cold = λ on. cc;
 }

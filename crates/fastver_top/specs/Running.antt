@@ -1,5 +1,5 @@
 -- What a run of a script does: what it reads, how it serves it, and what stands in the vault and the sink then.
-use Rattle.std.specs.Prelude.{◌≡◌, ◌==◌, Bool, ◌⊎◌, ◌≢◌, ℕ, ◌+◌, List, [], ◌∷◌, ◌++◌, Option, None, Some, IfSome, Result, Ok, Err, IfOk}
+use Rattle.std.specs.Prelude.{◌≡◌, ◌==◌, Bool, false, ◌⊎◌, ◌≢◌, ℕ, ◌+◌, List, [], ◌∷◌, ◌++◌, Option, None, Some, IfSome, Result, Ok, Err, IfOk}
 use Rattle.std.specs.Io.KnownBytes.{IsAtEnd}
 use Rattle.fv_outside.specs.Consumed.{TookAtMost, TookJust}
 use Rattle.fv_outside.specs.Faults.{Rose}
@@ -22,8 +22,8 @@ use Rattle.script_text.specs.declared.fault.ScriptFault.{ScriptFault}
 use Rattle.script_text.specs.declared.fault.ScriptFault.TheVariants as faults
 use Rattle.script_text.specs.declared.task.Task.{Task}
 use Rattle.script_text.specs.Script.{script_of}
-use Rattle.host_world.specs.declared.settings.Settings.{Settings}
-use Rattle.host_world.specs.Settings.{shipped_cache}
+use Rattle.shipped_host.specs.declared.settings.Settings.{Settings}
+use Rattle.shipped_host.specs.Settings.{shipped_cache}
 use Rattle.verifier_threads.specs.declared.accounts.Account.TheVariants as accounts
 use Rattle.verifier_threads.specs.declared.ending.RunEnd.{RunEnd}
 use Rattle.verifier_threads.specs.Serving.{Outputs, IsServed, IsCutOff, IsCutByVault, IsCutAtEnd, status_at}
@@ -110,6 +110,7 @@ settings_for numbers = record {
   shards = numbers.shards;
   hot = numbers.hot;
   absent = numbers.absent;
+  rolling = false;
 }
 
 -- What a call did to a vault: the bytes held and the name, where it tells them, and its count of faults, before and after.

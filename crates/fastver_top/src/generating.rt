@@ -22,8 +22,8 @@ use verifier_threads::{Account, Load, RunEnd, a_header_begins_the_bundle, serve}
 /// Makes the load that the words ask for, names the vault if they say so, and serves it: the vault takes the bundle of the
 /// logs, and the sink the summary of the load. Nothing is read.
 ///
-/// The load is made whole before its first request is served. It has a million requests at most, and takes about a hundred
-/// bytes of memory for each.
+/// The load is made whole before its first request is served. It has a million requests at most, and takes 32 bytes of memory
+/// for each, and those of its data value.
 pub fn serve_generated<
     R: Threads + Wait + Sync,
     D: Digests + Sync,

@@ -1,7 +1,7 @@
 //! A script that is served: what is read, how it is served, and with which status that ends.
 ghost use Rattle.std.specs.Prelude.{◌≡◌, ◌≢◌, ◌⊎◌, ◌^◌, ◌≤◌, OnOk, OnErr, Err};
 ghost use Rattle.fv_outside.specs.Faults.{Counts, Rose};
-ghost use Rattle.host_world.specs.Settings.{IsSettings};
+ghost use Rattle.shipped_host.specs.Settings.{IsSettings};
 ghost use Rattle.program_words.specs.HostWords.{AreHostNumbers};
 ghost use Rattle.script_text.specs.Text.{AreTasks};
 ghost use Rattle.verifier_threads.specs.Serving.{ServesTo};
@@ -10,7 +10,6 @@ ghost use Rattle.fastver_top.specs.Running.{IsBeforeRun, IsNamedFor, IsRunStatus
 use crate::scripts::read_script;
 use fv_outside::{Failed, Failure, Gate, Sink, Source, Vault};
 use host_fits::scripts_ask_for_keys_in_range;
-use host_world::Settings;
 use lamport_clocks::Header;
 use merkle_records::digests_have_32_bytes;
 use program_words::{HostNumbers, PathWord, RunWords};
@@ -18,6 +17,7 @@ use record_hash::Digests;
 use report_text::Status;
 use run_reports::a_check_of_the_logs_ends_as_the_host_promises;
 use script_text::Requests;
+use shipped_host::Settings;
 use std::alloc::Global;
 use std::sync::Wait;
 use std::thread::Threads;
@@ -136,6 +136,7 @@ pub(crate) fn settings_for(numbers: &HostNumbers) -> Settings
         shards: numbers.shards,
         hot: numbers.hot,
         absent: numbers.absent,
+        rolling: false,
     }
 }
 

@@ -265,7 +265,7 @@ module _ {C R : Type 0} (host : Host C R) where
       ap (with_accounts world world.shards world.closing)
       (map-set_same account_of world.workers i worker (fresh host.header) same)
 
-  own_of : (world : World C) (i : ℕ) → i < length world.workers → IsOwn (books_of world) i (account_of (worker_at host world i))
+  pub own_of : (world : World C) (i : ℕ) → i < length world.workers → IsOwn (books_of world) i (account_of (worker_at host world i))
   own_of world i within = record {
     there = subst (λ (n : ℕ). i < n) (sym (length-map world.workers account_of)) within;
     is = account_is world i;

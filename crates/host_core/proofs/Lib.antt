@@ -14,6 +14,7 @@ mod EvenLemmas
 mod PermutedLemmas
 mod PromiseLemmas
 pub mod CoreLaws
+pub mod StandingLaws
 mod LastLemmas
 mod FollowLemmas
 mod ClashLemmas

@@ -7,6 +7,7 @@ use Rattle.std.proofs.lemmas.Nat.{mod_below}
 use Rattle.stamp_order.proofs.InOrderLaws.{every-weaker}
 use Rattle.record_text.specs.declared.element.Element.{Element}
 use Rattle.host_core.specs.Host.{Host, Done}
+use Rattle.host_core.specs.WorldEvent.{AreUpTo}
 use Rattle.host_core.specs.Deeds.{pending_of, IsStamped, AreStamped, IsOpenElement, IsReady, IsReadyAt, ServeFits, MoveFits, IsFit}
 use Rattle.host_core.proofs.Books.{Account, Books, seats_at, account_at, epoch_in, scanned_in, IsOwn, DidServe, InClose, InScan, DidMove}
 use Rattle.host_core.proofs.AccountLemmas.{IsRightAccount}
@@ -42,11 +43,24 @@ module _ {C R : Type 0} (mirrors : ℕ → List C → Type 0) (host : Host C R) 
   pub known_worker : (i : ℕ) (account : Account) → IsOwn host old i account → i < host.header.verifiers
   known_worker i account own = subst (λ (n : ℕ). i < n) right.known own.there
 
-  -- what waits where a worker serves
-  pub waits_there : (i : ℕ) (account : Account) (s seat : ℕ) (request : R) (done : Done C) → DidServe host old i account s seat request done
+  -- a worker at a seat where it may serve: what waits there is of no later epoch than its own
+  pub record IsAtSeat (i : ℕ) (account : Account) (s seat : ℕ) : Type 0 where
+    pub own : IsOwn host old i account
+    pub shard : s < length old.shards
+    pub inside : seat < length (seats_at old s).contents
+    pub phase : old.closing ≡ false
+    pub reached : AreUpTo account.clock.at.epoch (host.pending (get_or (seats_at old s).contents seat host.vacant))
+
+  at_seat : (i : ℕ) (account : Account) (s seat : ℕ) (request : R) (done : Done C) → DidServe host old i account s seat request done
+      → IsAtSeat i account s seat
+  at_seat i account s seat request done did =
+      record { own = did.own; shard = did.shard; inside = did.inside; phase = did.phase; reached = did.reached }
+
+  -- what waits there
+  pub waits_there : (i : ℕ) (account : Account) (s seat : ℕ) → IsAtSeat i account s seat
       → AllByRecursion (λ x. (x.verifier < host.header.verifiers) × (low_in host old (s % length old.accounts) ≤ x.stamp.epoch) × (x.stamp.epoch ≤ account.clock.at.epoch))
       (host.pending (get_or (seats_at old s).contents seat host.vacant))
-  waits_there i account s seat request done did =
+  waits_there i account s seat did =
       both-all (IsWaiting host (low_in host old (s % length old.accounts)) (top_in host old)) (λ x. x.stamp.epoch ≤ account.clock.at.epoch)
       (λ x. (x.verifier < host.header.verifiers) × (low_in host old (s % length old.accounts) ≤ x.stamp.epoch) × (x.stamp.epoch ≤ account.clock.at.epoch))
       (λ x waits up. (waits.0, waits.1, up)) (host.pending (get_or (seats_at old s).contents seat host.vacant))
@@ -54,11 +68,10 @@ module _ {C R : Type 0} (mirrors : ℕ → List C → Type 0) (host : Host C R) 
       ((right.inside did.phase).waits s did.shard))
       did.reached
 
-  -- a worker at a seat
-  pub serve_ready : (i : ℕ) (account : Account) (s seat : ℕ) (request : R) (done : Done C)
-      → DidServe host old i account s seat request done
+  -- so it is ready
+  pub ready_at_seat : (i : ℕ) (account : Account) (s seat : ℕ) → IsAtSeat i account s seat
       → IsReadyAt mirrors host i account.clock s seat (seats_at old s).contents
-  serve_ready i account s seat request done did = record {
+  ready_at_seat i account s seat did = record {
     known = known_worker i account did.own;
     is_clock = (own_right i account did.own).is_clock;
     mirrored = right.mirrored s did.shard;
@@ -71,7 +84,7 @@ module _ {C R : Type 0} (mirrors : ℕ → List C → Type 0) (host : Host C R) 
           open_near account.clock x.stamp.epoch is.2
               (omega (arith, is.1, owner.near, clock.up_to)) (omega (arith, is.1, owner.from_first, (own_right i account did.own).is_clock.first)),
         ))
-        (host.pending (get_or (seats_at old s).contents seat host.vacant)) (waits_there i account s seat request done did);
+        (host.pending (get_or (seats_at old s).contents seat host.vacant)) (waits_there i account s seat did);
   }
     where
       inside : IsInside host old
@@ -88,6 +101,11 @@ module _ {C R : Type 0} (mirrors : ℕ → List C → Type 0) (host : Host C R) 
           every-weaker (IsWaiting host (low_in host old (s % length old.accounts)) (top_in host old)) (IsStamped host account.clock.at.epoch)
           (λ x waits. (waits.0, omega (arith, waits.1, waits.2, clock.from, clock.up_to, level_low plain i, level_low plain (s % length old.accounts), level_top plain)))
           (pending_of host (seats_at old s).contents) (inside.waits s did.shard)
+
+  pub serve_ready : (i : ℕ) (account : Account) (s seat : ℕ) (request : R) (done : Done C)
+      → DidServe host old i account s seat request done
+      → IsReadyAt mirrors host i account.clock s seat (seats_at old s).contents
+  serve_ready i account s seat request done did = ready_at_seat i account s seat (at_seat i account s seat request done did)
 
   pub serve_fits : (i : ℕ) (account : Account) (s seat : ℕ) (request : R) (done : Done C)
       → DidServe host old i account s seat request done
@@ -115,7 +133,8 @@ module _ {C R : Type 0} (mirrors : ℕ → List C → Type 0) (host : Host C R) 
           some = some-waits
               (λ x. (x.verifier < host.header.verifiers) × (low_in host old (s % length old.accounts) ≤ x.stamp.epoch) × (x.stamp.epoch ≤ account.clock.at.epoch))
               (host.pending (get_or (seats_at old s).contents seat host.vacant))
-              (fit.waits rolling s seat (seats_at old s).contents request did.owns) (waits_there i account s seat request done did)
+              (fit.waits rolling s seat (seats_at old s).contents request did.owns)
+              (waits_there i account s seat (at_seat i account s seat request done did))
 
   -- a worker at a shard that it moves or scans, where all waits in the epoch before its own
   pub record IsMoveReady (i : ℕ) (account : Account) (s : ℕ) : Type 0 where
@@ -123,17 +142,17 @@ module _ {C R : Type 0} (mirrors : ℕ → List C → Type 0) (host : Host C R) 
     pub ready : IsReady mirrors host i account.clock epoch s (seats_at old s).contents
     pub turned : account.clock.at.epoch ≡ suc epoch
 
-  pub move_ready : (i : ℕ) (account : Account) (s : ℕ) (moved : Bool) (done : Done (List C)) → DidMove host old i account s moved done
-      → IsMoveReady i account s
-  move_ready i account s moved done did = go did.when
+  pub ready_at_shard : (i : ℕ) (account : Account) (s : ℕ) (moved : Bool) → IsOwn host old i account → s < length old.shards
+      → InClose host old account s moved ⊎ InScan host old i account s moved → IsMoveReady i account s
+  ready_at_shard i account s moved own there = go
     where
       ready : (epoch : ℕ) → account.clock.at.epoch ≡ suc epoch → AreStamped host epoch (seats_at old s).contents → IsMoveReady i account s
       ready epoch turned stamped = record {
         epoch = epoch;
         ready = record {
-          known = known_worker i account did.own;
-          is_clock = (own_right i account did.own).is_clock;
-          mirrored = right.mirrored s did.shard;
+          known = known_worker i account own;
+          is_clock = (own_right i account own).is_clock;
+          mirrored = right.mirrored s there;
           stamped = stamped;
         };
         turned = turned;
@@ -143,21 +162,25 @@ module _ {C R : Type 0} (mirrors : ℕ → List C → Type 0) (host : Host C R) 
       go (inl close) =
           ready (epoch_in host old) (close.turned ∙ omega arith)
           (subst (λ (b : Bool). AreStamped host (epoch_at (epoch_in host old) b) (seats_at old s).contents) close.still
-          ((right.closed close.closing).stamped s did.shard))
+          ((right.closed close.closing).stamped s there))
       go (inr scan) =
           ready scan.before scan.turned
           (both-all (IsWaiting host (low_in host old (s % length old.accounts)) (top_in host old)) (λ x. x.stamp.epoch ≤ scan.before) (IsStamped host scan.before)
           (λ x waits up. (waits.0, omega (arith, waits.1, up, owner.near, clock.up_to, scan.turned))) (pending_of host (seats_at old s).contents)
-          (inside.waits s did.shard) scan.earlier)
+          (inside.waits s there) scan.earlier)
         where
           inside : IsInside host old
           inside = right.inside scan.round.phase
 
           clock : IsRoundClock host.header.first (low_in host old i) (top_in host old) account.clock.at.epoch
-          clock = round_clock inside i account did.own
+          clock = round_clock inside i account own
 
           owner : IsRoundClock host.header.first (low_in host old (s % length old.accounts)) (top_in host old) (account_at host old (s % length old.accounts)).clock.at.epoch
           owner = inside.clocks (s % length old.accounts) (owner_there s)
+
+  pub move_ready : (i : ℕ) (account : Account) (s : ℕ) (moved : Bool) (done : Done (List C)) → DidMove host old i account s moved done
+      → IsMoveReady i account s
+  move_ready i account s moved done did = ready_at_shard i account s moved did.own did.shard did.when
 
   pub move_fits : (i : ℕ) (account : Account) (s : ℕ) (moved : Bool) (done : Done (List C)) → DidMove host old i account s moved done
       → MoveFits mirrors host i account.clock s (seats_at old s).contents done

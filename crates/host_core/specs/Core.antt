@@ -11,8 +11,8 @@ use Rattle.soundness.specs.Permutation.{is_permutation}
 use Rattle.host_core.specs.Accepted.{state_from, IsAccepted}
 use Rattle.host_core.specs.Host.{Host, scheme, machinery, resting, asked, script_of}
 use Rattle.host_core.specs.World.{Place, World, worker_at, shard_at, scanned_at, logs_of, epoch_of, set_up}
-use Rattle.host_core.specs.WorldEvent.{WorldEvent, AreUpTo, AreFrom, IsPlace, AllMoved, HasAdvanced, IsNext, IsDue, IsPhaseOver, IsRoundOver, AreEnabled, run_events}
-use Rattle.host_core.specs.Deeds.{answers_in, pending_of, IsAnswering, AreStamped, IsFit}
+use Rattle.host_core.specs.WorldEvent.{WorldEvent, takes, loses, serves, gives, advances, moves, opens, raises, enters, scans, finishes, stops, AreUpTo, AreFrom, IsPlace, AllMoved, HasAdvanced, IsNext, IsDue, IsPhaseOver, IsRoundOver, IsEnabled, AreEnabled, run_events}
+use Rattle.host_core.specs.Deeds.{answers_in, pending_of, IsAnswering, AreStamped, IsClock, IsReady, IsReadyAt, IsFit}
 
 module _ {C R : Type 0} (host : Host C R) (world : World C) where
   -- the histories of all logs
@@ -124,6 +124,39 @@ module _ {C R : Type 0} (host : Host C R) (world : World C) where
       → ((i : ℕ) → i < length world.workers → (worker_at host world i).stopped ≡ false)
       → (i : ℕ) → i < length world.workers
       → answers_in (path_log_events (scheme host) host.header i (worker_at host world i).log) ≡ script_of host i
+
+-- What an event does at a shard is ready to be done.
+module _ {C R : Type 0} (mirrors : ℕ → List C → Type 0) (host : Host C R) (world : World C) where
+  -- a worker at a shard that it moves or scans: all that waits there is of the epoch before its own
+  pub record IsReadyToMove (i s : ℕ) : Type 0 where
+    pub epoch : ℕ
+    pub ready : IsReady mirrors host i (worker_at host world i).clock epoch s (shard_at world s).contents
+    pub turned : (worker_at host world i).clock.at.epoch ≡ suc epoch
+
+  abbrev pub IsReadyFor : WorldEvent R → Type 0
+  IsReadyFor (takes i place) = Unit {0}
+  IsReadyFor (loses i place) = Unit {0}
+  IsReadyFor (serves i place request) =
+      IsReadyAt mirrors host i (worker_at host world i).clock place.shard place.seat (shard_at world place.shard).contents
+  IsReadyFor (gives i place) = Unit {0}
+  IsReadyFor (advances i) = Unit {0}
+  IsReadyFor (moves i s) = IsReadyToMove i s
+  IsReadyFor opens = Unit {0}
+  IsReadyFor (raises i) = Unit {0}
+  IsReadyFor (enters i) = Unit {0}
+  IsReadyFor (scans i place) = IsReadyToMove i place.shard
+  IsReadyFor (finishes i) = Unit {0}
+  IsReadyFor (stops i found) = Unit {0}
+
+  -- there are as many workers and shards as behind the setup, each worker's clock is one of the host, each shard mirrors, and
+  -- whatever is enabled is ready
+  pub record IsStanding : Type 0 where
+    pub workers : length world.workers ≡ host.header.verifiers
+    pub marks : length world.scanned ≡ length world.workers
+    pub shards : length world.shards ≡ length host.setup.after
+    pub clocks : (i : ℕ) → i < length world.workers → IsClock host (worker_at host world i).clock
+    pub mirrored : (s : ℕ) → s < length world.shards → mirrors s (shard_at world s).contents
+    pub ready : (event : WorldEvent R) → IsEnabled host world event → IsReadyFor event
 
 -- P holds of the world behind every list of events that are enabled from the setup on, where whatever the host does fits.
 abbrev pub HoldsBehind : {C R : Type 0} → (ℕ → List C → Type 0) → Host C R → (World C → Type 0) → Type 0

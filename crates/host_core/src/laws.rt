@@ -1,13 +1,13 @@
 //! What holds of a host's world behind every list of events that are enabled from the setup on, whatever the script, the
 //! workers, the shards and the numbers of the host. These functions do nothing: their contracts are the laws. What they
 //! take of the host is `IsFit` of `specs/Deeds.antt`.
-ghost use Rattle.std.specs.Prelude.{◌≡◌, true, false, List, ◌++◌};
+ghost use Rattle.std.specs.Prelude.{◌≡◌, ℕ, Bool, true, false, List, ◌++◌};
 ghost use Rattle.host_core.specs.Host.{Host};
 ghost use Rattle.host_core.specs.World.{World};
 ghost use Rattle.host_core.specs.WorldEvent.{WorldEvent, AreEnabled, run_events};
 ghost use Rattle.host_core.specs.Clear.{HoldsIfClear, HasNothingToShow, IsServedSerially};
 ghost use Rattle.host_core.specs.Storing.{HoldsIfStoring, HoldsAnswered, HoldsCertified};
-ghost use Rattle.host_core.specs.Core.{HoldsAlways, AreAccepted, AreAnswered, AreAnsweredInTime, IsDone, IsRoundDone, IsEven, IsInPhase, IsDueInPhase, IsInRound, IsLevelBehindRound, IsBehindClose, AreSealed, SealedArePermuted, AllCertified, IsWhole};
+ghost use Rattle.host_core.specs.Core.{HoldsBehind, HoldsAlways, IsStanding, AreAccepted, AreAnswered, AreAnsweredInTime, IsDone, IsRoundDone, IsEven, IsInPhase, IsDueInPhase, IsInRound, IsLevelBehindRound, IsBehindClose, AreSealed, SealedArePermuted, AllCertified, IsWhole};
 
 /// Events that are enabled behind others are enabled with them, and lead where both lead, one behind the other.
 pub fn events_go_on<C, R>()
@@ -46,6 +46,13 @@ pub fn pending_elements_are_of_the_epoch<C, R>()
     ensures round { (host : Host C R) → host.rolling ≡ true → HoldsAlways host (IsInRound host) }
     ensures level { (host : Host C R) → HoldsAlways host (IsLevelBehindRound host) }
     ensures close { (host : Host C R) → HoldsAlways host (IsBehindClose host) }
+{}
+
+/// There are as many workers and shards as behind the setup, each clock is one of the host, each shard mirrors, and what an enabled
+/// event does at a shard is ready to be done: the worker's clock can take in what waits there.
+pub fn what_is_enabled_is_ready<C, R>()
+    ensures ready { (host : Host C R) (mirrors : ℕ → List C → Bool)
+        → HoldsBehind (λ s contents. mirrors s contents ≡ true) host (IsStanding (λ s contents. mirrors s contents ≡ true) host) }
 {}
 
 /// Each worker has sealed the epochs before the one before its clock's. Of each epoch that all have sealed the added

@@ -20,5 +20,5 @@ mod laws;
 pub use laws::{
     answers_follow_the_script, certified_answers_are_serial, contents_hold_the_plain_map,
     events_go_on, evicted_elements_are_added_or_wait, logs_are_accepted,
-    pending_elements_are_of_the_epoch, sealed_epochs_are_certified,
+    pending_elements_are_of_the_epoch, sealed_epochs_are_certified, what_is_enabled_is_ready,
 };

@@ -33,9 +33,10 @@ use Rattle.host_laws.specs.Running.{Told, Access, run, accesses_by, accesses_tol
 use Rattle.host_laws.specs.Served.{access_for}
 use Rattle.host_laws.proofs.RunLaws.{run-history}
 use Rattle.host_holds.specs.Holding.{hot_record_of, stamp_or, held_value, held_since, stored_after}
-use Rattle.host_world.specs.Seated.{SeatsMirror}
+use Rattle.shipped_host.specs.Seated.{SeatsMirror}
 use Rattle.host_fits.specs.Holds.{shard_of, storing_of}
-use Rattle.host_fits.proofs.Keeping.{Setting, bits_in, ranged, PlacesMirror, frontier_in, home_of}
+use Rattle.host_fits.specs.Mirroring.{frontier_in}
+use Rattle.host_fits.proofs.Keeping.{Setting, bits_in, ranged, PlacesMirror, home_of}
 use Rattle.host_fits.proofs.PlaceLemmas.{shard_tree, home-below, home_tests}
 
 -- ---- operations that are told

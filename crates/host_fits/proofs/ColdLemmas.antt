@@ -28,9 +28,9 @@ use Rattle.move_laws.proofs.PlaceLaws.{HasNone}
 use Rattle.host_holds.specs.Holding.{hot_record_of, stamp_or, held_value, held_since, stored_after}
 use Rattle.host_holds.proofs.HeldLaws.{shard_served}
 use Rattle.host_holds.proofs.HotLaws.{none_hot, hot-none}
-use Rattle.host_world.specs.Planned.{IsPlanned}
-use Rattle.host_world.specs.Seated.{SeatsMirror}
-use Rattle.host_world.proofs.SeatLaws.{stage_at, stage_mirrors}
+use Rattle.shipped_host.specs.Planned.{IsPlanned}
+use Rattle.shipped_host.specs.Seated.{SeatsMirror}
+use Rattle.shipped_host.proofs.SeatLaws.{stage_at, stage_mirrors}
 use Rattle.host_fits.proofs.Keeping.{Setting, ranged}
 use Rattle.host_fits.proofs.PlaceLemmas.{shard_tree}
 use Rattle.host_fits.proofs.ClearLemmas.{not_after, renewing-rises}

@@ -27,10 +27,11 @@ use Rattle.host_laws.specs.Running.{Told, run, IsHistory}
 use Rattle.host_laws.specs.Carried.{carried, IsCarried}
 use Rattle.host_laws.specs.Served.{IsOwned, IsWithin, PlanRuns}
 use Rattle.host_laws.proofs.RunLaws.{run-history}
-use Rattle.host_world.specs.Planned.{IsPlanned}
-use Rattle.host_world.specs.Seated.{IsHotPlace, SeatsMirror}
-use Rattle.host_world.proofs.PlaceLaws.{place_there}
-use Rattle.host_fits.proofs.Keeping.{Setting, IsSetting, bits_in, ranged, PlacesMirror, kept_of, front_of, frontier_in, home_of, keeping_of}
+use Rattle.shipped_host.specs.Planned.{IsPlanned}
+use Rattle.shipped_host.specs.Seated.{IsHotPlace, SeatsMirror}
+use Rattle.shipped_host.proofs.PlaceLaws.{place_there}
+use Rattle.host_fits.specs.Mirroring.{front_of, frontier_in}
+use Rattle.host_fits.proofs.Keeping.{Setting, IsSetting, bits_in, ranged, PlacesMirror, kept_of, home_of, keeping_of}
 use Rattle.host_fits.proofs.EventLemmas.{touching-events, touching-none, touching-stamps}
 use Rattle.host_fits.proofs.PlaceLemmas.{home-below}
 use Rattle.host_fits.proofs.ClearLemmas.{carried-clear, carried-keeps, not_after}

@@ -29,10 +29,10 @@ use Rattle.move_laws.proofs.TransferLaws.{hot_own}
 use Rattle.host_holds.specs.Holding.{hot_record_of, stamp_or, held_value, held_since, stored_after}
 use Rattle.host_holds.proofs.HeldLaws.{hot_served}
 use Rattle.host_holds.proofs.HotLaws.{hot-found, own-set, others-set}
-use Rattle.host_world.specs.Planned.{IsPlanned}
-use Rattle.host_world.specs.Seated.{IsHotPlace, SeatsMirror}
-use Rattle.host_world.proofs.PlaceLaws.{place_there}
-use Rattle.host_world.proofs.SeatLaws.{stage_at, stage_mirrors}
+use Rattle.shipped_host.specs.Planned.{IsPlanned}
+use Rattle.shipped_host.specs.Seated.{IsHotPlace, SeatsMirror}
+use Rattle.shipped_host.proofs.PlaceLaws.{place_there}
+use Rattle.shipped_host.proofs.SeatLaws.{stage_at, stage_mirrors}
 use Rattle.host_fits.proofs.Keeping.{Setting, ranged}
 use Rattle.host_fits.proofs.ClearLemmas.{not_after, renewing-rises}
 use Rattle.host_fits.proofs.ServeLemmas.{Serves, asked_so, planned, runs, logged, there, small, takes_in, accessed}

@@ -15,28 +15,26 @@ use Rattle.host_plan.specs.Plan.{commands_of, content_after, clock_after}
 use Rattle.host_laws.specs.SettingUp.{CanSetUp}
 use Rattle.host_core.specs.Host.{Done, Host}
 use Rattle.host_core.specs.Clear.{Keeping}
-use Rattle.host_world.specs.declared.settings.Settings.{Settings}
-use Rattle.host_world.specs.Links.{links_of}
-use Rattle.host_world.specs.Seated.{SeatsMirror}
-use Rattle.host_world.specs.Settings.{frontier_bits}
-use Rattle.host_world.specs.ShippedHost.{is_place_of, shipped_host}
+use Rattle.shipped_host.specs.declared.settings.Settings.{Settings}
+use Rattle.shipped_host.specs.Links.{links_of}
+use Rattle.shipped_host.specs.Seated.{SeatsMirror}
+use Rattle.shipped_host.specs.Settings.{frontier_bits}
+use Rattle.shipped_host.specs.ShippedHost.{is_place_of, shipped_host}
+use Rattle.host_fits.specs.Mirroring as Mirroring
+use Rattle.host_fits.specs.Mirroring.{front_of}
 
--- what a shipped host is given, and whether it is rolling
+-- what a shipped host is given
 pub record Setting : Type 0 where
   pub functions : DigestFunctions
   pub settings : Settings
   pub script : List (List Task)
-  pub rolling : Bool
 
 abbrev pub setting_of : DigestFunctions → Settings → List (List Task) → Setting
-setting_of functions settings script = record { functions = functions; settings = settings; script = script; rolling = false }
+setting_of functions settings script = record { functions = functions; settings = settings; script = script }
 
-abbrev pub rolling_setting_of : DigestFunctions → Settings → List (List Task) → Setting
-rolling_setting_of functions settings script = record (setting_of functions settings script) { rolling = true }
-
--- the shipped host in its mode
+-- the shipped host
 abbrev pub host_in : Setting → Host Content Request
-host_in setting = record (shipped_host setting.functions setting.settings setting.script) { rolling = setting.rolling }
+host_in setting = shipped_host setting.functions setting.settings setting.script
 
 -- how many bits lead to its frontiers
 abbrev pub bits_in : Setting → ℕ
@@ -73,34 +71,16 @@ served_at setting worker clock content request =
 
 -- ---- what is kept
 
--- the records of a shard's places, and the stamp with which the shard waits
+-- the records of a shard's places
 abbrev pub kept_of : List Content → List Bool → Option Value
 kept_of [] path = None
 kept_of (cold shard ∷ rest) path = shard.records path
 kept_of (hot record' ∷ rest) path = None
 kept_of (vacant ∷ rest) path = None
 
-abbrev pub front_of : List Content → Stamp
-front_of [] = record { epoch = 0; counter = 0 }
-front_of (cold shard ∷ rest) = shard.stamp
-front_of (hot record' ∷ rest) = record { epoch = 0; counter = 0 }
-front_of (vacant ∷ rest) = record { epoch = 0; counter = 0 }
-
--- and its path
-abbrev pub frontier_in : List Content → List Bool
-frontier_in [] = []
-frontier_in (cold shard ∷ rest) = shard.frontier
-frontier_in (hot record' ∷ rest) = []
-frontier_in (vacant ∷ rest) = []
-
--- The contents of a shard's places mirror; its frontier is a path of the header's tree, and its bits behind the first spell the
--- shard's number; and it waits since the first epoch or later.
-pub record PlacesMirror (setting : Setting) (s : ℕ) (contents : List Content) : Type 0 where
-  pub mirrors : SeatsMirror (longest_of setting.settings.header) setting.functions.digest contents
-  pub tree : IsIn (wide_of setting.settings.header) (frontier_in contents)
-  pub levels : length (frontier_in contents) ≡ suc (bits_in setting)
-  pub number : key_of (frontier_in contents) ≡ s
-  pub from_first : setting.settings.header.first ≤ (front_of contents).epoch
+-- the contents of a shard's places mirror
+abbrev pub PlacesMirror : Setting → ℕ → List Content → Type 0
+PlacesMirror setting s contents = Mirroring.PlacesMirror setting.functions setting.settings s contents
 
 -- The number of the shard below whose frontier a path lies, where frontiers of this tree have so many bits: those of the path
 -- behind the first spell it. A path that is no longer, or of the other tree, is of none.

@@ -14,7 +14,8 @@ mod RangeLemmas
 mod PlanLemmas
 mod MoveLemmas
 mod SteadyLemmas
-mod PromiseLemmas
+pub mod PromiseLaws
+pub mod StandingLaws
 mod AccessLemmas
 mod ColdLemmas
 mod HotLemmas

@@ -9,10 +9,10 @@ use Rattle.script_text.specs.declared.task.Task.{Task}
 use Rattle.protection_moves.specs.Stage.{Stage}
 use Rattle.protection_moves.specs.Move.{IsMove, IsPastEnd}
 use Rattle.move_laws.specs.Stages.{StageMirrors}
-use Rattle.host_world.specs.declared.settings.Settings.{Settings}
-use Rattle.host_world.specs.Moving.{seats_of}
-use Rattle.host_world.specs.ShippedHost.{shipped_host}
-use Rattle.host_world.proofs.DescentLaws.{move_is_done, move_past}
+use Rattle.shipped_host.specs.declared.settings.Settings.{Settings}
+use Rattle.shipped_host.specs.Moving.{seats_of}
+use Rattle.shipped_host.specs.ShippedHost.{shipped_host}
+use Rattle.shipped_host.proofs.DescentLaws.{move_is_done, move_past}
 
 module _ (functions : DigestFunctions) (settings : Settings) (script : List (List Task)) (worker s : ℕ) where
   pub move_done : (old new : Stage) (commands : List Command) → GivesDigests functions.digest → IfSome settings.hot (λ least. 0 < least)

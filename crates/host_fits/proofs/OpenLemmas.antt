@@ -37,7 +37,7 @@ use Rattle.host_laws.proofs.RunLaws.{run-history}
 use Rattle.host_laws.proofs.SetUpLaws.{setup_runs}
 use Rattle.host_laws.proofs.FirstLaws.{new_mirrors}
 use Rattle.host_laws.proofs.DepthLaws.{node_in}
-use Rattle.host_world.specs.ShippedHost.{hot_places, new_seats}
+use Rattle.shipped_host.specs.ShippedHost.{hot_places, new_seats}
 use Rattle.host_fits.proofs.Keeping.{Setting, IsSetting, bits_in, ranged, PlacesMirror, kept_of, home_of}
 use Rattle.host_fits.proofs.EventLemmas.{ask_of, touching-events, touching-none}
 use Rattle.host_fits.proofs.DeedLemmas.{is_deed}

@@ -25,9 +25,10 @@ use Rattle.host_laws.specs.Served.{waiting}
 use Rattle.host_core.specs.Host.{Done}
 use Rattle.protection_moves.specs.Stage.{hot_records}
 use Rattle.move_laws.proofs.PlaceLaws.{one_of-all}
-use Rattle.host_world.specs.Seated.{IsHotPlace, SeatsMirror}
-use Rattle.host_world.proofs.PlaceLaws.{hot_there, place_there}
-use Rattle.host_fits.proofs.Keeping.{Setting, PlacesMirror, frontier_in, home_of}
+use Rattle.shipped_host.specs.Seated.{IsHotPlace, SeatsMirror}
+use Rattle.shipped_host.proofs.PlaceLaws.{hot_there, place_there}
+use Rattle.host_fits.specs.Mirroring.{frontier_in}
+use Rattle.host_fits.proofs.Keeping.{Setting, PlacesMirror, home_of}
 
 -- what is said of each is said of each so
 pub all-each : {A : Type 0} (P Q : A → Type 0) → ((x : A) → P x → Q x) → (xs : List A) → AllByRecursion P xs → AllByRecursion Q xs

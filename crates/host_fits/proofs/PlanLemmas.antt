@@ -13,10 +13,10 @@ use Rattle.host_shard.specs.Content.{Content, cold, hot, vacant}
 use Rattle.host_plan.specs.Plan.{CanServe, AreLinks, IsPastEnd, IsPlan, commands_of, content_after, clock_after}
 use Rattle.host_plan.specs.declared.plans.Plan.{Plan}
 use Rattle.host_core.specs.Host.{Done}
-use Rattle.host_world.specs.declared.settings.Settings.{Settings}
-use Rattle.host_world.specs.Links.{links_of}
-use Rattle.host_world.specs.ShippedHost.{shipped_host}
-use Rattle.host_world.proofs.LinkLaws.{shard_chain_is}
+use Rattle.shipped_host.specs.declared.settings.Settings.{Settings}
+use Rattle.shipped_host.specs.Links.{links_of}
+use Rattle.shipped_host.specs.ShippedHost.{shipped_host}
+use Rattle.shipped_host.proofs.LinkLaws.{shard_chain_is}
 use Rattle.host_fits.proofs.Keeping.{setting_of, served_at}
 use Rattle.host_fits.proofs.PlaceLemmas.{past_none, within_some}
 

@@ -11,8 +11,8 @@ use Rattle.host_shard.specs.Content.{Content}
 use Rattle.host_core.specs.Host.{Host}
 use Rattle.host_core.specs.World.{World, shard_at}
 use Rattle.host_core.specs.WorldEvent.{WorldEvent, takes, loses, serves, gives, advances, moves, opens, raises, enters, scans, finishes, stops, step, IsServing, IsRolling, HasEnded, IsEnabled, AreEnabled, run_events}
-use Rattle.host_world.specs.Behind.{AreInRange}
-use Rattle.host_world.proofs.RangeLaws.{next_in_range}
+use Rattle.shipped_host.specs.Ranges.{AreInRange}
+use Rattle.shipped_host.proofs.RangeLaws.{next_in_range}
 use Rattle.host_fits.proofs.Keeping.{Setting, host_in, ranged}
 
 module _ (setting : Setting) (keys : AreInRange setting.settings.header setting.script) where
@@ -55,7 +55,7 @@ module _ (setting : Setting) (keys : AreInRange setting.settings.header setting.
     ends = at.ends;
   }))
 
-  enabled : (world : World Content) (event : WorldEvent Request) → IsEnabled host world event → IsEnabled near world event
+  pub enabled : (world : World Content) (event : WorldEvent Request) → IsEnabled host world event → IsEnabled near world event
   enabled world (takes i place) may = record {
     serving = serving world i may.serving;
     there = may.there;

@@ -29,11 +29,12 @@ use Rattle.move_laws.proofs.CounterLaws.{move_clock}
 use Rattle.move_laws.proofs.DeedLaws.{move_deed, clear_move}
 use Rattle.move_laws.proofs.MoveLaws.{move_runs, move_typed}
 use Rattle.move_laws.proofs.DescentLaws.{each-end, each-frontier}
-use Rattle.host_world.specs.Planned.{IsMoved}
-use Rattle.host_world.specs.Seated.{SeatsMirror, IsHotPlace, wide_among, waiting_at}
-use Rattle.host_world.proofs.PlaceLaws.{waits-hot, hot-moved}
-use Rattle.host_world.proofs.SeatLaws.{stage_at, stage_mirrors, MoveKeeps, move_keeps, seats_moved}
-use Rattle.host_fits.proofs.Keeping.{Setting, IsSetting, bits_in, ranged, PlacesMirror, front_of, frontier_in, keeping_of}
+use Rattle.shipped_host.specs.Planned.{IsMoved}
+use Rattle.shipped_host.specs.Seated.{SeatsMirror, IsHotPlace, wide_among, waiting_at}
+use Rattle.shipped_host.proofs.PlaceLaws.{waits-hot, hot-moved}
+use Rattle.shipped_host.proofs.SeatLaws.{stage_at, stage_mirrors, MoveKeeps, move_keeps, seats_moved}
+use Rattle.host_fits.specs.Mirroring.{front_of, frontier_in}
+use Rattle.host_fits.proofs.Keeping.{Setting, IsSetting, bits_in, ranged, PlacesMirror, keeping_of}
 use Rattle.host_fits.proofs.PlaceLemmas.{all-each, shard_tree, home-below}
 use Rattle.host_fits.proofs.ServeLemmas.{bare_at_rest}
 

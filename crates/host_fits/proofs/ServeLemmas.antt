@@ -37,12 +37,13 @@ use Rattle.host_laws.specs.SettingUp.{set_up_root}
 use Rattle.host_laws.proofs.RequestLaws.{plan_runs}
 use Rattle.host_laws.proofs.MirrorLaws.{mirrors_serve, plan_typed}
 use Rattle.protection_moves.specs.Stage.{hot_paths}
-use Rattle.host_world.specs.Planned.{IsPlanned}
-use Rattle.host_world.specs.Seated.{SeatsMirror, wide_among}
-use Rattle.host_world.specs.ShippedHost.{is_place_of, told, resting_cache}
-use Rattle.host_world.proofs.PlannedLaws.{served_is_planned}
-use Rattle.host_world.proofs.SeatLaws.{tree_is, SeatServes, seat_serves, ServeKeeps, serve_keeps}
-use Rattle.host_fits.proofs.Keeping.{Setting, IsSetting, PlacesMirror, bits_in, served_at, ranged, frontier_in, front_of}
+use Rattle.shipped_host.specs.Planned.{IsPlanned}
+use Rattle.shipped_host.specs.Seated.{SeatsMirror, wide_among}
+use Rattle.shipped_host.specs.ShippedHost.{is_place_of, told, resting_cache}
+use Rattle.shipped_host.proofs.PlannedLaws.{served_is_planned}
+use Rattle.shipped_host.proofs.SeatLaws.{tree_is, SeatServes, seat_serves, ServeKeeps, serve_keeps}
+use Rattle.host_fits.specs.Mirroring.{frontier_in, front_of}
+use Rattle.host_fits.proofs.Keeping.{Setting, IsSetting, PlacesMirror, bits_in, served_at, ranged}
 use Rattle.host_fits.proofs.EventLemmas.{ask_of}
 use Rattle.host_fits.proofs.DeedLemmas.{is_deed}
 use Rattle.host_fits.proofs.PlaceLemmas.{all-each, both, done_within, shard_tree, owner_tree}

@@ -6,7 +6,7 @@ use Rattle.std.proofs.Math.Nat.{pow-suc}
 use Rattle.tree_keys.specs.Path.{key_bits}
 use Rattle.record_text.specs.Tree.{wide_of}
 use Rattle.host_plan.specs.Setup.{IsShardCount}
-use Rattle.host_world.specs.Settings.{shipped_cache, bits_within}
+use Rattle.shipped_host.specs.Settings.{shipped_cache, bits_within}
 use Rattle.host_fits.specs.Promise.{CanRun}
 use Rattle.host_fits.proofs.Keeping.{Setting, IsSetting}
 

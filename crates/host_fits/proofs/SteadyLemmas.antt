@@ -32,11 +32,11 @@ use Rattle.protection_moves.specs.Renewing.{renewing_each}
 use Rattle.protection_moves.specs.Transfer.{Transfer, demotes, promotes, clock_needed}
 use Rattle.protection_moves.specs.Descent.{Descent, done_by, done_by_each}
 use Rattle.protection_moves.specs.Move.{begun}
-use Rattle.host_world.specs.declared.settings.Settings.{Settings}
-use Rattle.host_world.specs.Promotable.{promotable_in}
-use Rattle.host_world.specs.Links.{links_of}
-use Rattle.host_world.specs.Moving.{stage_of, descents_of, done_with, move_seats}
-use Rattle.host_world.specs.ShippedHost.{is_blob, serves_key, shipped_host}
+use Rattle.shipped_host.specs.declared.settings.Settings.{Settings}
+use Rattle.shipped_host.specs.Promotable.{promotable_in}
+use Rattle.shipped_host.specs.Links.{links_of}
+use Rattle.shipped_host.specs.Moving.{stage_of, descents_of, done_with, move_seats}
+use Rattle.shipped_host.specs.ShippedHost.{is_blob, serves_key, shipped_host}
 use Rattle.host_fits.proofs.Keeping.{Setting, setting_of, served_at}
 use Rattle.host_fits.proofs.PlaceLemmas.{both, done_within, none_past, past_none}
 

@@ -30,21 +30,19 @@ use Rattle.host_core.specs.Storing.{operating_of, IsStoringDeed, IsStoring, Hold
 use Rattle.host_core.proofs.StoringLaws.{unanswered, always_answered_held, always_certified_held}
 use Rattle.host_holds.specs.Holding.{hot_record_of, stamp_or, held_value, held_since}
 use Rattle.host_holds.proofs.HeldLaws.{move_same}
-use Rattle.host_world.specs.Planned.{IsMoved}
-use Rattle.host_world.specs.Seated.{SeatsMirror, waiting_at}
-use Rattle.host_world.specs.ShippedHost.{new_seats}
-use Rattle.host_world.proofs.SeatLaws.{stage_at, stage_mirrors, seats_moved}
-use Rattle.host_world.specs.declared.settings.Settings.{Settings}
-use Rattle.host_world.specs.ShippedHost.{shipped_host, rolling_host}
+use Rattle.shipped_host.specs.Planned.{IsMoved}
+use Rattle.shipped_host.specs.Seated.{SeatsMirror, waiting_at}
+use Rattle.shipped_host.specs.ShippedHost.{new_seats}
+use Rattle.shipped_host.proofs.SeatLaws.{stage_at, stage_mirrors, seats_moved}
 use Rattle.host_fits.specs.Promise.{CanRun}
 use Rattle.host_fits.specs.Holds.{shard_of, storing_of, ContentsHold}
-use Rattle.host_fits.proofs.Keeping.{Setting, IsSetting, setting_of, rolling_setting_of, bits_in, host_in, ranged, PlacesMirror}
+use Rattle.host_fits.proofs.Keeping.{Setting, IsSetting, setting_of, bits_in, host_in, ranged, PlacesMirror}
 use Rattle.host_fits.proofs.PlaceLemmas.{all-each, shard_tree}
 use Rattle.host_fits.proofs.ServeLemmas.{Serves}
 use Rattle.host_fits.proofs.RestLemmas.{rest_any}
 use Rattle.host_fits.proofs.SettingLemmas.{is_setting}
 use Rattle.host_fits.proofs.RangeLemmas.{are_enabled, run_same}
-use Rattle.host_fits.proofs.PromiseLemmas.{is_fit}
+use Rattle.host_fits.proofs.PromiseLaws.{is_fit}
 use Rattle.host_fits.proofs.AccessLemmas.{home_small, home_is, one_access_stores}
 use Rattle.host_fits.proofs.ColdLemmas.{shard_access}
 use Rattle.host_fits.proofs.HotLemmas.{hot_access}
@@ -157,7 +155,7 @@ module _ (setting : Setting) (events : List (WorldEvent Request)) (can : CanRun 
   contents_hold world stored holds key in_range = holds key (shard_of setting.settings key) (home_is setting key in_range)
 
   -- Behind whatever events the contents hold what the operations leave.
-  answered_in : AreEnabled host (set_up host) events
+  pub answered_in : AreEnabled host (set_up host) events
       → ContentsHold setting.settings (run_events host (set_up host) events)
       (stored_behind none_everywhere (operations_in (order_of (histories host (run_events host (set_up host) events)))))
   answered_in enabled =
@@ -168,7 +166,7 @@ module _ (setting : Setting) (events : List (WorldEvent Request)) (can : CanRun 
       (are_enabled setting can.keys (set_up host) events enabled)))
 
   -- And behind a whole last close, what the certified operations do.
-  certified_in : AreEnabled host (set_up host) events
+  pub certified_in : AreEnabled host (set_up host) events
       → ((i : ℕ) → i < length (run_events host (set_up host) events).workers → HasAdvanced host (run_events host (set_up host) events) i 2)
       → ContentsHold setting.settings (run_events host (set_up host) events)
       (stored_behind none_everywhere (certified_operations (scheme host) setting.settings.header.first (histories host (run_events host (set_up host) events))))
@@ -178,28 +176,3 @@ module _ (setting : Setting) (events : List (WorldEvent Request)) (can : CanRun 
       (run_same setting can.keys (set_up host) events)
       (always_certified_held (PlacesMirror setting) (storing_of setting.settings) (ranged setting) (is_fit setting settled) (is_storing setting settled) events
       (are_enabled setting can.keys (set_up host) events enabled)) advanced)
-
--- So it is of the shipped host, and of the rolling one.
-module _ (functions : DigestFunctions) (settings : Settings) (script : List (List Task)) (events : List (WorldEvent Request)) (can : CanRun functions settings script) where
-  abbrev AnsweredHeld : Host Content Request → Type 0
-  AnsweredHeld host = AreEnabled host (set_up host) events
-      → ContentsHold settings (run_events host (set_up host) events)
-      (stored_behind none_everywhere (operations_in (order_of (histories host (run_events host (set_up host) events)))))
-
-  abbrev CertifiedHeld : Host Content Request → Type 0
-  CertifiedHeld host = AreEnabled host (set_up host) events
-      → ((i : ℕ) → i < length (run_events host (set_up host) events).workers → HasAdvanced host (run_events host (set_up host) events) i 2)
-      → ContentsHold settings (run_events host (set_up host) events)
-      (stored_behind none_everywhere (certified_operations (scheme host) settings.header.first (histories host (run_events host (set_up host) events))))
-
-  pub holds_answered : AnsweredHeld (shipped_host functions settings script)
-  holds_answered = answered_in (setting_of functions settings script) events can
-
-  pub holds_certified : CertifiedHeld (shipped_host functions settings script)
-  holds_certified = certified_in (setting_of functions settings script) events can
-
-  pub rolling_holds_answered : AnsweredHeld (rolling_host functions settings script)
-  rolling_holds_answered = answered_in (rolling_setting_of functions settings script) events can
-
-  pub rolling_holds_certified : CertifiedHeld (rolling_host functions settings script)
-  rolling_holds_certified = certified_in (rolling_setting_of functions settings script) events can

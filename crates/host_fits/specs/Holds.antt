@@ -7,8 +7,8 @@ use Rattle.host_shard.specs.Content.{Content}
 use Rattle.host_core.specs.World.{World, shard_at}
 use Rattle.host_core.specs.Storing.{Storing}
 use Rattle.host_holds.specs.Holding.{held_value, held_since}
-use Rattle.host_world.specs.declared.settings.Settings.{Settings}
-use Rattle.host_world.specs.Settings.{frontier_bits}
+use Rattle.shipped_host.specs.declared.settings.Settings.{Settings}
+use Rattle.shipped_host.specs.Settings.{frontier_bits}
 
 -- the shard of a key: its number is what the first bits of the key spell
 abbrev pub shard_of : Settings → ℕ → ℕ

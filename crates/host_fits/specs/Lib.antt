@@ -1,3 +1,4 @@
 -- What the shipped host promises.
 pub mod Promise
+pub mod Mirroring
 pub mod Holds

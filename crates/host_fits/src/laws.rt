@@ -22,18 +22,20 @@ ghost use Rattle.protection_moves.specs.Move as move;
 ghost use Rattle.host_core.specs.Host.{scheme};
 ghost use Rattle.host_core.specs.World.{set_up};
 ghost use Rattle.host_core.specs.WorldEvent.{WorldEvent, HasAdvanced, AreEnabled, run_events};
-ghost use Rattle.host_core.specs.Core.{histories};
+ghost use Rattle.host_core.specs.Core.{histories, IsStanding};
 ghost use Rattle.host_order.specs.Steady.{IsSteady};
 ghost use Rattle.host_order.specs.Close.{MovesKeepEpoch};
-ghost use Rattle.host_world.specs.declared.settings.Settings.{Settings};
-ghost use Rattle.host_world.specs.Behind.{AreInRange, HaveShortValues};
-ghost use Rattle.host_world.specs.Moving.{seats_of};
-ghost use Rattle.host_world.specs.ShippedHost.{shipped_host, rolling_host};
-ghost use Rattle.host_fits.specs.Promise.{CanRun, IsPromised, IsRollingPromised};
+ghost use Rattle.shipped_host.specs.declared.settings.Settings.{Settings};
+ghost use Rattle.shipped_host.specs.Ranges.{AreInRange, HaveShortValues};
+ghost use Rattle.shipped_host.specs.Moving.{seats_of};
+ghost use Rattle.shipped_host.specs.Settings.{IsSettings};
+ghost use Rattle.shipped_host.specs.ShippedHost.{shipped_host};
+ghost use Rattle.host_fits.specs.Promise.{CanRun, IsPromised};
 ghost use Rattle.host_fits.specs.Holds.{ContentsHold};
+ghost use Rattle.host_fits.specs.Mirroring.{PlacesMirror};
 
-/// Whatever the script, the workers, the shards, the first epoch and the counters' end: behind every list of events that
-/// are enabled from the setup on, the promise holds. It is asked that the numbers are in their ranges, that the setup's
+/// Whatever the script, the workers, the shards, the first epoch and the counters' end, rolling or not: behind every list of events
+/// that are enabled from the setup on, the promise holds. It is asked that the numbers are in their ranges, that the setup's
 /// counters do not pass the end, that keys have no more bits than the header says, and that digests have 32 bytes.
 pub fn the_shipped_host_keeps_its_promise()
     ensures promised { (functions : DigestFunctions) (settings : Settings) (script : List (List Task)) (events : List (WorldEvent Request))
@@ -42,18 +44,21 @@ pub fn the_shipped_host_keeps_its_promise()
         AreEnabled host (set_up host) events → IsPromised host (run_events host (set_up host) events) }
 {}
 
-/// The same of the rolling host, which serves all phases in one round: behind every list of events that are enabled from its
-/// setup on its promise holds. It is asked what is asked of the other.
-pub fn the_rolling_host_keeps_its_promise()
-    ensures promised { (functions : DigestFunctions) (settings : Settings) (script : List (List Task)) (events : List (WorldEvent Request))
+/// Behind whatever events there are as many workers and shards as the host's numbers say, each clock is one of the host, the contents
+/// of each shard's places mirror, and what an enabled event does at a shard is ready to be done: the worker's clock can take in what
+/// waits there.
+pub fn what_is_enabled_is_ready()
+    ensures ready { (functions : DigestFunctions) (settings : Settings) (script : List (List Task)) (events : List (WorldEvent Request))
         → CanRun functions settings script
-        → let host = rolling_host functions settings script in
-        AreEnabled host (set_up host) events → IsRollingPromised host (run_events host (set_up host) events) }
+        → let host = shipped_host functions settings script in
+        AreEnabled host (set_up host) events
+        → IsStanding (PlacesMirror functions settings) host (run_events host (set_up host) events) }
+    ensures shards { (functions : DigestFunctions) (settings : Settings) (script : List (List Task)) → IsSettings settings
+        → length (shipped_host functions settings script).setup.after ≡ settings.shards }
 {}
 
 /// Behind whatever events the contents hold the plain map: of each key the data value that the operations of all logs leave, in their
-/// one order. Behind a whole last close, where each worker has advanced twice, these operations are the certified ones. So it is
-/// of the rolling host too.
+/// one order. Behind a whole last close, where each worker has advanced twice, these operations are the certified ones.
 pub fn the_contents_hold_the_plain_map()
     ensures answered { (functions : DigestFunctions) (settings : Settings) (script : List (List Task)) (events : List (WorldEvent Request))
         → CanRun functions settings script
@@ -64,19 +69,6 @@ pub fn the_contents_hold_the_plain_map()
     ensures certified { (functions : DigestFunctions) (settings : Settings) (script : List (List Task)) (events : List (WorldEvent Request))
         → CanRun functions settings script
         → let host = shipped_host functions settings script in
-        AreEnabled host (set_up host) events
-        → ((i : ℕ) → i < length (run_events host (set_up host) events).workers → HasAdvanced host (run_events host (set_up host) events) i 2)
-        → ContentsHold settings (run_events host (set_up host) events)
-        (stored_behind none_everywhere (certified_operations (scheme host) settings.header.first (histories host (run_events host (set_up host) events)))) }
-    ensures rolling_answered { (functions : DigestFunctions) (settings : Settings) (script : List (List Task)) (events : List (WorldEvent Request))
-        → CanRun functions settings script
-        → let host = rolling_host functions settings script in
-        AreEnabled host (set_up host) events
-        → ContentsHold settings (run_events host (set_up host) events)
-        (stored_behind none_everywhere (operations_in (order_of (histories host (run_events host (set_up host) events))))) }
-    ensures rolling_certified { (functions : DigestFunctions) (settings : Settings) (script : List (List Task)) (events : List (WorldEvent Request))
-        → CanRun functions settings script
-        → let host = rolling_host functions settings script in
         AreEnabled host (set_up host) events
         → ((i : ℕ) → i < length (run_events host (set_up host) events).workers → HasAdvanced host (run_events host (set_up host) events) i 2)
         → ContentsHold settings (run_events host (set_up host) events)
@@ -122,13 +114,10 @@ pub fn moves_are_what_the_host_does()
 {}
 
 /// A request moves the clock on and leaves the owners as they were, and a close of a shard leaves the epoch: so what many
-/// workers did at once in a phase or in a close was one list of events, as `host_order` says. The close behind the round of a
-/// rolling host leaves the epoch too.
+/// workers did at once in a phase or in a close was one list of events, as `host_order` says.
 pub fn the_shipped_host_is_steady()
     ensures steady { (functions : DigestFunctions) (settings : Settings) (script : List (List Task))
         → IsSteady (shipped_host functions settings script) }
     ensures close { (functions : DigestFunctions) (settings : Settings) (script : List (List Task))
         → MovesKeepEpoch (shipped_host functions settings script) }
-    ensures rolling_close { (functions : DigestFunctions) (settings : Settings) (script : List (List Task))
-        → MovesKeepEpoch (rolling_host functions settings script) }
 {}

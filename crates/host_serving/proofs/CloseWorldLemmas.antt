@@ -1,7 +1,5 @@
 -- Worlds of the code in a close: they are of one host, stand behind its setup, and have its numbers of workers and shards.
 use Rattle.std.proofs.Common.{◌≡◌, ℕ, zero, suc, ◌-◌, ◌^◌, ◌<◌, ◌≤◌, Bool, true, false, List, [], ◌∷◌, length, nat_le, Option, Some, None, Result, Ok, Err, OnOk, OnErr, IfOk, if◌then◌else◌, refl, sym, ◌∙◌, ap, subst, inl, inr, ◌⊎◌, length-append, pow-suc, arith}
-use Rattle.std.proofs.lemmas.Bool.{cases_eq, le-leb, leb-true}
-use Rattle.std.proofs.lemmas.Nat.{pow_below}
 use Rattle.std.proofs.lemmas.List.{length-map, length-replicate}
 use Rattle.std.specs.Option.{option_or}
 use Rattle.record_hash.specs.Functions.{DigestFunctions}
@@ -11,21 +9,21 @@ use Rattle.merkle_records.specs.Merkle.{GivesDigests}
 use Rattle.host_core.specs.Host.{Host}
 use Rattle.host_core.specs.World.{Seats, World, fresh, shard_at, set_up}
 use Rattle.host_core.specs.WorldEvent.{WorldEvent, step, run_events, IsEnabled, HasAdvanced}
-use Rattle.host_plan.specs.Setup.{IsShardCount, child, paths_below}
 use Rattle.host_shard.specs.Content.{Content}
 use Rattle.script_text.specs.declared.task.Task.{Task}
-use Rattle.host_world.specs.declared.settings.Settings.{Settings}
+use Rattle.shipped_host.specs.declared.settings.Settings.{Settings}
 use Rattle.host_world.specs.declared.world.World as code
 use Rattle.host_world.specs.declared.fault.ClockEnd.{ClockEnd}
 use Rattle.host_world.specs.Ending.{end_of}
-use Rattle.host_world.specs.Settings.{bits_within, frontier_bits}
-use Rattle.host_world.specs.ShippedHost.{shipped_host}
+use Rattle.shipped_host.specs.ShippedHost.{shipped_host}
 use Rattle.host_world.specs.Shown.{shown_world, digests_of, requests_of}
-use Rattle.host_world.specs.Orderly.{IsOrderly}
+use Rattle.host_core.specs.Core.{IsInPhase}
+use Rattle.host_fits.specs.Promise.{IsPromised}
 use Rattle.host_world.specs.Behind.{host_of, with_logs, StandsWith, AreOfOneHost}
-use Rattle.host_world.proofs.FrontLaws.{length-before_each, clock_with, length-step}
-use Rattle.host_world.proofs.FrontierLaws.{frontier_in, frontiers_behind}
+use Rattle.host_world.proofs.BehindLaws.{shards_there}
+use Rattle.host_world.proofs.FrontLaws.{length-before_each, clock_with, round_with, length-step}
 use Rattle.host_serving.specs.Leading.{first_of, LeadsBy, LeadsByFront}
+use Rattle.host_serving.specs.Standing.{IsServedOut}
 
 -- ---- worlds of one host
 
@@ -114,39 +112,10 @@ count_run : {C R : Type 0} (host : Host C R) (world : World C) (events : List (W
 count_run host world [] = refl
 count_run host world (event ∷ events) = count_run host (step host world event) events ∙ length-step host world event
 
-count_paths : (levels : ℕ) (path : List Bool) → length (paths_below levels path) ≡ 2 ^ levels
-count_paths zero path = refl
-count_paths (suc levels) path =
-    omega (
-      arith,
-      length-append (paths_below levels (child path false)) (paths_below levels (child path true)),
-      count_paths levels (child path false),
-      count_paths levels (child path true),
-      pow-suc 2 levels,
-    )
-
-bits_are : (most bits : ℕ) → bits ≤ most → bits_within most (2 ^ bits) ≡ bits
-bits_are zero bits few = omega (arith, few)
-bits_are (suc most) bits few = go (cases_eq bits (suc most)) (λ less. bits_are most bits less)
-  where
-    go : (bits ≡ suc most) ⊎ (bits ≡ suc most → ⊥) → (bits ≤ most → bits_within most (2 ^ bits) ≡ bits)
-        → (if nat_le (2 ^ suc most) (2 ^ bits) then suc most else bits_within most (2 ^ bits)) ≡ bits
-    go (inl same) rest =
-        subst (λ (n : ℕ). (if nat_le (2 ^ suc most) (2 ^ n) then suc most else bits_within most (2 ^ n)) ≡ n) (sym same)
-        (ap (λ (b : Bool). if b then suc most else bits_within most (2 ^ suc most)) (le-leb (2 ^ suc most) (2 ^ suc most) (omega arith)))
-    go (inr other) rest = under (nat_le (2 ^ suc most) (2 ^ bits)) refl
-      where
-        less : bits < suc most
-        less = omega (arith, few, other)
-
-        under : (b : Bool) → nat_le (2 ^ suc most) (2 ^ bits) ≡ b → (if b then suc most else bits_within most (2 ^ bits)) ≡ bits
-        under true is = absurd (omega (arith, leb-true (2 ^ suc most) (2 ^ bits) is, pow_below bits (suc most) less))
-        under false is = rest (omega (arith, less))
-
-shards_are : (shards : ℕ) → IsShardCount shards → 2 ^ frontier_bits shards ≡ shards
-shards_are shards is = ap (λ (n : ℕ). 2 ^ frontier_bits n) is.power ∙ ap (λ (bits : ℕ). 2 ^ bits) (bits_are 10 is.bits is.most) ∙ sym is.power
-
 module _ {D : Type 0} (functions : DigestFunctions) (world : code.World D) (logs : List (List Command)) (stands : StandsWith functions world logs) where
+  abbrev whole : World Content
+  whole = with_logs logs (shown_world world)
+
   -- as many workers as the header says
   pub workers_are : length (shown_world world).workers ≡ world.settings.header.verifiers
   workers_are =
@@ -158,20 +127,22 @@ module _ {D : Type 0} (functions : DigestFunctions) (world : code.World D) (logs
 
   -- as many shards as the settings say
   pub shard_count : GivesDigests functions.digest → length (shown_world world).shards ≡ world.settings.shards
-  shard_count digests =
-      let whole = with_logs logs (shown_world world) in
-      sym (length-map (shown_world world).shards (λ (seats : Seats Content). frontier_in seats.contents))
-      ∙ ap (λ (xs : List (List Bool)). length xs) (frontiers_behind functions world.settings (requests_of world) digests whole stands.behind)
-      ∙ count_paths (frontier_bits world.settings.shards) _
-      ∙ shards_are world.settings.shards stands.behind.settings_fit.shards
+  shard_count digests = shards_there functions world.settings (requests_of world) digests whole stands.behind
 
-  -- in a phase the clocks stand in its epoch, and no shard is moved
-  module _ (orderly : IsOrderly functions world.settings (requests_of world) (with_logs logs (shown_world world))) (phase : world.closing ≡ false) where
+  -- before a close the clocks stand in the epoch of the phase, and no shard is moved
+  module _ (promised : IsPromised (host_of functions world) whole) (served : IsServedOut (host_of functions world) (shown_world world)) where
+    in_phase : IsInPhase (host_of functions world) whole
+    in_phase = go (host_of functions world).rolling refl
+      where
+        go : (b : Bool) → (host_of functions world).rolling ≡ b → IsInPhase (host_of functions world) whole
+        go false plain = promised.in_phase plain
+        go true rolling = promised.level (round_with (host_of functions world) logs (shown_world world) (served.settled rolling))
+
     pub clocks_stand : (i : ℕ) → i < length (shown_world world).workers → HasAdvanced (host_of functions world) (shown_world world) i 0
     clocks_stand i within =
         ap (λ clock. clock.at.epoch) (sym (clock_with (host_of functions world) logs (shown_world world) i))
-        ∙ orderly.clocked phase i (subst (λ (n : ℕ). i < n) (sym (length-before_each logs (shown_world world).workers)) within)
+        ∙ (in_phase served.served.phase).0 i (subst (λ (n : ℕ). i < n) (sym (length-before_each logs (shown_world world).workers)) within)
         ∙ omega arith
 
     pub none_is_moved : (s : ℕ) → s < length (shown_world world).shards → (shard_at (shown_world world) s).moved ≡ false
-    none_is_moved = orderly.unmoved phase
+    none_is_moved = (in_phase served.served.phase).2

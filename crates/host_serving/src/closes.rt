@@ -13,7 +13,7 @@ ghost use Rattle.host_serving.specs.Closing.{CanAllAdvance, EndsAdvance, CanMove
 
 use base_words::Memory;
 use host_fits::the_shipped_host_is_steady;
-use host_world::{ClockEnd, Event, World, worlds_are_orderly};
+use host_world::{ClockEnd, Event, World, worlds_are_as_promised};
 use record_hash::Digests;
 
 /// Closes the world's phase, which is served out: all workers advance, and each moves its shards in order. In a last close all
@@ -92,7 +92,7 @@ fn close_shards<D: Digests>(world: &mut World<'_, D>) -> Result<Option<ClockEnd>
     ensures goes_on { (logs : List (List Command)) → StandsWith (D.functions (digests_of world.old)) world.old logs
         → StandsWith (D.functions (digests_of world.new)) world.new logs }
 {
-    worlds_are_orderly();
+    worlds_are_as_promised();
     if let Some(end) = advance_all(world)? {
         return Ok(Some(end));
     }

@@ -1,5 +1,5 @@
--- What is noted of an attempt, and what one call and then another do to a hand.
-use Rattle.std.proofs.Common.{◌≡◌, ℕ, Bool, List, ◌++◌, append_assoc, sym, ap, ◌∙◌, subst, Option}
+-- What one call and then another do to a hand in an attempt, and which plan is noted.
+use Rattle.std.proofs.Common.{◌≡◌, ℕ, Bool, List, [], ◌∷◌, ◌++◌, append_assoc, refl, sym, ap, ◌∙◌, subst, Option, Some, None}
 use Rattle.lamport_clocks.specs.declared.stamp.Stamp.{Stamp}
 use Rattle.lamport_clocks.specs.Reading.{Reading}
 use Rattle.record_text.specs.declared.request.Request.{Request}
@@ -8,13 +8,14 @@ use Rattle.host_shard.specs.Content.{Content}
 use Rattle.host_shard.specs.Shown.{shown_content}
 use Rattle.host_plan.specs.declared.plans.Plan.{Plan}
 use Rattle.host_plan.specs.Plan.{IsPlan}
-use Rattle.host_table.specs.declared.hand.Hand.{Hand}
+use Rattle.host_epochs.specs.declared.hand.Hand.{Hand}
+use Rattle.host_epochs.specs.declared.told.Loss.{Loss}
 use Rattle.host_table.specs.declared.told.Service.{Service}
-use Rattle.host_table.specs.declared.told.Loss.{Loss}
 use Rattle.host_table.specs.declared.told.Stop.{Stop}
-use Rattle.host_table.specs.Terms.{Terms, IsClockOf}
 use Rattle.host_table.specs.Calls.{IsAfter, clock_at}
-use Rattle.host_table.proofs.ServedLemmas.{plan_one}
+use Rattle.host_table.specs.Terms.{Terms, IsClockOf}
+use Rattle.host_table.specs.Told.{Continues, TakesUp}
+use Rattle.host_table.proofs.PlanLemmas.{plan_one}
 
 pub after_then : (a b c : Hand) (es fs : List Service) (ls ms : List Loss) (s t : Option Stop) → IsAfter a b es ls s → IsAfter b c fs ms t → IsAfter a c (es ++ fs) (ls ++ ms) t
 after_then a b c es fs ls ms s t one two = record {
@@ -36,3 +37,11 @@ pub service_plan : (terms : Terms) (absent : Bool) (digest : Digest) (worker : �
 service_plan terms absent digest worker x request clock plan after later service told same before asked at mine its =
     plan_one terms.absent terms.digest service.worker worker (shown_content service.before) service.request service.clock service.plan plan (shown_content service.after) after service.later later mine
     (subst (λ (t : Bool × Digest × Content × Request × Reading). IsPlan t.0 t.1 worker t.2 t.3 t.4 plan after later) (λ i. (told i, same i, sym before i, sym asked i, sym at i)) its)
+
+continues_more : (clock : Reading) (services : List Service) (service : Service) → Continues clock services service.clock → Continues clock (services ++ service ∷ []) service.later
+continues_more clock [] service goes = (goes, refl)
+continues_more clock (first ∷ services) service goes = (goes.0, continues_more first.later services service goes.1)
+
+pub takes_more : (services : List Service) (service : Service) → TakesUp services service.clock → TakesUp (services ++ service ∷ []) service.later
+takes_more [] service goes = refl
+takes_more (first ∷ services) service goes = continues_more first.later services service goes

@@ -1,10 +1,5 @@
-mod ToldLemmas
-mod SceneLemmas
-mod StepLemmas
-mod WorkerLemmas
-mod SeatLemmas
-mod EndLemmas
-mod HandLemmas
-mod SatLemmas
-mod ServedLemmas
+mod PlanLemmas
+pub mod PhaseLaws
+mod CallLemmas
 mod AttemptLemmas
+mod EndLemmas

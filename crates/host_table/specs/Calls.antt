@@ -6,18 +6,19 @@ use Rattle.record_text.specs.declared.request.Request.{Request}
 use Rattle.atomic_table.specs.Seated.{TableId}
 use Rattle.host_shard.specs.declared.content.Content.{Content}
 use Rattle.host_plan.specs.declared.plans.Plan.{Plan}
-use Rattle.host_table.specs.declared.told.Service.{Service}
-use Rattle.host_table.specs.declared.told.Loss.{Loss}
-use Rattle.host_table.specs.declared.told.Stop.{Stop}
-use Rattle.host_table.specs.declared.hand.Hand.{Hand}
+use Rattle.host_epochs.specs.declared.answers.Taking.{Taking}
+use Rattle.host_epochs.specs.declared.answers.Taking.TheVariants as taking
+use Rattle.host_epochs.specs.declared.hand.Hand.{Hand}
+use Rattle.host_epochs.specs.declared.told.Loss.{Loss}
+use Rattle.host_epochs.specs.Terms.{clock_of}
 use Rattle.host_table.specs.declared.views.Row.{Row}
-use Rattle.host_table.specs.declared.answers.Taking.{Taking}
-use Rattle.host_table.specs.declared.answers.Taking.TheVariants as taking
+use Rattle.host_table.specs.declared.told.Service.{Service}
+use Rattle.host_table.specs.declared.told.Stop.{Stop}
 use Rattle.host_table.specs.declared.answers.Attempt.{Attempt}
 use Rattle.host_table.specs.declared.answers.Attempt.TheVariants as attempt
+use Rattle.host_table.specs.Hands.{worker_of, services, losses, stop, content, history, IsFree, Holds}
 use Rattle.host_table.specs.Terms.{Terms, first_at}
 use Rattle.host_table.specs.Told.{IsSame, IsServed, IsStop, Leads, TakesUp}
-use Rattle.host_table.specs.Hands.{worker_of, services, losses, stop, content, history, IsFree, Holds, HoldsContent}
 
 -- ---- all hands of a table
 
@@ -53,13 +54,6 @@ pub record Loses (old new : Hand) (place : ℕ) : Type 0 where
   pub other : found ≢ suc (worker_of old)
   pub after : IsAfter old new [] (record { place = place; found = found } ∷ []) (stop old)
 
--- the place is taken: the hand holds it, with its content and its history
-pub record Wins (terms : Terms) (z : TableId) (old : Hand) (place : ℕ) (new : Hand) : Type 0 where
-  pub after : IsAfter old new [] [] (stop old)
-  pub holds : HoldsContent z new place
-  pub leads : Leads terms place (first_at terms place) (history new) (content new)
-  pub known : worker_of new < terms.workers
-
 -- A try takes the content of the place, with its history, or finds the word held.
 abbrev pub Tries : Terms → TableId → Hand → ℕ → Taking → Hand → Type 0
 Tries terms z old place (taking.Taken x) new = IsAfter old new [] [] (stop old) × Holds z new place × (content new ≡ x)
@@ -70,7 +64,7 @@ Tries terms z old place taking.Busy new = Loses old new place × IsFree z new
 
 -- a clock of the bundle that stands so
 abbrev pub clock_at : Terms → Stamp → Reading
-clock_at terms stamp = record { first = terms.header.first; end = terms.header.end; at = stamp }
+clock_at terms stamp = clock_of terms.header stamp
 
 -- the service is what the worker served at the place that it holds: this request, from this clock, to this content
 pub record IsServiceOf (terms : Terms) (old : Hand) (place : ℕ) (clock : Reading) (request : Request) (after : Content) (service : Service) : Type 0 where

@@ -1,61 +1,47 @@
--- What a worker's hand shows.
-use Rattle.std.specs.Prelude.{◌≡◌, ℕ, List, [], ◌∷◌, Option, None}
+-- What a worker's hand shows of a phase.
+use Rattle.std.specs.Prelude.{◌≡◌, ℕ, List, [], ◌∷◌, Option, Some, None}
 use Rattle.atomic_table.specs.Seated.{TableId}
+use Rattle.record_text.specs.declared.request.Request.{Request}
 use Rattle.host_shard.specs.declared.content.Content.{Content}
 use Rattle.host_shard.specs.declared.content.Content.TheVariants.{Vacant}
+use Rattle.host_epochs.specs.declared.hand.Hand.{Hand}
+use Rattle.host_epochs.specs.declared.told.Meeting.{Meeting}
+use Rattle.host_epochs.specs.declared.told.Stop as rounds
+use Rattle.host_epochs.specs.declared.views.Held.{Held}
+use Rattle.host_epochs.specs.declared.views.Held.TheVariants.{Idle, Has}
+use Rattle.host_epochs.specs.Hands as hands
+use Rattle.host_epochs.specs.Hands.{content, entered}
 use Rattle.host_table.specs.declared.told.Service.{Service}
-use Rattle.host_table.specs.declared.told.Loss.{Loss}
 use Rattle.host_table.specs.declared.told.Stop.{Stop}
-use Rattle.host_table.specs.declared.hand.Hand.{Hand}
-use Rattle.host_table.specs.declared.views.Held.{Held}
-use Rattle.host_table.specs.declared.views.Held.TheVariants.{Idle, Has}
-use Rattle.host_table.specs.declared.views.View.{View}
-use Rattle.host_table.specs.declared.views.View.TheVariants.{Working, Keeping, Spent}
-use Rattle.host_table.specs.Plays.{held_in, content_of, past_of}
-
-abbrev pub list_in : View → List Service
-list_in (Working desk) = desk.list
-list_in (Keeping rack) = []
-list_in Spent = []
-
-abbrev pub losses_in : View → List Loss
-losses_in (Working desk) = desk.losses
-losses_in (Keeping rack) = []
-losses_in Spent = []
-
-abbrev pub stop_in : View → Option Stop
-stop_in (Working desk) = desk.stop
-stop_in (Keeping rack) = None
-stop_in Spent = None
-
--- its number
-abbrev pub worker_of : Hand → ℕ
-worker_of hand = hand.number
+use Rattle.host_table.specs.Services.{services_of, stop_of}
+pub use Rattle.host_epochs.specs.Hands.{worker_of, losses, content}
 
 -- what it served, in order
 abbrev pub services : Hand → List Service
-services hand = list_in hand.seat.me.0
-
--- what it found held
-abbrev pub losses : Hand → List Loss
-losses hand = losses_in hand.seat.me.0
+services hand = services_of (hands.entries hand)
 
 -- where its clock ended
 abbrev pub stop : Hand → Option Stop
-stop hand = stop_in hand.seat.me.0
+stop hand = stop_of (hands.stop hand)
 
--- the content that it took
-abbrev pub content : Hand → Content
-content hand = content_of (held_in hand.seat.me.0)
-
--- the history that this place had when it took it, and what it served there since
+-- the history that the place which it holds had when it took it, and what it served there since
 abbrev pub history : Hand → List Service
-history hand = past_of (held_in hand.seat.me.0)
+history hand = services_of (hands.history hand)
 
--- it sits at the table, with this in hand, and these cells out
-abbrev pub Sits : TableId → Hand → Held → List (ℕ × Content) → Type 0
-Sits table hand held out = (hand.seat.table_id ≡ table)
-    × (hand.seat.me ≡ (Working (record { number = hand.number; held = held; list = services hand; stop = stop hand; losses = losses hand }), out))
+-- where a worker stopped, it did so at a request
+abbrev pub IsAtRequest : Option Meeting → Type 0
+IsAtRequest (Some met) = (request : Request) × (met.request ≡ Some request)
+IsAtRequest None = ⊥
+
+abbrev pub IsEnd : Option rounds.Stop → Type 0
+IsEnd (Some stop) = IsAtRequest stop.met
+IsEnd None = Unit {0}
+
+-- it sits at the table, in the epoch of the making, with this in hand, and these cells out
+pub record Sits (table : TableId) (hand : Hand) (held : Held) (out : List (ℕ × Content)) : Type 0 where
+  pub sits : hands.Sits table hand held out
+  pub first : entered hand ≡ 0
+  pub ended : IsEnd (hands.stop hand)
 
 -- it holds nothing
 abbrev pub IsFree : TableId → Hand → Type 0
@@ -63,8 +49,4 @@ IsFree table hand = Sits table hand Idle []
 
 -- it holds this place
 abbrev pub Holds : TableId → Hand → ℕ → Type 0
-Holds table hand place = Sits table hand (Has place (content hand) (history hand)) ((place, Vacant) ∷ [])
-
--- the same, with the content still in its cell
-abbrev pub HoldsContent : TableId → Hand → ℕ → Type 0
-HoldsContent table hand place = Sits table hand (Has place (content hand) (history hand)) ((place, content hand) ∷ [])
+Holds table hand place = Sits table hand (Has place (content hand) (hands.history hand)) ((place, Vacant) ∷ [])

@@ -1,14 +1,17 @@
 -- What is known of a phase once its table is closed.
-use Rattle.std.specs.Prelude.{◌≡◌, ℕ, ◌<◌, List, length, get_or, IsPermutation, Some}
+use Rattle.std.specs.Prelude.{◌≡◌, ℕ, ◌<◌, List, [], length, get_or, IsPermutation, Some, None}
 use Rattle.std.specs.List.{flat_map}
 use Rattle.host_shard.specs.declared.content.Content.{Content}
 use Rattle.host_shard.specs.declared.content.Content.TheVariants.{Vacant}
+use Rattle.host_table.specs.declared.views.Row.{Row}
 use Rattle.host_table.specs.declared.told.Service.{Service}
 use Rattle.host_table.specs.declared.told.Stop.{Stop}
-use Rattle.host_table.specs.declared.views.Row.{Row}
 use Rattle.host_table.specs.Terms.{Terms, place_count, first_at}
 use Rattle.host_table.specs.Told.{Leads, IsListOf, IsStop, joined_from}
-use Rattle.host_table.specs.Made.{new_row}
+
+-- the row of a worker that has served nothing
+abbrev pub new_row : Row
+new_row = record { list = []; stop = None }
 
 -- what a worker tells
 abbrev pub row_at : List Row → ℕ → Row

@@ -7,13 +7,10 @@ use Rattle.record_text.specs.Longest.{longest_blob}
 use Rattle.host_shard.specs.declared.content.Content.{Content}
 use Rattle.host_shard.specs.Shown.{shown_content}
 use Rattle.host_plan.specs.Plan.{IsPlan, IsPastEnd}
+pub use Rattle.host_epochs.specs.Told.{IsSame}
 use Rattle.host_table.specs.declared.told.Service.{Service}
 use Rattle.host_table.specs.declared.told.Stop.{Stop}
 use Rattle.host_table.specs.Terms.{Terms, IsPlaceOf, IsClockOf, first_at}
-
--- both show the same
-abbrev pub IsSame : Content → Content → Type 0
-IsSame x y = shown_content y ≡ shown_content x
 
 -- The service is a request that its worker served at the key's place: by its plan, whose counters don't pass their end.
 pub record IsServed (terms : Terms) (service : Service) : Type 0 where

@@ -1,15 +1,5 @@
-//! What a try and an attempt answer.
+//! What an attempt answers.
 use host_plan::Plan;
-use host_shard::Content;
-
-/// What comes of trying to take a place.
-#[derive(Drop)]
-pub enum Taking {
-    /// The place's content.
-    Taken(Content),
-    /// The place's word was found held.
-    Busy,
-}
 
 /// What comes of an attempt to serve a request.
 #[derive(Debug, Drop)]
@@ -22,10 +12,4 @@ pub enum Attempt {
     ClockEnd,
     /// Want of memory.
     Memory,
-}
-
-/// There was no memory for a table. The contents come back.
-#[derive(Drop)]
-pub struct Refused {
-    pub contents: Vec<Content>,
 }

@@ -1,26 +1,16 @@
 //! How a worker takes a place and gives it back.
-ghost use Rattle.std.specs.Prelude.{◌≡◌, ◌≢◌, ◌<◌, [], ◌∷◌, None};
-ghost use Rattle.host_table.specs.declared.told.Service.{Service};
-ghost use Rattle.host_table.specs.Calls.{Gives, IsAfter, IsServiceOf, Loses, MayGive, Tries, Wins, clock_at};
-ghost use Rattle.host_table.specs.Hands.{Holds, HoldsContent, IsFree, content, services, stop};
-ghost use Rattle.host_table.specs.Made.{terms_of};
+ghost use Rattle.std.specs.Prelude.{◌≡◌, ◌<◌, None};
+ghost use Rattle.host_table.specs.Calls.{Gives, MayGive, Tries};
+ghost use Rattle.host_table.specs.Hands.{Holds, IsFree, stop};
 ghost use Rattle.host_table.specs.Table.{table, terms};
 ghost use Rattle.host_table.specs.Terms.{place_count};
-ghost use Rattle.host_table.specs.Told.{IsSame, TakesUp};
 
-use crate::answers::Taking;
-use crate::hand::Hand;
-use crate::making::Board;
-use crate::plays::{Free, Note, Told, Try};
 use crate::records::Records;
+use host_epochs::{Hand, Taking};
 use host_shard::Content;
 use lamport_clocks::Stamp;
 use record_hash::Digests;
 use record_text::Request;
-use std::marker::Brand;
-
-// The word of a place that nobody holds. One that is held has the number of its worker, and 1.
-const FREE: u64 = 0;
 
 impl<D: Digests> Records<D> {
     /// Tries once to take a place. Busy comes only where its word was found held, and then nothing changes but the hand's
@@ -31,14 +21,7 @@ impl<D: Digests> Records<D> {
         requires going { stop hand.old ≡ None }
         ensures tries { Tries (terms D.functions self.now) (table self.now) hand.old place result hand.new }
     {
-        if try_word::<D, Brand>(&self.board, hand, place) != FREE {
-            return Taking::Busy;
-        }
-        let content = self
-            .board
-            .shared
-            .exchange(&mut hand.seat, place, Content::Vacant);
-        Taking::Taken(content)
+        self.epochs.try_take(hand, place)
     }
 
     /// Gives a place back: with the content that was taken, or, where a request was served, with what that makes of it. It
@@ -56,65 +39,12 @@ impl<D: Digests> Records<D> {
         ensures free { IsFree (table self.now) hand.new }
         ensures gives { Gives (terms D.functions self.now) hand.old place content served hand.new }
     {
-        if let Some((clock, request)) = served {
-            note::<D, Brand>(&self.board, hand, place, clock, &request, &content);
+        match served {
+            None => self.epochs.give(hand, place, content, None),
+            Some((clock, request)) => {
+                self.epochs
+                    .give(hand, place, content, Some((clock, Some(&request))))
+            }
         }
-        put_back(&self.board, hand, place, content);
     }
-}
-
-// Tries a place's word, and answers what was found there.
-fn try_word<D: Digests, N: Told>(board: &Board<D>, hand: &mut Hand, place: usize) -> u64
-    requires terms { N.terms ≡ terms_of D.functions board.now.shared.key }
-    requires place { place < place_count (terms_of D.functions board.now.shared.key) }
-    requires word { place < board.now.shared.table_id.words }
-    requires free { IsFree board.now.shared.table_id hand.old }
-    ensures won { result ≡ 0 → Wins (terms_of D.functions board.now.shared.key) board.now.shared.table_id hand.old place hand.new }
-    ensures lost { result ≢ 0 → Loses hand.old hand.new place × IsFree board.now.shared.table_id hand.new }
-{
-    let own = u64::from(hand.number) + 1;
-    board
-        .shared
-        .compare_exchange::<Try<N>>(&mut hand.seat, place, FREE, own)
-}
-
-// Notes a service: this request was served at the place that is held, from this clock, and made this content.
-pub(crate) fn note<D: Digests, N: Told>(
-    board: &Board<D>,
-    hand: &mut Hand,
-    place: usize,
-    clock: Stamp,
-    request: &Request,
-    after: &Content,
-)
-    requires terms { N.terms ≡ terms_of D.functions board.now.shared.key }
-    requires draft { N.draft ≡ record {
-      clock = clock_at (terms_of D.functions board.now.shared.key) clock;
-      request = request.now;
-      after = after.now;
-    } }
-    requires word { place < board.now.shared.table_id.words }
-    requires holds { Holds board.now.shared.table_id hand.old place }
-    requires going { stop hand.old ≡ None }
-    requires chained { TakesUp (services hand.old) (clock_at (terms_of D.functions board.now.shared.key) clock) }
-    requires service { (service : Service) × IsServiceOf (terms_of D.functions board.now.shared.key) hand.old place
-        (clock_at (terms_of D.functions board.now.shared.key) clock) request.now after.now service }
-    ensures holds { Holds board.now.shared.table_id hand.new place × (content hand.new ≡ after.now) }
-    ensures service { (service : Service) × IsServiceOf (terms_of D.functions board.now.shared.key) hand.old place
-        (clock_at (terms_of D.functions board.now.shared.key) clock) request.now after.now service
-        × IsAfter hand.old hand.new (service ∷ []) [] None }
-{
-    board.shared.load::<Note<N>>(&mut hand.seat, place);
-}
-
-// Puts a content into the cell of the place that is held, and frees its word.
-pub(crate) fn put_back<D: Digests>(board: &Board<D>, hand: &mut Hand, place: usize, given: Content)
-    requires word { place < board.now.shared.table_id.words }
-    requires holds { Holds board.now.shared.table_id hand.old place }
-    requires same { IsSame (content hand.old) given }
-    ensures free { IsFree board.now.shared.table_id hand.new }
-    ensures after { IsAfter hand.old hand.new [] [] (stop hand.old) }
-{
-    board.shared.exchange(&mut hand.seat, place, given);
-    board.shared.store::<Free>(&mut hand.seat, place, FREE);
 }

@@ -1,4 +1,4 @@
-//! What is told of a phase: what workers served, where their clocks ended, and what they found held.
+//! What is told of a phase: what workers served, and where their clocks ended.
 use host_plan::Plan;
 use host_shard::Content;
 use lamport_clocks::Clock;
@@ -23,10 +23,4 @@ pub struct Stop {
     pub clock: Clock,
     pub content: Content,
     pub request: Request,
-}
-
-/// A place whose word a worker found held, and the number that stood there. It exists in proofs alone.
-pub struct Loss {
-    pub place: u64,
-    pub found: u64,
 }

@@ -2,7 +2,7 @@
 //!
 //! A crate with tests is proved twice, so tests have a crate of their own for each layer. `scripts` and `loads` are of
 //! `script_text`, `logs` of `host_log`, `chains` of `host_shard`, `plans` and `setups` of `host_plan`, `moves` and
-//! `closes` of `protection_moves`, with the rows of `close_rows`, and `worlds` of `host_world`. A table is one text, a row
+//! `closes` of `protection_moves`, with the rows of `close_rows`, and `worlds` and `rounds` of `host_world`. A table is one text, a row
 //! a line, which is read as the test runs: begin at `rows`, and at `shards` for a host of two shards.
 #![tactic(auto)]
 
@@ -20,6 +20,8 @@ mod logs;
 mod moves;
 #[cfg(test)]
 mod plans;
+#[cfg(test)]
+mod rounds;
 #[cfg(test)]
 mod rows;
 #[cfg(test)]

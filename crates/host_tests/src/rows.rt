@@ -1,5 +1,5 @@
 //! Tables as texts: a row is a line, with a bar between its fields. What fields mean more than one file reads.
-use script_text::{Requests, Task};
+use script_text::{Requests, TaskRef};
 use std::alloc::Global;
 use std::fmt::Debug;
 use std::process::Abort;
@@ -35,7 +35,7 @@ pub fn phases_in_short(rt: &impl Abort, alloc: Global, requests: &Requests) -> S
     let mut text = String::new(alloc);
     for number in 0..requests.len() {
         for task in requests.phase(number) {
-            push_task(rt, alloc, &mut text, task);
+            push_task(rt, alloc, &mut text, &task);
         }
         text.push_str("/").expect(rt, "memory");
     }
@@ -43,10 +43,11 @@ pub fn phases_in_short(rt: &impl Abort, alloc: Global, requests: &Requests) -> S
 }
 
 // Adds a task.
-fn push_task(rt: &impl Abort, alloc: Global, text: &mut String, task: &Task) {
-    let worker = task.worker;
-    let key = task.request.key;
-    let line = match (task.request.put, task.request.value.bytes()) {
+fn push_task(rt: &impl Abort, alloc: Global, text: &mut String, task: &TaskRef) {
+    let worker = task.worker();
+    let request = task.request();
+    let key = request.key;
+    let line = match (request.put, request.value.bytes()) {
         (false, None) => format!(in alloc; "{worker} get {key},").expect(rt, "memory"),
         (true, None) => format!(in alloc; "{worker} del {key},").expect(rt, "memory"),
         (true, Some(bytes)) => {

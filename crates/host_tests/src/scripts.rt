@@ -67,6 +67,7 @@ epoch;0_get_1;epoch;0_get_2;1_get_3;epoch | 2 | /0 get 1,/0 get 2,1 get 3,//
 10_get_1 | 11 | 10 get 1,/
 0_put_1_00ff | 1 | 0 put 1 [00ff],/
 0_put_1_0123456789abcdef | 1 | 0 put 1 [0123456789abcdef],/
+0_put_1_61;0_put_2_626364;0_get_1;epoch;0_put_3_.;0_del_4;0_put_5_6566;epoch;epoch;0_put_6_67 | 1 | 0 put 1 [61],0 put 2 [626364],0 get 1,/0 put 3 [],0 del 4,0 put 5 [6566],//0 put 6 [67],/
 ";
 
 // A script, the number of workers, and the first line that is refused, with the first cause.

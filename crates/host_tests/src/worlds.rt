@@ -4,16 +4,19 @@ ghost use Rattle.lamport_clocks.specs.Header.{IsHeader};
 ghost use Rattle.record_hash.specs.Functions.{DigestFunctions};
 ghost use Rattle.script_text.specs.Script.{then_line};
 ghost use Rattle.script_text.specs.declared.task.Line.TheVariants as said;
+ghost use Rattle.shipped_host.specs.Ranges.{AreInRange, HaveShortValues};
+ghost use Rattle.shipped_host.specs.Settings.{IsSettings};
 ghost use Rattle.host_world.specs.Shown.{shown_event};
 ghost use Rattle.host_world.specs.Worked.{AreEnabledBehind, two_shards, most, two_at_five, serving, close_of_two, put_five, get_five, between_events, before_events, behind_events};
 
 use crate::rows::{same, same_at, same_bytes};
 use crate::shards::bytes_of_rows;
-use host_world::{Event, Settings, Worker, World, orders_of_two_workers_are_enabled};
+use host_world::{Event, Worker, World, orders_of_two_workers_are_enabled};
 use lamport_clocks::Header;
 use record_hash::ToyDigests;
 use record_text::{Blob, Operation, Request};
 use script_text::{Line, Requests, Task};
+use shipped_host::Settings;
 use stamp_order::merge;
 use std::alloc::Global;
 use std::process::Abort;
@@ -28,6 +31,7 @@ fn settings() -> Settings
         shards: 2,
         hot: None,
         absent: false,
+        rolling: false,
     }
 }
 
@@ -53,8 +57,8 @@ fn get_at_5() -> Request
     Request::new(false, 5, Blob::none())
 }
 
-// A script's next line asks a worker for this.
-fn ask(rt: &impl Abort, requests: &mut Requests, worker: u16, request: Request)
+/// A script's next line asks a worker for this.
+pub fn ask(rt: &impl Abort, requests: &mut Requests, worker: u16, request: Request)
     ensures asked { requests.new ≡ then_line requests.old (said.Task (record { worker = worker; request = request })) }
 {
     let line = Line::Task(Task { worker, request });
@@ -141,13 +145,21 @@ fn log_of(rt: &impl Abort, alloc: Global, worker: &mut Worker) -> Vec<u8> {
     bytes
 }
 
-// The logs of a world of the script that runs these events to their end.
-fn logs_behind(rt: &impl Abort, alloc: Global, events: &[Event]) -> Vec<Vec<u8>>
+/// The logs of a world of these requests that runs these events to their end.
+pub fn logs_behind(
+    rt: &impl Abort,
+    alloc: Global,
+    settings: &Settings,
+    requests: &Requests,
+    events: &[Event],
+) -> Vec<Vec<u8>>
+    requires settings { IsSettings settings.now }
+    requires keys { AreInRange settings.now.header requests.now }
+    requires values { HaveShortValues settings.now.header requests.now }
     requires enabled { (functions : DigestFunctions)
-        → AreEnabledBehind functions (two_shards 2 most) two_at_five (map shown_event events.now) }
+        → AreEnabledBehind functions settings.now requests.now (map shown_event events.now) }
 {
-    let requests = script(rt, alloc);
-    let mut world = match World::new(alloc, &ToyDigests, &settings(), &requests) {
+    let mut world = match World::new(alloc, &ToyDigests, settings, requests) {
         Ok(world) => world,
         Err(_) => panic!(rt; "no world"),
     };
@@ -208,7 +220,7 @@ fn assert_order(rt: &impl Abort, alloc: Global, events: &[Event], rows: [&str; 2
     requires enabled { (functions : DigestFunctions)
         → AreEnabledBehind functions (two_shards 2 most) two_at_five (map shown_event events.now) }
 {
-    let logs = logs_behind(rt, alloc, events);
+    let logs = logs_behind(rt, alloc, &settings(), &script(rt, alloc), events);
     same_at(rt, 0, &logs.len(), &2);
     for (rows, log) in rows.iter().zip(logs.iter()) {
         same_bytes(rt, rows, log, &bytes_of_rows(rt, alloc, rows));

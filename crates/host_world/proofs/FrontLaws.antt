@@ -255,6 +255,11 @@ module _ {C R : Type 0} (host : Host C R) where
     over_without through =
         over_other (with_logs logs world) world.workers (sym (length-before_each logs world.workers)) (λ i. sym (same_unlogged logs world.workers i (fresh host.header))) through
 
+    -- and the round
+    pub round_with : IsRoundOver host world → IsRoundOver host (with_logs logs world)
+    round_with over =
+        round_other world (before_each logs world.workers) (length-before_each logs world.workers) (λ i. same_unlogged logs world.workers i (fresh host.header)) over
+
     pub clock_with : (i : ℕ) → (worker_at host (with_logs logs world) i).clock ≡ (worker_at host world i).clock
     clock_with i = ap (λ (w : Worker). w.clock) (same_unlogged logs world.workers i (fresh host.header))
 

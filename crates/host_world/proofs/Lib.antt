@@ -1,18 +1,8 @@
--- Lemmas on the shipped host.
-pub mod LinkLaws
-mod PromotableLemmas
-pub mod DescentLaws
-pub mod PlaceLaws
+-- Lemmas on the world of the code.
 pub mod FrontLaws
 pub mod BegunLaws
-mod ServeLemmas
-pub mod PlannedLaws
-pub mod SeatLaws
-pub mod LongerLaws
-pub mod RangeLaws
-mod OrderlyLemmas
-mod BehindLemmas
-pub mod FrontierLaws
+mod LoggedLemmas
+pub mod BehindLaws
 mod WorldLemmas
 mod TakenLemmas
 mod StandingLemmas

@@ -24,19 +24,19 @@ use Rattle.host_shard.specs.Shard.{key_path_in}
 use Rattle.host_plan.specs.Setup.{IsShardCount, child, paths_below}
 use Rattle.script_text.specs.declared.task.Task.{Task}
 use Rattle.protection_moves.specs.Stage.{is_hot_at}
-use Rattle.host_world.specs.declared.settings.Settings.{Settings}
+use Rattle.shipped_host.specs.declared.settings.Settings.{Settings}
 use Rattle.host_world.specs.declared.seats.Seats as code_seats
 use Rattle.host_world.specs.declared.world.World as code
 use Rattle.host_world.specs.Behind.{IsBehindSetup, StandsWith, with_logs}
 use Rattle.host_world.specs.Places.{place_of}
-use Rattle.host_world.specs.Seated.{SeatsMirror, wide_among}
-use Rattle.host_world.specs.Orderly.{IsOrderlyShard}
-use Rattle.host_world.specs.Settings.{frontier_bits}
-use Rattle.host_world.specs.ShippedHost.{serves_key, is_blob, is_place_of}
+use Rattle.shipped_host.specs.Seated.{SeatsMirror, wide_among}
+use Rattle.shipped_host.specs.Settings.{frontier_bits}
+use Rattle.shipped_host.specs.ShippedHost.{serves_key, is_blob, is_place_of}
 use Rattle.host_world.specs.Shown.{contents_of, shown_seats, shown_world, requests_of}
-use Rattle.host_world.proofs.BehindLemmas.{behind_orderly, shards_are, frontier_bits_are}
-use Rattle.host_world.proofs.RangeLaws.{bits_within_key, key_bits-most}
-use Rattle.host_world.proofs.FrontierLaws.{frontier_in, frontiers_behind}
+use Rattle.host_world.proofs.BehindLaws.{behind_stands, shards_there}
+use Rattle.shipped_host.proofs.RangeLaws.{bits_within_key, key_bits-most, frontier_bits_are}
+use Rattle.host_fits.specs.Mirroring.{frontier_in, PlacesMirror}
+use Rattle.host_fits.proofs.StandingLaws.{tree_there, frontier_there}
 use Rattle.host_world.proofs.WorldLemmas.{read_shown}
 
 -- ---- the first bits of a key
@@ -105,70 +105,15 @@ length-first zero bits within = refl
 length-first (suc n) [] within = absurd (omega (arith, within))
 length-first (suc n) (bit ∷ bits) within = ap (λ (k : ℕ). suc k) (length-first n bits (omega (arith, within)))
 
--- ---- the frontiers by their numbers
-
--- how many paths there are
-count_below : (levels : ℕ) (path : List Bool) → length (paths_below levels path) ≡ 2 ^ levels
-count_below zero path = refl
-count_below (suc levels) path =
-    omega (arith, length-append (paths_below levels (child path false)) (paths_below levels (child path true)), count_below levels (child path false), count_below levels (child path true), pow-suc 2 levels)
-
--- a number of one bit more, whose first bit is 0 or 1
-low_half : (levels n : ℕ) → n < 2 ^ levels → bits_of (suc levels) n ≡ false ∷ bits_of levels n
-unfolding bits_of
-low_half levels n low =
-    let top : n / 2 ^ levels ≡ 0 = ap (λ (m : ℕ). m / 2 ^ levels) (omega arith) ∙ shr_high 0 levels n low in
-    ap (λ (m : ℕ). (m % 2 == 1) ∷ bits_of levels n) top
-
-high_half : (levels m : ℕ) → m < 2 ^ levels → bits_of (suc levels) (1 * 2 ^ levels + m) ≡ true ∷ bits_of levels m
-unfolding bits_of
-high_half levels m low =
-    ap (λ (k : ℕ). (k % 2 == 1) ∷ bits_of levels (1 * 2 ^ levels + m)) (shr_high 1 levels m low)
-    ∙ ap (λ (bits : List Bool). true ∷ bits) (bits_of-same levels (1 * 2 ^ levels + m) m
-    (mod_low 1 levels m low ∙ (sym (mod_low 0 levels m low) ∙ ap (λ (k : ℕ). k % 2 ^ levels) (omega arith))))
-
--- Of the paths so many levels below a path, that of each number.
-path_at : (levels : ℕ) (path : List Bool) (n : ℕ) → n < 2 ^ levels → get_or (paths_below levels path) n [] ≡ path ++ bits_of levels n
-unfolding bits_of
-path_at zero path zero small = sym (append-nil path)
-path_at zero path (suc n) small = absurd (omega (arith, small))
-path_at (suc levels) path n small = go (cases_lt n (2 ^ levels)) (path_at levels (child path false)) (path_at levels (child path true))
-  where
-    go : (n < 2 ^ levels) ⊎ (2 ^ levels ≤ n)
-        → ((m : ℕ) → m < 2 ^ levels → get_or (paths_below levels (child path false)) m [] ≡ child path false ++ bits_of levels m)
-        → ((m : ℕ) → m < 2 ^ levels → get_or (paths_below levels (child path true)) m [] ≡ child path true ++ bits_of levels m)
-        → get_or (paths_below levels (child path false) ++ paths_below levels (child path true)) n [] ≡ path ++ bits_of (suc levels) n
-    go (inl low) first second =
-        get_or_append_left (paths_below levels (child path false)) (paths_below levels (child path true)) [] n (omega (arith, low, count_below levels (child path false)))
-        ∙ first n low ∙ append_assoc path (false ∷ []) (bits_of levels n)
-        ∙ ap (λ (bits : List Bool). path ++ bits) (sym (low_half levels n low))
-    go (inr high) first second =
-        let m : ℕ = n - 2 ^ levels in
-        let less : m < 2 ^ levels = omega (arith, small, high, pow-suc 2 levels) in
-        let is : 1 * 2 ^ levels + m ≡ n = omega (arith, high) in
-        get_or-append_right (paths_below levels (child path false)) (paths_below levels (child path true)) (2 ^ levels) n [] (count_below levels (child path false)) high
-        ∙ second m less ∙ append_assoc path (true ∷ []) (bits_of levels m)
-        ∙ ap (λ (bits : List Bool). path ++ bits) (sym (high_half levels m less))
-        ∙ ap (λ (k : ℕ). path ++ bits_of (suc levels) k) is
-
 -- ---- a world behind the setup
 
 module _ (functions : DigestFunctions) (settings : Settings) (script : List (List Task)) (digests : GivesDigests functions.digest) (world : World Content)
     (behind : IsBehindSetup functions settings script world) where
-  -- It has as many shards as its settings say.
-  shards_there : length world.shards ≡ settings.shards
-  shards_there =
-      sym (length-map world.shards (λ (seats : Seats Content). frontier_in seats.contents))
-      ∙ ap (λ (paths : List (List Bool)). length paths) (frontiers_behind functions settings script digests world behind)
-      ∙ count_below (frontier_bits settings.shards) (root_of (wide_of settings.header))
-      ∙ sym (shards_are settings.shards behind.settings_fit.shards)
-
-  -- each with its number's bits behind the root as its frontier
+  -- Each shard has its number's bits behind the root as its frontier.
   frontier_at : (s : ℕ) → s < settings.shards → frontier_in (shard_at world s).contents ≡ root_of (wide_of settings.header) ++ bits_of (frontier_bits settings.shards) s
   frontier_at s there =
-      sym (get_or-map (λ (seats : Seats Content). frontier_in seats.contents) world.shards s (unmoved []) [] (omega (arith, there, shards_there)))
-      ∙ ap (λ (paths : List (List Bool)). get_or paths s []) (frontiers_behind functions settings script digests world behind)
-      ∙ path_at (frontier_bits settings.shards) (root_of (wide_of settings.header)) s (omega (arith, there, shards_are settings.shards behind.settings_fit.shards))
+      frontier_there functions settings s (shard_at world s).contents
+      ((behind_stands functions settings script digests world behind).mirrored s (omega (arith, there, shards_there functions settings script digests world behind)))
 
   -- A key lies below the frontier of the shard whose number its first bits spell.
   lies_below : (key s : ℕ) → s ≡ number_of (take (frontier_bits settings.shards) (bits_of (key_bits (wide_of settings.header)) key)) → s < settings.shards
@@ -247,17 +192,17 @@ module _ {D : Type 0} (functions : DigestFunctions) (digests : GivesDigests func
     seats_read : shard_at (shown_world world) s ≡ shown_seats seats
     seats_read = read_shown shown_seats world.shards.items s seats (unmoved []) (omega (arith, there, shards_in)) read
 
-    orderly_there : (epoch : ℕ) × IsOrderlyShard (longest_of world.settings.header) (wide_of world.settings.header) functions.digest epoch (shard_at (shown_world world) s).contents
-    orderly_there =
-        let whole = behind_orderly functions world.settings (requests_of world) digests (with_logs logs (shown_world world)) stands.behind in
-        (_, whole.shards s (omega (arith, there, shards_in, length-map world.shards.items shown_seats)))
+    places_mirror : PlacesMirror functions world.settings s (contents_of seats)
+    places_mirror =
+        subst (λ (found : Seats Content). PlacesMirror functions world.settings s found.contents) seats_read
+        ((behind_stands functions world.settings (requests_of world) digests (with_logs logs (shown_world world)) stands.behind).mirrored s
+        (omega (arith, there, shards_in, length-map world.shards.items shown_seats)))
 
     seats_mirror : SeatsMirror (longest_of world.settings.header) functions.digest (contents_of seats)
-    seats_mirror =
-        subst (λ (found : Seats Content). SeatsMirror (longest_of world.settings.header) functions.digest found.contents) seats_read orderly_there.1.mirrors
+    seats_mirror = places_mirror.mirrors
 
     tree_read : wide_among (contents_of seats) ≡ wide_of world.settings.header
-    tree_read = subst (λ (found : Seats Content). wide_among found.contents ≡ wide_of world.settings.header) seats_read orderly_there.1.tree
+    tree_read = tree_there functions world.settings s (contents_of seats) places_mirror
 
     pub five_seats : length (contents_of seats) ≡ 5
     five_seats = ap (λ (xs : List Content). length xs) seats_mirror.is ∙ ap (λ (n : ℕ). suc n) seats_mirror.four

@@ -11,9 +11,9 @@ use Rattle.host_core.specs.WorldEvent.{WorldEvent, step, with_worker, IsEnabled,
 use Rattle.host_core.proofs.EventLaws.{enabled-append, run-append}
 use Rattle.host_shard.specs.Content.{Content}
 use Rattle.script_text.specs.declared.task.Task.{Task}
-use Rattle.host_world.specs.declared.settings.Settings.{Settings}
+use Rattle.shipped_host.specs.declared.settings.Settings.{Settings}
 use Rattle.host_world.specs.declared.world.World as code
-use Rattle.host_world.specs.ShippedHost.{shipped_host}
+use Rattle.shipped_host.specs.ShippedHost.{shipped_host}
 use Rattle.host_world.specs.Shown.{shown_world, digests_of, requests_of}
 use Rattle.host_world.specs.Behind.{IsBehindSetup, host_of, with_logs, log_at, StandsWith, AreOfOneHost}
 use Rattle.host_world.proofs.FrontLaws.{unlogged, before_each-handed, enabled_with, step_with, length-step}
@@ -26,6 +26,7 @@ one_more functions settings script old new event behind enabled is =
     let host = shipped_host functions settings script in
     record {
       settings_fit = behind.settings_fit;
+      counters = behind.counters;
       keys = behind.keys;
       values = behind.values;
       events = behind.events ++ event ∷ [];

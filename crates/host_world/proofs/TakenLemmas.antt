@@ -17,9 +17,9 @@ use Rattle.protection_moves.specs.Stage.{hot_records}
 use Rattle.move_laws.specs.Stages.{StageMirrors}
 use Rattle.move_laws.proofs.TransferLaws.{hot_own}
 use Rattle.host_world.specs.Behind.{CanTakeSeats}
-use Rattle.host_world.specs.Seated.{waiting_at}
-use Rattle.host_world.proofs.PlaceLaws.{waits-hot}
-use Rattle.host_world.proofs.SeatLaws.{stage_at}
+use Rattle.shipped_host.specs.Seated.{waiting_at}
+use Rattle.shipped_host.proofs.PlaceLaws.{waits-hot}
+use Rattle.shipped_host.proofs.SeatLaws.{stage_at}
 
 pub record CanMoveThere (digest : Digest) (clock : Reading) (shard : Shard) (places : List Content) : Type 0 where
   pub mirrors : StageMirrors longest_blob digest (stage_at shard places clock)

@@ -1,18 +1,19 @@
 -- What the code writes is what the machine's step changes.
 use Rattle.std.proofs.Common.{◌≡◌, ℕ, suc, ◌+◌, ◌==◌, ◌<◌, ◌≤◌, Bool, true, false, List, [], ◌∷◌, length, get_or, set, map, replicate, take, drop, ◌++◌, if◌then◌else◌, Option, Some, None, is_some, Result, Ok, Err, OnErr, refl, sym, ◌∙◌, ap, arith}
 use Rattle.std.proofs.lemmas.Bool.{false≢true, eqb-true, eq-eqb}
-use Rattle.std.proofs.lemmas.List.{map-set, get_or-map, set-get_or, get_or-set_same, length-set, map-append, replicate-append-replicate, take_all, drop_all, append-nil}
-use Rattle.host_core.specs.Host.{Done}
-use Rattle.host_core.specs.World.{Place, Worker, Seats, World, unmoved}
+use Rattle.std.proofs.lemmas.List.{map-set, get_or-map, set-get_or, get_or-set_same, length-set, set-set, map-append, replicate-append-replicate, take_all, drop_all, append-nil}
+use Rattle.record_text.specs.declared.request.Request.{Request}
+use Rattle.host_core.specs.Host.{Done, Host}
+use Rattle.host_core.specs.World.{Place, Worker, Seats, World, fresh, unmoved, worker_at, shard_at}
 use Rattle.lamport_clocks.specs.Clock.{last_epoch}
 use Rattle.log_codec.specs.declared.command.Command.TheVariants.{NextEpoch}
-use Rattle.host_core.specs.WorldEvent.{after_serve, after_move, after_advance, with_worker, next_clock, logging, having_served}
+use Rattle.host_core.specs.WorldEvent.{after_serve, after_move, after_scan, after_advance, with_worker, with_shard, next_clock, logging, having_served, having_scanned}
 use Rattle.host_shard.specs.Content.{Content, vacant}
 use Rattle.host_world.specs.declared.seats.Seats as code
 use Rattle.host_world.specs.declared.worker.Worker as worker
 use Rattle.host_world.specs.Shown.{contents_of, shown_seats}
 use Rattle.host_world.specs.Workers.{shown_worker}
-use Rattle.host_world.specs.Doing.{HasDone, HasServed}
+use Rattle.host_world.specs.Doing.{HasDone, HasServed, renewed}
 
 module _ {X Y : Type 0} (shown : X → Y) where
   -- an element that was read, as it shows
@@ -37,11 +38,11 @@ module _ {X Y : Type 0} (shown : X → Y) where
   set_same xs i x c is same =
       map-set shown xs i c ∙ ap (set (map shown xs) i) (same ∙ ap shown is) ∙ sym (map-set shown xs i (get_or xs i x)) ∙ ap (map shown) (set-get_or xs i x)
 
--- a worker that was changed
-pub changed-worker : (items : List worker.Worker) (i : ℕ) (x now : worker.Worker) (d : Worker) (f : Worker → Worker) → i < length items → x ≡ get_or items i x
-    → shown_worker now ≡ f (shown_worker x) → map shown_worker (set items i now) ≡ set (map shown_worker items) i (f (get_or (map shown_worker items) i d))
-changed-worker items i x now d f there is same =
-    map-set shown_worker items i now ∙ ap (set (map shown_worker items) i) (same ∙ ap f (sym (read_shown shown_worker items i x d there is)))
+  -- an element that was changed
+  pub changed : (xs : List X) (i : ℕ) (x now : X) (d : Y) (f : Y → Y) → i < length xs → x ≡ get_or xs i x → shown now ≡ f (shown x)
+      → map shown (set xs i now) ≡ set (map shown xs) i (f (get_or (map shown xs) i d))
+  changed xs i x now d f there is same =
+      map-set shown xs i now ∙ ap (set (map shown xs) i) (same ∙ ap f (sym (read_shown xs i x d there is)))
 
 -- a worker that joined others like it
 pub joined-worker : (items new : List worker.Worker) (now : worker.Worker) (first fresh : Worker) (k n : ℕ) → new ≡ items ++ now ∷ []
@@ -82,14 +83,37 @@ after_served world i place worker now seats new what has alone close =
     ∙ ap (λ (moved : Bool). record { contents = set seats.contents place.seat has.done.after; moved = moved }) close)
     ∙ sym (ap (after_serve world i worker place seats) has.is)
 
--- a shard that was moved
-pub after_moved : (world : World Content) (i s : ℕ) (worker now : Worker) (new : List Content) (what : Option (Done (List Content)))
-    → HasDone what worker new now
-    → record world { shards = set world.shards s (record { contents = new; moved = true }); workers = set world.workers i now } ≡ after_move world i worker s what
-after_moved world i s worker now new what has =
-    ap (λ (w : Worker). record world { shards = set world.shards s (record { contents = new; moved = true }); workers = set world.workers i w }) has.logged
-    ∙ ap (λ (contents : List Content). record world { shards = set world.shards s (record { contents = contents; moved = true }); workers = set world.workers i (logging worker has.done.commands has.done.clock) }) has.after_it
-    ∙ sym (ap (after_move world i worker s) has.is)
+-- a shard that was taken into its worker's epoch
+pub renewed_so : (host : Host Content Request) (world : World Content) (i s : ℕ) (now : Worker) (contents : List Content) (what : Option (Done (List Content)))
+    → HasDone what (worker_at host world i) contents now
+    → record world { shards = set world.shards s (record (shard_at world s) { contents = contents }); workers = set world.workers i now } ≡ renewed host world i s what
+renewed_so host world i s now contents what has =
+    ap (λ (w : Worker). record world { shards = set world.shards s (record (shard_at world s) { contents = contents }); workers = set world.workers i w }) has.logged
+    ∙ ap (λ (cs : List Content). record world { shards = set world.shards s (record (shard_at world s) { contents = cs }); workers = set world.workers i (logging (worker_at host world i) has.done.commands has.done.clock) }) has.after_it
+    ∙ sym (ap (renewed host world i s) has.is)
+
+-- and that is moved then
+pub then_moved : (host : Host Content Request) (world : World Content) (i s : ℕ) (what : Option (Done (List Content))) → is_some what ≡ true → s < length world.shards
+    → with_shard (renewed host world i s what) s (record (shard_at (renewed host world i s what) s) { moved = true }) ≡ after_move world i (worker_at host world i) s what
+then_moved host world i s None some there = absurd (false≢true some)
+then_moved host world i s (Some done) some there =
+    let workers = set world.workers i (logging (worker_at host world i) done.commands done.clock) in
+    let after : Seats Content = record (shard_at world s) { contents = done.after } in
+    ap (λ (found : Seats Content). record world { shards = set (set world.shards s after) s (record found { moved = true }); workers = workers })
+    (get_or-set_same world.shards s after (unmoved []) there)
+    ∙ ap (λ (shards : List (Seats Content)). record world { shards = shards; workers = workers }) (set-set world.shards s after (record after { moved = true }))
+
+-- or scanned
+pub then_scanned : (host : Host Content Request) (world : World Content) (i : ℕ) (place : Place) (what : Option (Done (List Content))) → is_some what ≡ true → i < length world.workers
+    → with_worker (renewed host world i place.shard what) i (having_scanned (worker_at host (renewed host world i place.shard what) i) place)
+    ≡ after_scan world i (worker_at host world i) place (shard_at world place.shard) what
+then_scanned host world i place None some there = absurd (false≢true some)
+then_scanned host world i place (Some done) some there =
+    let shards = set world.shards place.shard (record (shard_at world place.shard) { contents = done.after }) in
+    let after : Worker = logging (worker_at host world i) done.commands done.clock in
+    ap (λ (found : Worker). record world { shards = shards; workers = set (set world.workers i after) i (having_scanned found place) })
+    (get_or-set_same world.workers i after (fresh host.header) there)
+    ∙ ap (λ (workers : List Worker). record world { shards = shards; workers = workers }) (set-set world.workers i after (having_scanned after place))
 
 -- what is none is none
 pub none_of : {X : Type 0} (what : Option X) → false ≡ is_some what → what ≡ None
@@ -103,12 +127,16 @@ pub after_stopped : (world : World Content) (i : ℕ) (place : Place) (worker no
 after_stopped world i place worker now seats what none is =
     ap (λ (w : Worker). record world { workers = set world.workers i w }) is ∙ sym (ap (after_serve world i worker place seats) none)
 
--- the same in a close
-pub after_stuck : (world : World Content) (i s : ℕ) (worker now : Worker) (what : Option (Done (List Content)))
-    → what ≡ None → now ≡ record worker { stuck = true }
-    → record world { workers = set world.workers i now } ≡ after_move world i worker s what
-after_stuck world i s worker now what none is =
-    ap (λ (w : Worker). record world { workers = set world.workers i w }) is ∙ sym (ap (after_move world i worker s) none)
+-- the same of a move, and of a scan
+pub not_moved : (world : World Content) (i s : ℕ) (worker : Worker) (what : Option (Done (List Content))) → is_some what ≡ false
+    → with_worker world i (record worker { stuck = true }) ≡ after_move world i worker s what
+not_moved world i s worker None none = refl
+not_moved world i s worker (Some done) none = absurd (false≢true (sym none))
+
+pub not_scanned : (world : World Content) (i : ℕ) (place : Place) (worker : Worker) (seats : Seats Content) (what : Option (Done (List Content))) → is_some what ≡ false
+    → with_worker world i (record worker { stopped = true }) ≡ after_scan world i worker place seats what
+not_scanned world i place worker seats None none = refl
+not_scanned world i place worker seats (Some done) none = absurd (false≢true (sym none))
 
 -- seats that show the same
 pub same_seats : (old new : code.Seats) → contents_of new ≡ contents_of old → new.moved ≡ old.moved → shown_seats new ≡ shown_seats old

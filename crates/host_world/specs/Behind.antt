@@ -1,5 +1,5 @@
 -- A world behind the setup, and what a worker can move there.
-use Rattle.std.specs.Prelude.{◌≡◌, ℕ, ◌^◌, ◌<◌, List, [], ◌∷◌, ◌++◌, length, get_or, IsTrue}
+use Rattle.std.specs.Prelude.{◌≡◌, ℕ, ◌^◌, ◌<◌, ◌≤◌, List, [], ◌∷◌, ◌++◌, length, get_or, IsTrue}
 use Rattle.std.specs.List.{AllByRecursion}
 use Rattle.tree_keys.specs.Path.{key_bits}
 use Rattle.lamport_clocks.specs.Clock.{is_open}
@@ -17,24 +17,18 @@ use Rattle.host_core.specs.World as machine
 use Rattle.host_core.specs.WorldEvent.{WorldEvent, AreEnabled, run_events}
 use Rattle.host_shard.specs.Content.{Content}
 use Rattle.script_text.specs.declared.task.Task.{Task}
-use Rattle.host_world.specs.declared.settings.Settings.{Settings}
+use Rattle.shipped_host.specs.declared.settings.Settings.{Settings}
 use Rattle.host_world.specs.declared.world.World.{World}
-use Rattle.host_world.specs.Settings.{IsSettings}
-use Rattle.host_world.specs.Seated.{SeatsMirror, waiting_at}
-use Rattle.host_world.specs.ShippedHost.{shipped_host}
+use Rattle.shipped_host.specs.Ranges.{AreInRange, HaveShortValues}
+use Rattle.shipped_host.specs.Settings.{IsSettings}
+use Rattle.shipped_host.specs.Seated.{SeatsMirror, waiting_at}
+use Rattle.shipped_host.specs.ShippedHost.{shipped_host}
 use Rattle.host_world.specs.Shown.{shown_world, digests_of, requests_of}
-
--- each key that the script asks for has no more bits than those of a bundle with this header
-abbrev pub AreInRange : Header → List (List Task) → Type 0
-AreInRange header script = AllByRecursion (λ phase. AllByRecursion (λ task. task.request.key < 2 ^ key_bits (wide_of header)) phase) script
-
--- each value that the script asks for has no more bytes than a data value of a bundle with this header
-abbrev pub HaveShortValues : Header → List (List Task) → Type 0
-HaveShortValues header script = AllByRecursion (λ phase. AllByRecursion (λ task. IsBlob (longest_of header) task.request.value) phase) script
 
 -- The world of a shipped host behind its setup and some events, each of which was enabled.
 pub record IsBehindSetup (functions : DigestFunctions) (settings : Settings) (script : List (List Task)) (world : machine.World Content) : Type 0 where
   pub settings_fit : IsSettings settings
+  pub counters : settings.shards ≤ settings.header.end
   pub keys : AreInRange settings.header script
   pub values : HaveShortValues settings.header script
   pub events : List (WorldEvent Request)

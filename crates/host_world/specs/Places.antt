@@ -2,7 +2,7 @@
 use Rattle.std.specs.Prelude.{ℕ, suc, ◌/◌, ◌%◌}
 use Rattle.host_core.specs.World.{Place, Holding}
 use Rattle.host_world.specs.declared.worker.Held.{Held}
-use Rattle.host_world.specs.ShippedHost.{hot_places}
+use Rattle.shipped_host.specs.ShippedHost.{hot_places}
 
 -- how many places a shard has: one for itself, and its hot ones
 abbrev pub places_each : ℕ

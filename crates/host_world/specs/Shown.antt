@@ -1,16 +1,16 @@
 -- What the code's world shows: a world of the machine.
-use Rattle.std.specs.Prelude.{List, ◌∷◌, map, replicate}
+use Rattle.std.specs.Prelude.{List, ◌∷◌, map}
 use Rattle.record_text.specs.declared.request.Request.{Request}
 use Rattle.host_core.specs.World.{Place, Holding}
 use Rattle.host_core.specs.World as machine
-use Rattle.host_core.specs.WorldEvent.{WorldEvent, takes, loses, serves, gives, advances, moves, opens}
+use Rattle.host_core.specs.WorldEvent.{WorldEvent, takes, loses, serves, gives, advances, moves, opens, raises, enters, scans, finishes, stops}
 use Rattle.host_shard.specs.Content.{Content}
 use Rattle.host_shard.specs.Shown.{shown_content}
 use Rattle.script_text.specs.declared.task.Task.{Task}
 use Rattle.host_world.specs.declared.event.Event.{Event}
 use Rattle.host_world.specs.declared.event.Event.TheVariants as events
 use Rattle.host_world.specs.declared.seats.Seats.{Seats}
-use Rattle.host_world.specs.declared.settings.Settings.{Settings}
+use Rattle.shipped_host.specs.declared.settings.Settings.{Settings}
 use Rattle.host_world.specs.declared.world.World.{World}
 use Rattle.host_world.specs.Places.{place_of}
 use Rattle.host_world.specs.Workers.{shown_worker}
@@ -24,6 +24,11 @@ shown_event (events.Give worker place) = gives worker (place_of place)
 shown_event (events.Next worker) = advances worker
 shown_event (events.Move worker shard) = moves worker shard
 shown_event events.Open = opens
+shown_event (events.Raise worker) = raises worker
+shown_event (events.Enter worker) = enters worker
+shown_event (events.Scan worker place) = scans worker (place_of place)
+shown_event (events.Finish worker) = finishes worker
+shown_event (events.Stop worker found) = stops worker found
 
 -- what the seats have: the shard first, then its hot places
 abbrev pub contents_of : Seats → List Content
@@ -33,7 +38,7 @@ contents_of seats = shown_content seats.first ∷ map shown_content seats.hot.it
 abbrev pub shown_seats : Seats → machine.Seats Content
 shown_seats seats = record { contents = contents_of seats; moved = seats.moved }
 
--- the world, with the shards and workers so: that of a host that is not rolling, which never raises an epoch or notes a scan
+-- the world, with the shards and workers so
 abbrev pub shown_world : {D : Type 0} → World D → machine.World Content
 shown_world world = record {
   shards = map shown_seats world.shards.items;
@@ -41,8 +46,8 @@ shown_world world = record {
   phase = world.phase;
   closing = world.closing;
   over = world.over;
-  newest = world.settings.header.first;
-  scanned = replicate world.settings.header.verifiers world.settings.header.first;
+  newest = world.newest;
+  scanned = world.scanned.items;
 }
 
 -- the value whose functions are the world's digests

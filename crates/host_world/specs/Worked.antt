@@ -15,13 +15,13 @@ use Rattle.host_core.specs.World.{Place, logs_of, set_up}
 use Rattle.host_core.specs.WorldEvent.{WorldEvent, takes, serves, gives, advances, moves, AreEnabled, run_events}
 use Rattle.script_text.specs.declared.task.Task.{Task}
 use Rattle.host_world.specs.declared.fault.ClockEnd.{ClockEnd}
-use Rattle.host_world.specs.declared.settings.Settings.{Settings}
+use Rattle.shipped_host.specs.declared.settings.Settings.{Settings}
 use Rattle.host_world.specs.Ending.{end_of}
-use Rattle.host_world.specs.ShippedHost.{shipped_host}
+use Rattle.shipped_host.specs.ShippedHost.{shipped_host}
 
 -- so many workers, whose counters end there, and two shards
 abbrev pub two_shards : ℕ → ℕ → Settings
-two_shards workers end = record { header = header_by_path workers 128 0 end; shards = 2; hot = None; absent = false }
+two_shards workers end = record { header = header_by_path workers 128 0 end; shards = 2; hot = None; absent = false; rolling = false }
 
 -- where counters end at most
 abbrev pub most : ℕ
@@ -215,4 +215,4 @@ ended_at epoch counter = Some (record { worker = 0; at = stamp epoch counter })
 
 -- one worker and two shards, where the first epoch is the last that there is
 abbrev pub in_last_epoch : Settings
-in_last_epoch = record { header = header_by_path 1 128 4294967295 most; shards = 2; hot = None; absent = false }
+in_last_epoch = record { header = header_by_path 1 128 4294967295 most; shards = 2; hot = None; absent = false; rolling = false }

@@ -12,7 +12,7 @@ use Rattle.log_codec.specs.declared.command.Command.TheVariants.{AddM, EvictM, A
 use Rattle.merkle_records.specs.Merkle.{pointer_to}
 use Rattle.host_core.specs.World.{Place}
 use Rattle.host_core.specs.WorldEvent.{WorldEvent, takes, serves, gives, advances, moves}
-use Rattle.host_world.specs.declared.settings.Settings.{Settings}
+use Rattle.shipped_host.specs.declared.settings.Settings.{Settings}
 use Rattle.host_world.specs.Worked.{root, left, right, stamp, most, bytes, five, put_five, get_five, setup_log, frontier_of, request_at, request_log, left_log, right_log, serving, last_close, close_of_two, first_close, value_a, value_b}
 
 -- no value
@@ -148,7 +148,7 @@ parted_log functions =
 
 -- one worker, whose counters end at most, and four shards
 abbrev pub four_shards : Settings
-four_shards = record { header = header_by_path 1 128 0 most; shards = 4; hot = None; absent = false }
+four_shards = record { header = header_by_path 1 128 0 most; shards = 4; hot = None; absent = false; rolling = false }
 
 -- a frontier two bits below the root
 abbrev pub at : Bool → Bool → List Bool

@@ -3,21 +3,32 @@ ghost use Rattle.std.specs.Prelude.{◌≡◌, ◌<◌, ◌↔◌, [], replicate
 ghost use Rattle.host_core.specs.World.{set_up};
 ghost use Rattle.host_world.specs.declared.fault.ClockEnd.{ClockEnd};
 ghost use Rattle.host_world.specs.declared.fault.WorldFault.TheVariants as faults;
-ghost use Rattle.host_world.specs.Settings.{IsSettings};
-ghost use Rattle.host_world.specs.ShippedHost.{shipped_host};
+ghost use Rattle.shipped_host.specs.Settings.{IsSettings};
+ghost use Rattle.shipped_host.specs.ShippedHost.{shipped_host};
 ghost use Rattle.host_world.specs.Shown.{shown_world, digests_of, requests_of, settings_of};
-ghost use Rattle.host_world.specs.Behind.{AreInRange, HaveShortValues, host_of, StandsWith};
+ghost use Rattle.shipped_host.specs.Ranges.{AreInRange, HaveShortValues};
+ghost use Rattle.host_world.specs.Behind.{host_of, StandsWith};
 
 use crate::fault::{ClockEnd, WorldFault};
 use crate::seats::seats_for;
-use crate::settings::Settings;
 use crate::worker::workers_for;
 use crate::world::World;
+use base_words::Memory;
 use host_plan::{SetupFault, setup};
 use lamport_clocks::Clock;
 use record_hash::Digests;
 use script_text::Requests;
+use shipped_host::Settings;
 use std::alloc::Global;
+
+// So many times the same number.
+fn repeated(alloc: Global, number: u32, count: usize) -> Result<Vec<u32>, Memory>
+    ensures repeated { IfOk result (λ numbers. numbers.items ≡ replicate count number) }
+{
+    let mut numbers = Vec::with_capacity(alloc, count)?;
+    numbers.resize(count, number)?;
+    Ok(numbers)
+}
 
 impl<'a, D: Digests> World<'a, D> {
     /// The world behind the setup, which worker 0 did, for these requests. It keeps taking memory from `alloc`.
@@ -55,6 +66,12 @@ impl<'a, D: Digests> World<'a, D> {
         };
         let shards = seats_for(alloc, contents)?;
         let workers = workers_for(alloc, header, settings.shards, commands)?;
+        let scanned = repeated(alloc, header.first, usize::from(header.verifiers))?;
+        let phase = if settings.rolling {
+            requests.len() - 1
+        } else {
+            0
+        };
         Ok(World {
             alloc,
             d,
@@ -62,9 +79,11 @@ impl<'a, D: Digests> World<'a, D> {
             requests,
             shards,
             workers,
-            phase: 0,
+            phase,
             closing: false,
             over: false,
+            newest: header.first,
+            scanned,
         })
     }
 }

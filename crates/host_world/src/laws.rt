@@ -1,70 +1,33 @@
-//! What follows from the definitions of the shipped host. These functions do nothing: their contracts are the laws.
-ghost use Rattle.std.specs.Prelude.{◌≡◌, ℕ, ◌<◌, Bool, List, [], ◌∷◌, ◌++◌, Option, Some, IfSome};
-ghost use Rattle.lamport_clocks.specs.Reading.{Reading};
-ghost use Rattle.record_text.specs.declared.request.Request.{Request};
-ghost use Rattle.merkle_records.specs.Merkle.{Digest, GivesDigests};
+//! What holds of worlds behind the setup, and what is logged for scripts that were worked out by hand. These functions do nothing:
+//! their contracts are the laws.
+ghost use Rattle.std.specs.Prelude.{◌≡◌, List, [], ◌∷◌, ◌++◌, length, Some};
 ghost use Rattle.record_hash.specs.Functions.{DigestFunctions};
+ghost use Rattle.merkle_records.specs.Merkle.{GivesDigests};
 ghost use Rattle.host_core.specs.World.{World};
-ghost use Rattle.script_text.specs.declared.task.Task.{Task};
-ghost use Rattle.host_world.specs.declared.settings.Settings.{Settings};
+ghost use Rattle.host_core.specs.Core.{IsStanding};
+ghost use Rattle.host_shard.specs.Content.{Content};
+ghost use Rattle.shipped_host.specs.declared.settings.Settings.{Settings};
+ghost use Rattle.shipped_host.specs.ShippedHost.{shipped_host};
+ghost use Rattle.host_fits.specs.Promise.{IsPromised};
+ghost use Rattle.host_fits.specs.Mirroring.{PlacesMirror};
 ghost use Rattle.host_world.specs.Behind.{IsBehindSetup};
-ghost use Rattle.host_world.specs.Orderly.{IsOrderly};
 ghost use Rattle.host_core.specs.WorldEvent.{takes, serves, advances, moves};
+ghost use Rattle.script_text.specs.declared.task.Task.{Task};
 ghost use Rattle.host_world.specs.Worked.{serving, put_five, get_five, place_five, end_behind, ended_at, in_last_epoch, two_shards, most, logs_behind, last_close, empty_log, five_events, five_log, stopped_log, between_events, between_logs, before_events, before_logs, behind_events, behind_logs, two_at_five, AreEnabledBehind};
 ghost use Rattle.host_world.specs.WorkedKeys.{apart_events, apart_logs, deleted_events, deleted_log, parted_events, parted_log, four_shards, four_events, four_log};
-ghost use Rattle.host_core.specs.Host.{Done};
-ghost use Rattle.host_plan.specs.Plan.{Owns};
-ghost use Rattle.host_shard.specs.Content.{Content};
-ghost use Rattle.protection_moves.specs.Stage.{Stage};
-ghost use Rattle.protection_moves.specs.Transfer.{ArePromotable};
-ghost use Rattle.move_laws.specs.Stages.{StageMirrors};
-ghost use Rattle.host_world.specs.Promotable.{promotable_in};
-ghost use Rattle.host_world.specs.Moving.{move_promotable};
-ghost use Rattle.host_world.specs.Planned.{IsPlanned, IsMoved};
-ghost use Rattle.host_world.specs.ShippedHost.{serve_at};
-ghost use Rattle.host_shard.specs.declared.link.Link.{Link};
-ghost use Rattle.host_shard.specs.Chain.{IsChain};
-ghost use Rattle.host_shard.specs.Mirrors.{IsShard, IsKeyOf};
-ghost use Rattle.host_shard.specs.Shard.{Shard, tree_of};
-ghost use Rattle.host_world.specs.Links.{links_in};
 
-/// The chain from a shard's frontier to a key of it is one list of links: there is one, and no other.
-pub fn a_chain_is_its_links()
-    ensures there { (longest : ℕ) (shard : Shard) (key : List Bool) → IsShard longest shard → IsKeyOf shard key
-        → IsChain (tree_of shard) key shard.frontier shard.value (links_in shard key) }
-    ensures only { (longest : ℕ) (shard : Shard) (key : List Bool) (links : List Link) → IsShard longest shard → IsKeyOf shard key
-        → IsChain (tree_of shard) key shard.frontier shard.value links → links ≡ links_in shard key }
-{}
-
-/// What the shipped host serves is the plan of the request.
-pub fn what_is_served_is_planned()
-    ensures planned { (absent : Bool) (longest : ℕ) (digest : Digest) (worker : ℕ) (clock : Reading) (content : Content) (request : Request) (done : Done Content)
-        → Owns longest content request.key → serve_at absent digest worker clock content request ≡ Some done
-        → IsPlanned absent digest worker clock content request done }
-{}
-
-/// The keys that are promotable to become hot are one list: there is one, and no other.
-pub fn promotable_keys_are_one_list()
-    ensures there { (stage : Stage) (threshold : Option ℕ) → ArePromotable stage threshold (promotable_in stage threshold) }
-    ensures only { (stage : Stage) (threshold : Option ℕ) (promotable : List ℕ) → ArePromotable stage threshold promotable
-        → promotable ≡ promotable_in stage threshold }
-{}
-
-/// What the shipped host moves at a close is a move, for every threshold of at least one touch, where the stage mirrors. It
-/// is asked that digests have 32 bytes.
-pub fn what_is_moved_is_a_move()
-    ensures moved { (longest : ℕ) (digest : Digest) (worker : ℕ) (threshold : Option ℕ) (stage : Stage) (done : Done (List Content))
-        → GivesDigests digest → IfSome threshold (λ least. 0 < least) → StageMirrors longest digest stage
-        → move_promotable digest worker stage (promotable_in stage threshold) ≡ Some done
-        → IsMoved digest worker threshold stage done }
-{}
-
-/// A world behind the setup is orderly: in a phase the clocks stand in its epoch, and each shard mirrors what the verifiers
-/// hold of it and waits in the phase's epoch, or in the next once it was moved. It is asked that digests have 32 bytes.
-pub fn worlds_are_orderly()
-    ensures orderly { (functions : DigestFunctions) (settings : Settings) (script : List (List Task)) (world : World Content)
+/// A world behind the setup is as its host promises, and what an enabled event does at a shard is ready to be done. It is asked that
+/// digests have 32 bytes.
+pub fn worlds_are_as_promised()
+    ensures promised { (functions : DigestFunctions) (settings : Settings) (script : List (List Task)) (world : World Content)
         → GivesDigests functions.digest → IsBehindSetup functions settings script world
-        → IsOrderly functions settings script world }
+        → IsPromised (shipped_host functions settings script) world }
+    ensures standing { (functions : DigestFunctions) (settings : Settings) (script : List (List Task)) (world : World Content)
+        → GivesDigests functions.digest → IsBehindSetup functions settings script world
+        → IsStanding (PlacesMirror functions settings) (shipped_host functions settings script) world }
+    ensures shards { (functions : DigestFunctions) (settings : Settings) (script : List (List Task)) (world : World Content)
+        → GivesDigests functions.digest → IsBehindSetup functions settings script world
+        → length world.shards ≡ settings.shards }
 {}
 
 /// A host of two shards logs what was worked out by hand: for an empty script; for a put and a get of a key, also where the

@@ -9,8 +9,8 @@ mod handing_out;
 mod laws;
 mod lending;
 mod placing;
+mod round_laws;
 mod seats;
-mod settings;
 mod stepping;
 mod telling;
 mod worker;
@@ -19,11 +19,12 @@ mod world;
 pub use event::Event;
 pub use fault::{ClockEnd, EventStop, WorldFault};
 pub use laws::{
-    a_chain_is_its_links, clocks_end_as_worked_out, logs_are_as_worked_out,
-    orders_of_two_workers_are_enabled, promotable_keys_are_one_list, what_is_moved_is_a_move,
-    what_is_served_is_planned, worlds_are_orderly,
+    clocks_end_as_worked_out, logs_are_as_worked_out, orders_of_two_workers_are_enabled,
+    worlds_are_as_promised,
+};
+pub use round_laws::{
+    clocks_end_in_rounds_as_worked_out, rounds_log_as_worked_out, worked_rounds_are_enabled,
 };
 pub use seats::Seats;
-pub use settings::Settings;
 pub use worker::{Held, Worker};
 pub use world::World;

@@ -13,7 +13,7 @@ ghost use Rattle.host_shard.specs.Shown.{shown_content};
 ghost use Rattle.protection_moves.specs.Stage.{is_hot_at};
 ghost use Rattle.host_world.specs.Behind.{host_of, StandsBehind};
 ghost use Rattle.host_world.specs.Places.{place_of};
-ghost use Rattle.host_world.specs.Settings.{frontier_bits};
+ghost use Rattle.shipped_host.specs.Settings.{frontier_bits};
 ghost use Rattle.host_world.specs.Shown.{contents_of, shown_world, digests_of, settings_of};
 
 use crate::acting::PLACES_EACH;

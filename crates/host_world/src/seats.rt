@@ -8,8 +8,8 @@ ghost use Rattle.host_plan.specs.Plan.{Owns, IsOpenAt};
 ghost use Rattle.host_world.specs.Behind.{CanTakeSeats};
 ghost use Rattle.host_world.specs.Places.{place_of};
 ghost use Rattle.host_world.specs.Doing.{HasDone, HasServed};
-ghost use Rattle.host_world.specs.Moving.{stage_of, move_seats};
-ghost use Rattle.host_world.specs.ShippedHost.{serve_at, new_seats};
+ghost use Rattle.shipped_host.specs.Moving.{stage_of, move_seats};
+ghost use Rattle.shipped_host.specs.ShippedHost.{serve_at, new_seats};
 ghost use Rattle.host_world.specs.Shown.{contents_of, shown_seats};
 ghost use Rattle.host_world.specs.Workers.{shown_worker, writer_in};
 
@@ -91,8 +91,8 @@ impl Seats {
         )
     }
 
-    // A worker moves the shard for this threshold, where its clock does not pass its end: it answers that. Else, and for
-    // want of memory, all is as before.
+    // A worker takes what waits in the shard into its epoch, for this threshold, where its clock does not pass its end: it answers
+    // that. Else, and for want of memory, all is as before.
     pub(crate) fn move_by<D: Digests>(
         &mut self,
         alloc: Global,
@@ -109,23 +109,19 @@ impl Seats {
             → HasDone (move_seats (D.functions d.now).digest
             number threshold (stage_of worker.old.clock (contents_of self.old)))
             (shown_worker worker.old) (contents_of self.new) (shown_worker worker.new) }
-        ensures counted { result ≡ Ok true → self.new.moved ≡ true }
+        ensures same_close { self.new.moved ≡ self.old.moved }
         ensures worker_as_before { result ≢ Ok true → shown_worker worker.new ≡ shown_worker worker.old }
         ensures writer { writer_in worker.new ≡ writer_in worker.old }
-        ensures as_before { result ≢ Ok true → shown_seats self.new ≡ shown_seats self.old }
+        ensures as_before { result ≢ Ok true → contents_of self.new ≡ contents_of self.old }
     {
-        let moved = worker.move_seats(
+        worker.move_seats(
             alloc,
             d,
             number,
             threshold,
             &mut self.first,
             self.hot.as_mut_slice(),
-        )?;
-        if moved {
-            self.moved = true;
-        }
-        Ok(moved)
+        )
     }
 }
 

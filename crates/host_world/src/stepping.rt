@@ -48,6 +48,20 @@ impl<'a, D: Digests> World<'a, D> {
                 self.open();
                 Ok(None)
             }
+            Event::Raise(worker) => {
+                self.raise(*worker);
+                Ok(None)
+            }
+            Event::Enter(worker) => {
+                self.enter(*worker)?;
+                Ok(None)
+            }
+            Event::Scan(worker, place) => self.scan(*worker, *place),
+            Event::Finish(worker) => {
+                self.finish(*worker);
+                Ok(None)
+            }
+            Event::Stop(worker, found) => Ok(Some(self.stop(*worker, found))),
         }
     }
 

@@ -2,9 +2,9 @@
 ghost use Rattle.std.specs.Prelude.{◌≡◌};
 ghost use Rattle.host_world.specs.Shown.{shown_world, digests_of, requests_of, settings_of};
 
-use crate::settings::Settings;
 use crate::world::World;
 use script_text::Requests;
+use shipped_host::Settings;
 
 impl<'a, D> World<'a, D> {
     /// What its workers are asked.

@@ -15,8 +15,8 @@ ghost use Rattle.host_world.specs.Places.{place_of};
 ghost use Rattle.host_world.specs.Workers.{shown_worker, writer_in, AreBegun};
 ghost use Rattle.host_world.specs.Behind.{CanTakeSeats};
 ghost use Rattle.host_world.specs.Doing.{HasDone, HasServed};
-ghost use Rattle.host_world.specs.Moving.{stage_of, move_seats};
-ghost use Rattle.host_world.specs.ShippedHost.{serve_at};
+ghost use Rattle.shipped_host.specs.Moving.{stage_of, move_seats};
+ghost use Rattle.shipped_host.specs.ShippedHost.{serve_at};
 
 use base_words::Memory;
 use host_plan::{Commands, PlanFault, plan};

@@ -21,10 +21,10 @@ use Rattle.protection_moves.specs.Renewing.{renewed_places, renewing_each}
 use Rattle.protection_moves.specs.Transfer.{demotes, promotes, transfers_of, clock_needed}
 use Rattle.protection_moves.specs.Descent.{Descent}
 use Rattle.protection_moves.specs.Move.{begun, handed_out, moved}
-use Rattle.host_world.specs.declared.settings.Settings.{Settings}
-use Rattle.host_world.specs.Moving.{descents_for, descents_of, done_with, seats_of}
-use Rattle.host_world.specs.Promotable.{promotable_in}
-use Rattle.host_world.specs.ShippedHost.{serves_key, is_blob, shipped_host, rolling_host}
+use Rattle.shipped_host.specs.declared.settings.Settings.{Settings}
+use Rattle.shipped_host.specs.Moving.{descents_for, descents_of, done_with, seats_of}
+use Rattle.shipped_host.specs.Promotable.{promotable_in}
+use Rattle.shipped_host.specs.ShippedHost.{serves_key, is_blob, shipped_host}
 use Rattle.host_order.specs.Steady as plain
 use Rattle.round_order.specs.Steady.{HasOne, MovesOn, scanned_done, IsSteady}
 
@@ -41,7 +41,7 @@ one_same x y is = cc
 
 module _ (functions : DigestFunctions) (settings : Settings) (script : List (List Task)) (cold_only : settings.hot ≡ None) where
   abbrev host : Host Content Request
-  host = rolling_host functions settings script
+  host = shipped_host functions settings script
 
   -- where nothing waits there is no hot record
   no_hot : (others : List Content) → pending_of host others ≡ [] → hot_records others ≡ []

@@ -4,20 +4,20 @@ ghost use Rattle.record_hash.specs.Functions.{DigestFunctions};
 ghost use Rattle.record_text.specs.declared.request.Request.{Request};
 ghost use Rattle.script_text.specs.declared.task.Task.{Task};
 ghost use Rattle.host_shard.specs.Content.{Content};
-ghost use Rattle.host_world.specs.declared.settings.Settings.{Settings};
-ghost use Rattle.host_world.specs.ShippedHost.{rolling_host};
+ghost use Rattle.shipped_host.specs.declared.settings.Settings.{Settings};
+ghost use Rattle.shipped_host.specs.ShippedHost.{shipped_host};
 ghost use Rattle.host_fits.specs.Promise.{CanRun};
 ghost use Rattle.round_order.specs.Turn.{Turn};
 ghost use Rattle.round_order.specs.Steady.{IsSteady};
 ghost use Rattle.round_fits.specs.Rounds.{IsToldFromSetup, IsOneRound};
 
-use host_fits::{the_rolling_host_keeps_its_promise, the_shipped_host_is_steady};
+use host_fits::{the_shipped_host_is_steady, the_shipped_host_keeps_its_promise};
 
-/// Where no key becomes hot, a request or a scan moves the clock on, leaves one element with its stamp, and leaves the owners as they
+/// Where no key becomes hot, a request or a scan of the shipped host moves the clock on, leaves one element with its stamp, and leaves the owners as they
 /// were: so what the workers did in the round was one list of events, as `round_order` says.
 pub fn the_rolling_host_is_steady()
     ensures steady { (functions : DigestFunctions) (settings : Settings) (script : List (List Task))
-        → settings.hot ≡ None → IsSteady (rolling_host functions settings script) true }
+        → settings.hot ≡ None → IsSteady (shipped_host functions settings script) true }
 {
     the_shipped_host_is_steady();
 }
@@ -27,10 +27,10 @@ pub fn the_rolling_host_is_steady()
 pub fn rolling_rounds_are_lists_of_events()
     ensures rounds { (functions : DigestFunctions) (settings : Settings) (script : List (List Task)) (top : ℕ) (finals : ℕ → ℕ)
         (lists : List (List (Turn Content Request))) (pasts : List (List (List (Turn Content Request))))
-        → CanRun functions settings script → settings.hot ≡ None
-        → let host = rolling_host functions settings script in
+        → CanRun functions settings script → settings.rolling ≡ true
+        → let host = shipped_host functions settings script in
         IsToldFromSetup host top finals lists pasts → IsOneRound host top finals lists pasts }
 {
     the_rolling_host_is_steady();
-    the_rolling_host_keeps_its_promise();
+    the_shipped_host_keeps_its_promise();
 }

@@ -34,13 +34,13 @@ use Rattle.bundle_report.specs.Headline.{certified_exhibit, exhibit_at}
 use Rattle.host_rounds.specs.SoFar.{end_due}
 use Rattle.host_shard.specs.Content.{Content}
 use Rattle.host_core.specs.Accepted.{IsAccepted}
-use Rattle.host_core.specs.Host.{Host, scheme, machinery, script_of}
+use Rattle.host_core.specs.Host.{Host, scheme, machinery, asked, script_of}
 use Rattle.host_core.specs.World.{Worker, World, fresh, worker_at, logs_of, set_up}
 use Rattle.host_core.specs.WorldEvent.{WorldEvent, HasAdvanced, IsPhaseOver, AreEnabled, run_events}
-use Rattle.host_core.specs.Deeds.{answers_in}
+use Rattle.host_core.specs.Deeds.{answers_in, IsAnswering}
 use Rattle.host_core.specs.Core.{histories, pending_in}
-use Rattle.host_world.specs.declared.settings.Settings.{Settings}
-use Rattle.host_world.specs.ShippedHost.{shipped_host}
+use Rattle.shipped_host.specs.declared.settings.Settings.{Settings}
+use Rattle.shipped_host.specs.ShippedHost.{shipped_host}
 use Rattle.host_fits.specs.Promise.{CanRun, IsPromised}
 use Rattle.host_fits.specs.Holds.{ContentsHold}
 use Rattle.host_fits.proofs.TypedLaws.{logs_typed}
@@ -231,19 +231,29 @@ module _ (keeps : KeepsPromise) where
       IsSerial (certified_operations (scheme host) host.header.first (histories_at (scheme host) host.header (written_logs host.header (logs_of world)))))
   certifies_serial = serial keeps
 
-  pub finds_answers : HoldsOfRuns (λ host world. (i : ℕ) → i < length world.workers
+  pub finds_answers : HoldsOfRuns (λ host world. host.rolling ≡ false → (i : ℕ) → i < length world.workers
       → answers_in (get_or (histories_at (scheme host) host.header (written_logs host.header (logs_of world))) i []) ≡ take (worker_at host world i).served (script_of host i))
-  finds_answers functions settings script events can first enabled i within =
+  finds_answers functions settings script events can first enabled plain i within =
       ap answers_in (history_read keeps functions settings script events can first enabled i within)
-      ∙ (promise keeps functions settings script events can first enabled).answered i within
+      ∙ (promise keeps functions settings script events can first enabled).answered plain i within
 
-  pub finds_all_answers : HoldsOfRuns (λ host world. length host.script ≤ suc world.phase → IsPhaseOver host world
+  pub finds_answers_in_time : HoldsOfRuns (λ host world. (i : ℕ) → i < length world.workers
+      → IsAnswering host (answers_in (get_or (histories_at (scheme host) host.header (written_logs host.header (logs_of world))) i []))
+      (take (worker_at host world i).served (asked host i)))
+  finds_answers_in_time functions settings script events can first enabled i within =
+      let host = shipped_host functions settings script in
+      subst (λ (log : List Event). IsAnswering host (answers_in log)
+      (take (worker_at host (run_events host (set_up host) events) i).served (asked host i)))
+      (sym (history_read keeps functions settings script events can first enabled i within))
+      ((promise keeps functions settings script events can first enabled).in_time i within)
+
+  pub finds_all_answers : HoldsOfRuns (λ host world. host.rolling ≡ false → length host.script ≤ suc world.phase → IsPhaseOver host world
       → ((i : ℕ) → i < length world.workers → (worker_at host world i).stopped ≡ false)
       → (i : ℕ) → i < length world.workers
       → answers_in (get_or (histories_at (scheme host) host.header (written_logs host.header (logs_of world))) i []) ≡ script_of host i)
-  finds_all_answers functions settings script events can first enabled last over going i within =
+  finds_all_answers functions settings script events can first enabled plain last over going i within =
       ap answers_in (history_read keeps functions settings script events can first enabled i within)
-      ∙ (promise keeps functions settings script events can first enabled).done last over going i within
+      ∙ (promise keeps functions settings script events can first enabled).done plain last over going i within
 
 -- ---- what the contents hold
 

@@ -20,8 +20,8 @@ use Rattle.rewriting_laws.proofs.RewritingLaws.{log_can, log_rests}
 use Rattle.host_core.specs.Accepted.{IsAccepted, state_from, state_behind}
 use Rattle.host_core.specs.Host.{Host, scheme, machinery, resting}
 use Rattle.host_core.specs.World.{Worker}
-use Rattle.host_world.specs.declared.settings.Settings.{Settings}
-use Rattle.host_world.specs.ShippedHost.{shipped_host}
+use Rattle.shipped_host.specs.declared.settings.Settings.{Settings}
+use Rattle.shipped_host.specs.ShippedHost.{shipped_host}
 
 -- accepted commands lead to the state that they leave
 leads : (rules : Rules) (state : State) (commands : List Command) → IsAccepted (path_machinery_under rules) state commands

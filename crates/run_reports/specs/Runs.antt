@@ -15,8 +15,8 @@ use Rattle.host_shard.specs.Content.{Content}
 use Rattle.host_core.specs.Host.{Host}
 use Rattle.host_core.specs.World.{World, set_up}
 use Rattle.host_core.specs.WorldEvent.{WorldEvent, AreEnabled, run_events}
-use Rattle.host_world.specs.declared.settings.Settings.{Settings}
-use Rattle.host_world.specs.ShippedHost.{shipped_host}
+use Rattle.shipped_host.specs.declared.settings.Settings.{Settings}
+use Rattle.shipped_host.specs.ShippedHost.{shipped_host}
 use Rattle.host_fits.specs.Promise.{CanRun}
 
 -- P holds of whatever shipped host can run, and of the world behind every list of events that are enabled from its setup

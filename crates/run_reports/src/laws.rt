@@ -13,17 +13,17 @@ ghost use Rattle.stamp_order.specs.Serial.{IsSerial};
 ghost use Rattle.soundness.specs.Certified.{certified_count, certified_operations};
 ghost use Rattle.bundle_report.specs.BundleReport.{histories_at, refused_among};
 ghost use Rattle.bundle_report.specs.Headline.{exhibit_at};
-ghost use Rattle.host_core.specs.Host.{scheme, script_of};
+ghost use Rattle.host_core.specs.Host.{scheme, asked, script_of};
 ghost use Rattle.host_core.specs.World.{logs_of, worker_at, set_up};
 ghost use Rattle.host_core.specs.WorldEvent.{WorldEvent, HasAdvanced, IsPhaseOver, AreEnabled, run_events};
-ghost use Rattle.host_core.specs.Deeds.{answers_in};
+ghost use Rattle.host_core.specs.Deeds.{answers_in, IsAnswering};
 ghost use Rattle.host_core.specs.Core.{histories};
 ghost use Rattle.bundle_report.specs.Report.{EpochText};
 ghost use Rattle.host_rounds.specs.SoFar.{lines_due, operations_due, epochs_due, end_due};
 ghost use Rattle.record_text.specs.declared.request.Request.{Request};
 ghost use Rattle.script_text.specs.declared.task.Task.{Task};
-ghost use Rattle.host_world.specs.declared.settings.Settings.{Settings};
-ghost use Rattle.host_world.specs.ShippedHost.{shipped_host};
+ghost use Rattle.shipped_host.specs.declared.settings.Settings.{Settings};
+ghost use Rattle.shipped_host.specs.ShippedHost.{shipped_host};
 ghost use Rattle.host_fits.specs.Promise.{CanRun};
 ghost use Rattle.host_fits.specs.Holds.{ContentsHold};
 ghost use Rattle.run_reports.specs.Runs.{HoldsOfRuns, map_certified};
@@ -79,13 +79,16 @@ pub fn a_check_finds_nothing_to_show()
     the_shipped_host_keeps_its_promise();
 }
 
-/// The answers that a check reads of each worker's log are what the script asks of it first. Where the last phase is over
-/// and no clock ended, they are all that it asks.
+/// The answers that a check reads of each worker's log are what the script asks of it first, each in its phase's epoch, and of a
+/// rolling host in that or a later one. Where the last phase is over and no clock ended, they are all that it asks.
 pub fn a_check_finds_what_the_script_asks()
-    ensures answered { HoldsOfRuns (λ host world. (i : ℕ) → i < length world.workers
+    ensures answered { HoldsOfRuns (λ host world. host.rolling ≡ false → (i : ℕ) → i < length world.workers
         → answers_in (get_or (histories_at (scheme host) host.header (written_logs host.header (logs_of world))) i [])
         ≡ take (worker_at host world i).served (script_of host i)) }
-    ensures done { HoldsOfRuns (λ host world. length host.script ≤ suc world.phase → IsPhaseOver host world
+    ensures in_time { HoldsOfRuns (λ host world. (i : ℕ) → i < length world.workers
+        → IsAnswering host (answers_in (get_or (histories_at (scheme host) host.header (written_logs host.header (logs_of world))) i []))
+        (take (worker_at host world i).served (asked host i))) }
+    ensures done { HoldsOfRuns (λ host world. host.rolling ≡ false → length host.script ≤ suc world.phase → IsPhaseOver host world
         → ((i : ℕ) → i < length world.workers → (worker_at host world i).stopped ≡ false)
         → (i : ℕ) → i < length world.workers
         → answers_in (get_or (histories_at (scheme host) host.header (written_logs host.header (logs_of world))) i []) ≡ script_of host i) }

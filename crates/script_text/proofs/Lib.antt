@@ -6,6 +6,8 @@ mod ScriptLemmas
 mod GeneratorLemmas
 mod KeysLemmas
 mod TextLemmas
+mod HeadLemmas
+mod ExtentLemmas
 mod WrittenWordLemmas
 mod WrittenLemmas
 mod SpelledWordLemmas

@@ -4,4 +4,6 @@ pub mod Words
 pub mod Script
 pub mod Text
 pub mod Generator
+pub mod Heads
+pub mod Extents
 pub use Rattle.record_text.specs

@@ -3,31 +3,42 @@ ghost use Rattle.std.specs.Prelude.{◌≡◌, ◌<◌, ◌∷◌, [], length, I
 ghost use Rattle.std.specs.List.{slice_index_or};
 ghost use Rattle.script_text.specs.Script.{script_of, then_line, IsFaultOf};
 
+use crate::extent::Extent;
 use crate::fault::ScriptFault;
 use crate::line::read_line;
+use crate::phase::Phase;
 use crate::splitting::split_line;
-use crate::task::{Line, Task};
+use crate::task::Line;
+use crate::task_list::TaskList;
 use base_words::Memory;
 use lamport_clocks::Header;
 use std::alloc::Global;
 use std::marker::Model;
-use std::mem;
 
 /// What workers are asked: phases, at least one, each a list of tasks. Between two phases an epoch closes.
 /// Contracts see the list of the phases.
+///
+/// A task takes 32 bytes beside those of its data value, and a phase 16.
 #[derive(Debug, Drop)]
 pub struct Requests {
-    closed: Vec<Vec<Task>>,
-    last: Vec<Task>,
+    // The tasks of all phases, one phase behind another.
+    tasks: TaskList,
+    closed: Vec<Extent>,
+    // Where the last phase begins.
+    last: usize,
 }
 
 impl Model for Requests {
-    ghost use Rattle.std.specs.Prelude.{List, [], ◌∷◌, ◌++◌, map};
+    ghost use Rattle.std.specs.Prelude.{◌≤◌, List, [], ◌∷◌, ◌++◌, length, map, drop};
+    ghost use Rattle.std.specs.List.{AllByRecursion};
     ghost use Rattle.script_text.specs.declared.task.Task.{Task};
+    ghost use Rattle.script_text.specs.Extents.{phase_at, IsAmong};
 
     ghost Value = { List (List Task) };
 
-    ghost view = { λ r. map (λ phase. phase.items) r.closed.items ++ r.last.items ∷ [] };
+    ghost view = { λ r. map (phase_at r.tasks) r.closed.items ++ drop r.last r.tasks ∷ [] };
+
+    ghost invariant = { λ r. AllByRecursion (IsAmong (length r.tasks)) r.closed.items × (r.last ≤ length r.tasks) };
 }
 
 impl Requests {
@@ -36,8 +47,9 @@ impl Requests {
         ensures value { result ≡ [] ∷ [] }
     {
         Requests {
+            tasks: TaskList::new(alloc),
             closed: Vec::new(alloc),
-            last: Vec::new(alloc),
+            last: 0,
         }
     }
 
@@ -74,10 +86,7 @@ impl Requests {
         ensures err { OnErr result (self.new ≡ self.old) }
     {
         match line {
-            Line::Task(task) => {
-                self.last.push(task)?;
-                Ok(())
-            }
+            Line::Task(task) => self.tasks.push(&task),
             Line::Epoch => self.close(),
         }
     }
@@ -91,14 +100,13 @@ impl Requests {
     }
 
     /// What is asked in the phase of this number, from 0, in order.
-    pub fn phase(&self, number: usize) -> &[Task]
+    pub fn phase(&self, number: usize) -> Phase<'_>
         requires there { number < length self.now }
-        ensures value { result.now ≡ slice_index_or self.now number [] }
+        ensures value { result ≡ slice_index_or self.now number [] }
     {
-        if number < self.closed.len() {
-            self.closed[number].as_slice()
-        } else {
-            self.last.as_slice()
+        match self.closed.get(number) {
+            Some(extent) => self.tasks.between(extent.begin, extent.end),
+            None => self.tasks.between(self.last, self.tasks.len()),
         }
     }
 
@@ -107,14 +115,12 @@ impl Requests {
         ensures added { OnOk result (self.new ≡ then_line self.old Line.Epoch) }
         ensures err { OnErr result (self.new ≡ self.old) }
     {
-        let alloc = *self.last.allocator();
-        let phase = mem::replace(&mut self.last, Vec::new(alloc));
-        match self.closed.push(phase) {
-            Ok(()) => Ok(()),
-            Err(full) => {
-                self.last = full.value;
-                Err(Memory)
-            }
-        }
+        let end = self.tasks.len();
+        self.closed.push(Extent {
+            begin: self.last,
+            end,
+        })?;
+        self.last = end;
+        Ok(())
     }
 }

@@ -4,10 +4,11 @@ ghost use Rattle.std.specs.Fmt.{decimal};
 ghost use Rattle.hex.specs.Hex.{encode_lower};
 ghost use Rattle.script_text.specs.Text.{value_word, request_words, task_text, phase_text, script_text};
 
+use crate::phase::Phase;
 use crate::requests::Requests;
-use crate::task::Task;
+use crate::task_ref::TaskRef;
 use base_words::Memory;
-use record_text::{LONGEST_BLOB, Request};
+use record_text::LONGEST_BLOB;
 use std::alloc::Global;
 
 /// The script of these phases. It is read as them.
@@ -25,41 +26,41 @@ pub fn write_script(alloc: Global, requests: &Requests) -> Result<Vec<u8>, Memor
 }
 
 // Adds the lines of a phase.
-fn write_phase(phase: &[Task], text: &mut Vec<u8>) -> Result<(), Memory>
-    ensures appended { OnOk result (text.new.items ≡ text.old.items ++ phase_text phase.now) }
+fn write_phase(phase: Phase, text: &mut Vec<u8>) -> Result<(), Memory>
+    ensures appended { OnOk result (text.new.items ≡ text.old.items ++ phase_text phase.entry) }
 {
     for task in phase {
-        write_task(task, text)?;
+        write_task(&task, text)?;
     }
     Ok(())
 }
 
 // Adds the line of a task.
 #[tactic(auto, unfolding(crate::specs::Text::task_line))]
-fn write_task(task: &Task, text: &mut Vec<u8>) -> Result<(), Memory>
+fn write_task(task: &TaskRef, text: &mut Vec<u8>) -> Result<(), Memory>
     ensures appended { OnOk result (text.new.items ≡ text.old.items ++ task_text task.now) }
 {
-    write_decimal(u128::from(task.worker), text)?;
-    write_request(&task.request, text)?;
+    write_decimal(u128::from(task.worker()), text)?;
+    write_request(task, text)?;
     text.push(b'\n')?;
     Ok(())
 }
 
 // Adds the words behind the number of a worker.
-fn write_request(request: &Request, text: &mut Vec<u8>) -> Result<(), Memory>
+fn write_request(task: &TaskRef, text: &mut Vec<u8>) -> Result<(), Memory>
     ensures appended { OnOk result (text.new.items ≡ text.old.items
-        ++ request_words request.now.put request.now.key request.now.value) }
+        ++ request_words task.now.request.put task.now.request.key task.now.request.value) }
 {
-    if !request.put {
+    if !task.is_put() {
         text.extend_from_slice(b" get ")?;
-        return write_decimal(request.key, text);
+        return write_decimal(task.key(), text);
     }
-    let Some(bytes) = request.value.bytes() else {
+    let Some(bytes) = task.value().bytes() else {
         text.extend_from_slice(b" del ")?;
-        return write_decimal(request.key, text);
+        return write_decimal(task.key(), text);
     };
     text.extend_from_slice(b" put ")?;
-    write_decimal(request.key, text)?;
+    write_decimal(task.key(), text)?;
     text.push(b' ')?;
     write_value(bytes, text)
 }

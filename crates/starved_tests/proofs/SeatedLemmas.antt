@@ -12,7 +12,7 @@ use Rattle.host_shard.specs.declared.content.HotRecord.{HotRecord}
 use Rattle.host_shard.specs.Content.{pending}
 use Rattle.host_shard.specs.Shown.{shown_content}
 use Rattle.host_plan.specs.Plan.{Owns}
-use Rattle.host_table.specs.declared.hand.Hand.{Hand}
+use Rattle.host_epochs.specs.declared.hand.Hand.{Hand}
 use Rattle.host_table.specs.declared.told.Service.{Service}
 use Rattle.host_table.specs.Calls.{AreAll, IsNew}
 use Rattle.host_table.specs.Terms.{Terms, IsMaking, IsPlaceOf, IsClockOf, IsStamped, IsStampOf, epoch_in}

@@ -10,7 +10,7 @@ use Rattle.host_shard.specs.declared.content.Content as code
 use Rattle.host_shard.specs.Content.{Content, pending}
 use Rattle.host_shard.specs.Shown.{shown_content}
 use Rattle.host_plan.specs.Plan.{Owns}
-use Rattle.host_table.specs.declared.hand.Hand.{Hand}
+use Rattle.host_epochs.specs.declared.hand.Hand.{Hand}
 use Rattle.host_table.specs.Hands.{services, stop, IsFree}
 use Rattle.host_table.specs.Terms.{Terms, IsClockOf, IsPlaceOf}
 use Rattle.host_table.specs.Told.{TakesUp}

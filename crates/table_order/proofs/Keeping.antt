@@ -8,8 +8,8 @@ use Rattle.script_text.specs.declared.task.Task.{Task}
 use Rattle.host_shard.specs.Content.{Content}
 use Rattle.host_plan.specs.Plan.{CanServe, IsPlan, IsPastEnd, clock_after}
 use Rattle.host_plan.specs.declared.plans.Plan.{Plan}
-use Rattle.host_world.specs.declared.settings.Settings.{Settings}
-use Rattle.host_world.specs.ShippedHost.{shipped_host}
+use Rattle.shipped_host.specs.declared.settings.Settings.{Settings}
+use Rattle.shipped_host.specs.ShippedHost.{shipped_host}
 
 -- a plan is what it does for the request, where no counter passes the end
 abbrev pub DoesPlans : DigestFunctions → Settings → List (List Task) → Type 0

@@ -22,11 +22,13 @@ use Rattle.host_laws.specs.Mirroring.{ContentMirrors}
 use Rattle.protection_moves.specs.Stage.{hot_records, hot_paths}
 use Rattle.move_laws.proofs.PlaceLaws.{one_of-all}
 use Rattle.host_table.specs.Terms.{Terms, place_count, first_at, IsMaking}
-use Rattle.host_world.specs.declared.settings.Settings.{Settings}
-use Rattle.host_world.specs.Orderly.{IsOrderly}
-use Rattle.host_world.specs.Seated.{IsHotPlace, SeatsMirror, wide_among}
-use Rattle.host_world.specs.ShippedHost.{shipped_host}
-use Rattle.host_world.proofs.PlaceLaws.{hot_there, place_there}
+use Rattle.shipped_host.specs.declared.settings.Settings.{Settings}
+use Rattle.host_core.specs.Core.{IsStanding}
+use Rattle.host_fits.specs.Mirroring.{PlacesMirror}
+use Rattle.host_fits.proofs.StandingLaws.{tree_there}
+use Rattle.shipped_host.specs.Seated.{IsHotPlace, SeatsMirror, wide_among}
+use Rattle.shipped_host.specs.ShippedHost.{shipped_host}
+use Rattle.shipped_host.proofs.PlaceLaws.{hot_there, place_there}
 use Rattle.table_order.specs.Mirroring.{shard_at_making, hot_keys_at, IsOfTree, MirrorsAtMaking}
 use Rattle.table_order.specs.Phases.{AreTermsOf}
 use Rattle.table_order.proofs.PlaceLemmas.{place_back, five_seats, shard_there}
@@ -66,16 +68,16 @@ module _ (longest : ℕ) (digest : Digest) (seats : List Content) (mirrors : Sea
 -- ---- the table
 
 module _ (functions : DigestFunctions) (settings : Settings) (script : List (List Task)) (world : World Content)
-    (orderly : IsOrderly functions settings script world) (terms : Terms) (made : AreTermsOf (shipped_host functions settings script) settings.absent world terms) where
+    (standing : IsStanding (PlacesMirror functions settings) (shipped_host functions settings script) world) (terms : Terms) (made : AreTermsOf (shipped_host functions settings script) settings.absent world terms) where
   module _ (place : ℕ) (there : place < place_count terms) where
     abbrev seats : List Content
     seats = (shard_at world (place / 5)).contents
 
     in_shard : place / 5 < length world.shards
-    in_shard = shard_there functions settings script world orderly terms made place there
+    in_shard = shard_there functions settings script world standing terms made place there
 
     abbrev mirrored : SeatsMirror (longest_of settings.header) functions.digest seats
-    mirrored = (orderly.shards (place / 5) in_shard).mirrors
+    mirrored = (standing.mirrored (place / 5) in_shard).mirrors
 
     -- a place of the same shard
     numbered : (seat : ℕ) → seat < 5 → shown_content (first_at terms (place / 5 * 5 + seat)) ≡ get_or seats seat vacant
@@ -94,7 +96,7 @@ module _ (functions : DigestFunctions) (settings : Settings) (script : List (Lis
         cut = take 5 (drop (place / 5 * 5) terms.contents)
 
         five : length seats ≡ 5
-        five = five_seats functions settings script world orderly terms made (place / 5) in_shard
+        five = five_seats functions settings script world standing terms made (place / 5) in_shard
 
         many : length (shard_at_making terms place) ≡ 5
         many = omega (arith, length-map cut shown_content, length-take 5 (drop (place / 5 * 5) terms.contents), length-drop (place / 5 * 5) terms.contents, in_shard, made.places)
@@ -117,7 +119,7 @@ module _ (functions : DigestFunctions) (settings : Settings) (script : List (Lis
     place_tree =
         subst (λ (header : Header). IsOfTree (wide_of header) (shown_content (first_at terms place))) (sym made.header)
         (subst (λ (content : Content). IsOfTree (wide_of settings.header) content) (sym own)
-        (subst (λ (wide : Bool). IsOfTree wide (get_or seats (place % 5) vacant)) (orderly.shards (place / 5) in_shard).tree
+        (subst (λ (wide : Bool). IsOfTree wide (get_or seats (place % 5) vacant)) (tree_there functions settings (place / 5) seats (standing.mirrored (place / 5) in_shard))
         (seat_tree (longest_of settings.header) functions.digest seats mirrored (place % 5))))
 
   -- The table is made of contents that mirror.

@@ -1,61 +1,40 @@
 -- What a world at rest lends can be made a table.
 use Rattle.std.proofs.Common.{◌≡◌, ◌⊎◌, ℕ, zero, suc, ◌-◌, ◌<◌, Bool, true, false, List, [], ◌∷◌, ◌++◌, length, map, get_or, Option, Some, None, inl, inr, refl, sym, ◌∙◌, ap, subst, arith}
 use Rattle.std.specs.List.{flat_map, AllByRecursion}
-use Rattle.std.proofs.lemmas.List.{length-map, length-append, length-replicate}
+use Rattle.std.proofs.lemmas.List.{length-map, length-append}
+use Rattle.std.proofs.lemmas.Nat.{pow_pos}
 use Rattle.std.proofs.lemmas.List.Concat.{flat_map-append}
 use Rattle.std.proofs.Math.ListN.{get_or-map}
 use Rattle.std.proofs.lemmas.Option.{none-some, same_Some}
-use Rattle.tree_keys.specs.Path.{root_of}
 use Rattle.lamport_clocks.specs.declared.header.Header.{Header}
 use Rattle.record_hash.specs.Functions.{DigestFunctions}
 use Rattle.record_text.specs.declared.element.Element.{Element}
 use Rattle.record_text.specs.declared.request.Request.{Request}
-use Rattle.record_text.specs.Tree.{wide_of}
-use Rattle.merkle_records.specs.Merkle.{GivesDigests}
 use Rattle.script_text.specs.declared.task.Task.{Task}
 use Rattle.soundness.specs.Certified.{all_events}
 use Rattle.soundness.specs.Timed.{added_among, evicted_among}
-use Rattle.host_core.specs.Core.{histories, pending_in, IsEven}
+use Rattle.host_core.specs.Core.{histories, pending_in, IsEven, IsStanding}
 use Rattle.host_core.specs.Deeds as deeds
 use Rattle.host_core.specs.Deeds.{pending_of}
 use Rattle.host_core.specs.Host.{Host, scheme}
 use Rattle.host_core.specs.World.{Seats, World, fresh, unmoved, shard_at, logs_of, epoch_of, set_up}
 use Rattle.host_core.specs.WorldEvent.{WorldEvent, step, run_events}
 use Rattle.host_order.specs.Told.{IsAtRest}
-use Rattle.host_plan.specs.Setup.{child, paths_below}
 use Rattle.host_shard.specs.declared.content.Content as code
 use Rattle.host_shard.specs.declared.content.Content.TheVariants.{Cold, Hot, Vacant}
 use Rattle.host_shard.specs.Content.{Content, vacant, pending}
 use Rattle.host_shard.specs.Shown.{shown_content}
 use Rattle.host_laws.specs.Served.{waiting}
 use Rattle.host_table.specs.Terms.{epoch_in, IsStampOf, IsStamped, IsMaking}
-use Rattle.host_world.specs.declared.settings.Settings.{Settings}
+use Rattle.shipped_host.specs.declared.settings.Settings.{Settings}
 use Rattle.host_world.specs.Behind.{IsBehindSetup}
 use Rattle.host_world.specs.Lending.{all_contents}
-use Rattle.host_world.specs.Orderly.{IsOrderly}
-use Rattle.host_world.specs.Settings.{frontier_bits}
-use Rattle.host_world.specs.ShippedHost.{shipped_host}
-use Rattle.host_world.proofs.FrontLaws.{length-step}
-use Rattle.host_world.proofs.FrontierLaws.{frontier_in, frontiers_behind}
+use Rattle.host_fits.specs.Mirroring.{PlacesMirror}
+use Rattle.shipped_host.specs.ShippedHost.{shipped_host}
 use Rattle.table_order.proofs.EvictedLemmas.{IsWithin, histories_within, all-permuted}
 use Rattle.table_order.proofs.ListLemmas.{all-back, all-flat, all-part}
 
 -- ---- how many there are
-
--- events leave as many workers
-run_workers : {C R : Type 0} (host : Host C R) (world : World C) (events : List (WorldEvent R))
-    → length (run_events host world events).workers ≡ length world.workers
-run_workers host world [] = refl
-run_workers host world (event ∷ events) = run_workers host (step host world event) events ∙ length-step host world event
-
-some_paths : (levels : ℕ) (path : List Bool) → 0 < length (paths_below levels path)
-some_paths zero path = omega arith
-some_paths (suc levels) path =
-    omega (
-      arith,
-      length-append (paths_below levels (child path false)) (paths_below levels (child path true)),
-      some_paths levels (child path false),
-    )
 
 some_contents : {C : Type 0} (shards : List (Seats C)) → 0 < length shards
     → ((s : ℕ) → s < length shards → 0 < length (get_or shards s (unmoved [])).contents) → 0 < length (all_contents shards)
@@ -127,28 +106,17 @@ stamped_in header epoch contents all place there = λ element waits. go element 
 
 -- ---- a world at rest
 
-module _ (functions : DigestFunctions) (settings : Settings) (script : List (List Task)) (world : World Content) (digests : GivesDigests functions.digest)
-    (behind : IsBehindSetup functions settings script world) (orderly : IsOrderly functions settings script world) where
+module _ (functions : DigestFunctions) (settings : Settings) (script : List (List Task)) (world : World Content)
+    (standing : IsStanding (PlacesMirror functions settings) (shipped_host functions settings script) world) (shards : length world.shards ≡ settings.shards)
+    (behind : IsBehindSetup functions settings script world) where
   abbrev host : Host Content Request
   host = shipped_host functions settings script
 
-  workers_are : length world.workers ≡ settings.header.verifiers
-  workers_are =
-      ap (λ (w : World Content). length w.workers) behind.is
-      ∙ run_workers host (set_up host) behind.events
-      ∙ omega (arith, length-replicate (settings.header.verifiers - 1) (fresh settings.header), behind.settings_fit.header.some_verifiers)
-
   some_shards : 0 < length world.shards
-  some_shards =
-      omega (
-        arith,
-        length-map world.shards (λ (seats : Seats Content). frontier_in seats.contents),
-        ap (λ (paths : List (List Bool)). length paths) (frontiers_behind functions settings script digests world behind),
-        some_paths (frontier_bits settings.shards) (root_of (wide_of settings.header)),
-      )
+  some_shards = let count = behind.settings_fit.shards in omega (arith, shards, count.power, pow_pos count.bits)
 
   some_seats : (s : ℕ) → s < length world.shards → 0 < length (shard_at world s).contents
-  some_seats s there = omega (arith, ap (λ (xs : List Content). length xs) (orderly.shards s there).mirrors.is)
+  some_seats s there = omega (arith, ap (λ (xs : List Content). length xs) (standing.mirrored s there).mirrors.is)
 
   module _ (rest : IsAtRest host world) (even : IsEven host world) where
     -- the element is stamped of the phase's epoch
@@ -184,8 +152,8 @@ module _ (functions : DigestFunctions) (settings : Settings) (script : List (Lis
         ap (λ (xs : List Content). length xs) shows,
         some_contents world.shards some_shards some_seats,
       );
-      some = omega (arith, workers_are, behind.settings_fit.header.some_verifiers);
-      few = omega (arith, workers_are);
+      some = omega (arith, standing.workers, behind.settings_fit.header.some_verifiers);
+      few = omega (arith, standing.workers);
       stamped = stamped_in settings.header (epoch_of host world) contents
           (subst (λ (xs : List Content). AllByRecursion IsGood (flat_map waits_with xs)) (sym shows) all_good);
     }

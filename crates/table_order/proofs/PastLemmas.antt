@@ -26,11 +26,13 @@ use Rattle.protection_moves.specs.Stage.{hot_paths}
 use Rattle.host_table.specs.declared.told.Service.{Service}
 use Rattle.host_table.specs.Terms.{Terms, place_count, first_at, IsPlaceOf}
 use Rattle.host_table.specs.Told as told
-use Rattle.host_world.specs.declared.settings.Settings.{Settings}
-use Rattle.host_world.specs.Orderly.{IsOrderly}
+use Rattle.shipped_host.specs.declared.settings.Settings.{Settings}
+use Rattle.host_core.specs.Core.{IsStanding}
+use Rattle.host_fits.specs.Mirroring.{PlacesMirror}
+use Rattle.host_fits.proofs.StandingLaws.{tree_there}
 use Rattle.host_world.specs.Places.{place_of}
-use Rattle.host_world.specs.ShippedHost.{shipped_host}
-use Rattle.host_world.proofs.SeatLaws.{SeatServes, seat_serves}
+use Rattle.shipped_host.specs.ShippedHost.{shipped_host}
+use Rattle.shipped_host.proofs.SeatLaws.{SeatServes, seat_serves}
 use Rattle.table_order.specs.Servings.{serving_of, servings_of}
 use Rattle.table_order.specs.Phases.{AreTermsOf}
 use Rattle.table_order.proofs.Keeping.{DoesPlans}
@@ -131,7 +133,7 @@ pub record IsSmall (header : Header) (service : Service) : Type 0 where
   pub value : IsBlob (longest_of header) service.request.value
 
 module _ (functions : DigestFunctions) (settings : Settings) (script : List (List Task)) (world : World Content)
-    (orderly : IsOrderly functions settings script world) (terms : Terms) (made : AreTermsOf (shipped_host functions settings script) settings.absent world terms)
+    (standing : IsStanding (PlacesMirror functions settings) (shipped_host functions settings script) world) (terms : Terms) (made : AreTermsOf (shipped_host functions settings script) settings.absent world terms)
     (digests : GivesDigests functions.digest) (does : DoesPlans functions settings script)
     (running : (worker : ℕ) → worker < length world.workers → (worker_at (shipped_host functions settings script) world worker).stopped ≡ false) where
   -- A service is what the host does, where it can be served at the content that it finds.
@@ -144,9 +146,9 @@ module _ (functions : DigestFunctions) (settings : Settings) (script : List (Lis
       record {
         may = record {
           there = by;
-          at = is_place functions settings script world orderly terms made service.place served.at.there;
+          at = is_place functions settings script world standing terms made service.place served.at.there;
           running = running service.worker by;
-          owns = owns_there functions settings script world orderly terms made service.place served.at.there service.request served.at short;
+          owns = owns_there functions settings script world standing terms made service.place served.at.there service.request served.at short;
         };
         serves = does service.worker (shown_content service.before) (shown_content service.after) service.request service.clock service.later service.plan can plan
             (within (cases_lt service.clock.end (clock_after (shown_content service.before) service.clock).at.counter));
@@ -160,7 +162,7 @@ module _ (functions : DigestFunctions) (settings : Settings) (script : List (Lis
 
   module _ (place : ℕ) (there : place < place_count terms) where
     abbrev hot_keys : List (List Bool)
-    hot_keys = hot_paths (orderly.shards (place / 5) (shard_there functions settings script world orderly terms made place there)).mirrors.places
+    hot_keys = hot_paths (standing.mirrored (place / 5) (shard_there functions settings script world standing terms made place there)).mirrors.places
 
     abbrev first : Content
     first = shown_content (first_at terms place)
@@ -171,11 +173,12 @@ module _ (functions : DigestFunctions) (settings : Settings) (script : List (Lis
         let is_at : IsPlaceOf terms place service.request.key = subst (λ (n : ℕ). IsPlaceOf terms n service.request.key) at served.at in
         subst (λ (c : Content). SeatServes (longest_of settings.header) functions.digest hot_keys c service.request) (made.contents place there)
         (seat_serves (longest_of settings.header) functions.digest (shard_at world (place / 5)).contents
-        (orderly.shards (place / 5) (shard_there functions settings script world orderly terms made place there)).mirrors
+        (standing.mirrored (place / 5) (shard_there functions settings script world standing terms made place there)).mirrors
         (place % 5) service.request
         (subst (λ (wide : Bool). service.request.key < 2 ^ key_bits wide)
-        (sym (orderly.shards (place / 5) (shard_there functions settings script world orderly terms made place there)).tree) small.key)
-        (owns_there functions settings script world orderly terms made place there service.request is_at small.value))
+        (sym (tree_there functions settings (place / 5) (shard_at world (place / 5)).contents
+        (standing.mirrored (place / 5) (shard_there functions settings script world standing terms made place there)))) small.key)
+        (owns_there functions settings script world standing terms made place there service.request is_at small.value))
 
     from_mirrored : (x y : code.Content) (services : List Service) → IsStill first (shown_content x) → ContentMirrors (longest_of settings.header) functions.digest hot_keys (shown_content x)
         → told.Leads terms place x services y → AllByRecursion (IsSmall settings.header) services

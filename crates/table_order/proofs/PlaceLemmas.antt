@@ -23,11 +23,12 @@ use Rattle.host_shard.specs.Shown.{shown_content}
 use Rattle.host_plan.specs.Plan.{Owns}
 use Rattle.protection_moves.specs.Stage.{is_hot_at}
 use Rattle.host_table.specs.Terms.{Terms, place_count, first_at, IsPlaceOf}
-use Rattle.host_world.specs.declared.settings.Settings.{Settings}
-use Rattle.host_world.specs.Orderly.{IsOrderly}
+use Rattle.shipped_host.specs.declared.settings.Settings.{Settings}
+use Rattle.host_core.specs.Core.{IsStanding}
+use Rattle.host_fits.specs.Mirroring.{PlacesMirror}
 use Rattle.host_world.specs.Places.{place_of}
-use Rattle.host_world.specs.ShippedHost.{is_blob, serves_key, shipped_host}
-use Rattle.host_world.proofs.SeatLaws.{fits_blob}
+use Rattle.shipped_host.specs.ShippedHost.{is_blob, serves_key, shipped_host}
+use Rattle.shipped_host.proofs.SeatLaws.{fits_blob}
 use Rattle.table_order.specs.Phases.{AreTermsOf}
 
 -- the place of a number that is made of a shard and a seat
@@ -52,14 +53,14 @@ prefix_below frontier path below = go (side frontier path) refl below
     go (Some on) is some = prefix_of_side frontier path on is
 
 module _ (functions : DigestFunctions) (settings : Settings) (script : List (List Task)) (world : World Content)
-    (orderly : IsOrderly functions settings script world) (terms : Terms) (made : AreTermsOf (shipped_host functions settings script) settings.absent world terms) where
+    (standing : IsStanding (PlacesMirror functions settings) (shipped_host functions settings script) world) (terms : Terms) (made : AreTermsOf (shipped_host functions settings script) settings.absent world terms) where
   abbrev host : Host Content Request
   host = shipped_host functions settings script
 
   -- the seats of a shard are five
   pub five_seats : (s : ℕ) → s < length world.shards → length (shard_at world s).contents ≡ 5
   five_seats s there =
-      let mirrors = (orderly.shards s there).mirrors in
+      let mirrors = (standing.mirrored s there).mirrors in
       ap (λ (xs : List Content). length xs) mirrors.is ∙ ap (λ (n : ℕ). suc n) mirrors.four
 
   -- the shard of a place is there

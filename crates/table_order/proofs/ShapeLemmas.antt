@@ -11,8 +11,7 @@ use Rattle.host_order.specs.Serving.{Serving}
 use Rattle.host_order.specs.Told.{joined, joined_pasts, list_of, past_of}
 use Rattle.host_table.specs.declared.told.Service.{Service}
 use Rattle.host_table.specs.declared.views.Row.{Row}
-use Rattle.host_table.specs.Made.{new_row}
-use Rattle.host_table.specs.Phase.{row_at}
+use Rattle.host_table.specs.Phase.{new_row, row_at}
 use Rattle.host_table.specs.Told.{joined_from}
 use Rattle.host_world.specs.Places.{places_each}
 use Rattle.table_order.specs.Servings.{serving_of, servings_of, lists_of, pasts_at, pasts_from, pasts_of}

@@ -24,16 +24,16 @@ use Rattle.host_shard.specs.Shown.{shown_content}
 use Rattle.host_table.specs.declared.told.Service.{Service}
 use Rattle.host_table.specs.declared.told.Stop.{Stop}
 use Rattle.host_table.specs.declared.views.Row.{Row}
-use Rattle.host_table.specs.Made.{new_row}
-use Rattle.host_table.specs.Phase.{row_at, IsPhase}
+use Rattle.host_table.specs.Phase.{new_row, row_at, IsPhase}
 use Rattle.host_table.specs.Terms.{Terms, place_count, first_at}
 use Rattle.host_table.specs.Told as told
 use Rattle.host_table.specs.Told.{joined_from}
-use Rattle.host_world.specs.declared.settings.Settings.{Settings}
+use Rattle.shipped_host.specs.declared.settings.Settings.{Settings}
 use Rattle.host_world.specs.Behind.{IsBehindSetup}
-use Rattle.host_world.specs.Orderly.{IsOrderly}
+use Rattle.host_core.specs.Core.{IsStanding}
+use Rattle.host_fits.specs.Mirroring.{PlacesMirror}
 use Rattle.host_world.specs.Places.{places_each, place_of}
-use Rattle.host_world.specs.ShippedHost.{shipped_host}
+use Rattle.shipped_host.specs.ShippedHost.{shipped_host}
 use Rattle.table_order.specs.Servings.{serving_of, servings_of, lists_of, pasts_of, stop_of, stops_of}
 use Rattle.table_order.specs.Phases.{first_clock, IsTableOf}
 use Rattle.table_order.proofs.Keeping.{DoesPlans, EndsClocks}
@@ -45,7 +45,7 @@ use Rattle.table_order.proofs.TurnLemmas.{worker_chain, stop_clock, next_value, 
 
 module _ (functions : DigestFunctions) (settings : Settings) (script : List (List Task)) (world : World Content) (terms : Terms)
     (after : List code.Content) (rows : List Row) (is : IsTableOf functions settings script world terms rows) (phase : IsPhase terms after rows)
-    (orderly : IsOrderly functions settings script world) (does : DoesPlans functions settings script) where
+    (standing : IsStanding (PlacesMirror functions settings) (shipped_host functions settings script) world) (does : DoesPlans functions settings script) where
   abbrev host : Host Content Request
   host = shipped_host functions settings script
 
@@ -79,7 +79,7 @@ module _ (functions : DigestFunctions) (settings : Settings) (script : List (Lis
   pasts_done : AllByRecursion IsDone (joined_from 0 (place_count terms) phase.past)
   pasts_done = all-joined IsDone phase.past 0 (place_count terms) (λ place from below.
       let there : place < place_count terms = omega (arith, below) in
-      past_served functions settings script world orderly terms is.made is.digests does running place there (get_or after place Vacant) (phase.past place) (phase.leads place there)
+      past_served functions settings script world standing terms is.made is.digests does running place there (get_or after place Vacant) (phase.past place) (phase.leads place there)
       (all-numbered (IsSmall settings.header) phase.past 0 (place_count terms) place from below
       (all-moved (IsSmall settings.header) (services_in rows) (joined_from 0 (place_count terms) phase.past) phase.same rows_small)))
 
@@ -198,9 +198,9 @@ module _ (functions : DigestFunctions) (settings : Settings) (script : List (Lis
   stop_noted ends worker stop there stops = record {
     may = record {
       there = there;
-      at = is_place functions settings script world orderly terms is.made stop.place noted.at.there;
+      at = is_place functions settings script world standing terms is.made stop.place noted.at.there;
       running = running worker there;
-      owns = owns_there functions settings script world orderly terms is.made stop.place noted.at.there stop.request noted.at
+      owns = owns_there functions settings script world standing terms is.made stop.place noted.at.there stop.request noted.at
           (next_value functions settings script is.behind.values world.phase worker _ stop.request ((is.turns worker there).last stop stops));
     };
     next =
@@ -258,6 +258,7 @@ module _ (functions : DigestFunctions) (settings : Settings) (script : List (Lis
       → IsBehindSetup functions settings script (run_events host world (phase_events lists (stops_of rows)))
   one_behind ends steady orders = record {
     settings_fit = is.behind.settings_fit;
+    counters = is.behind.counters;
     keys = is.behind.keys;
     values = is.behind.values;
     events = is.behind.events ++ phase_events lists (stops_of rows);

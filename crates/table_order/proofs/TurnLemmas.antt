@@ -20,10 +20,10 @@ use Rattle.host_table.specs.declared.told.Stop.{Stop}
 use Rattle.host_table.specs.declared.views.Row.{Row}
 use Rattle.host_table.specs.Phase.{row_at}
 use Rattle.host_table.specs.Told.{Continues, TakesUp}
-use Rattle.host_world.specs.declared.settings.Settings.{Settings}
-use Rattle.host_world.specs.Behind.{AreInRange, HaveShortValues}
-use Rattle.host_world.specs.ShippedHost.{shipped_host}
-use Rattle.host_world.proofs.RangeLaws.{in_phases}
+use Rattle.shipped_host.specs.declared.settings.Settings.{Settings}
+use Rattle.shipped_host.specs.Ranges.{AreInRange, HaveShortValues}
+use Rattle.shipped_host.specs.ShippedHost.{shipped_host}
+use Rattle.shipped_host.proofs.RangeLaws.{in_phases}
 use Rattle.table_order.specs.Servings.{servings_of, stop_of, stops_from}
 use Rattle.table_order.specs.Phases.{first_clock, AreNext}
 use Rattle.table_order.proofs.ListLemmas.{all-got}

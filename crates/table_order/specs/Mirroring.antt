@@ -18,13 +18,15 @@ use Rattle.host_shard.specs.Shown.{shown_content}
 use Rattle.protection_moves.specs.Stage.{hot_paths}
 use Rattle.host_laws.specs.Mirroring.{ContentMirrors}
 use Rattle.host_laws.specs.Served.{waiting}
+use Rattle.host_epochs.specs.declared.told.Entry.{Entry}
+use Rattle.host_epochs.specs.declared.views.Desk.{Desk}
+use Rattle.host_epochs.specs.declared.views.Held.TheVariants.{Has}
+use Rattle.host_epochs.specs.declared.views.View.{View}
+use Rattle.host_epochs.specs.declared.views.View.TheVariants.{Working}
+use Rattle.host_epochs.specs.Plays.{held_in}
+use Rattle.host_epochs.specs.Rule.{Scene}
 use Rattle.host_table.specs.declared.told.Service.{Service}
-use Rattle.host_table.specs.declared.views.Desk.{Desk}
-use Rattle.host_table.specs.declared.views.Held.TheVariants.{Has}
-use Rattle.host_table.specs.declared.views.View.{View}
-use Rattle.host_table.specs.declared.views.View.TheVariants.{Working}
-use Rattle.host_table.specs.Plays.{held_in}
-use Rattle.host_table.specs.Rule.{Scene}
+use Rattle.host_table.specs.Services.{services_of}
 use Rattle.host_table.specs.Terms.{Terms, place_count, first_at, places_each, phase_epoch, IsStampOf, IsStamped, IsMaking}
 
 -- ---- the making
@@ -61,7 +63,7 @@ AreInRange terms services = AllByRecursion
 
 -- the same of the histories of all places
 abbrev pub HasRequestsInRange : Terms → Scene → Type 0
-HasRequestsInRange terms scene = (place : ℕ) → place < place_count terms → AreInRange terms (scene.past place)
+HasRequestsInRange terms scene = (place : ℕ) → place < place_count terms → AreInRange terms (services_of (scene.past place))
 
 -- this content is at home in its place's cell, whose word is 0
 abbrev pub IsAtHome : State code.Content View → ℕ → code.Content → Type 0
@@ -70,7 +72,7 @@ IsAtHome s place content = (slice_index s.words place ≡ 0) × (get_elem? s.hom
 -- a view of the table has this content of the place in hand
 abbrev pub IsInHand : State code.Content View → ℕ → code.Content → Type 0
 IsInHand s place content =
-    (number : ℕ) × (view : View) × (past : List Service) × (get_elem? s.views number ≡ some view) × (held_in view ≡ Has place content past)
+    (number : ℕ) × (view : View) × (past : List Entry) × (get_elem? s.views number ≡ some view) × (held_in view ≡ Has place content past)
 
 -- The content mirrors as at the making, with the same keys hot. The element with which it waits, if it does, is by a verifier
 -- of the bundle, of the phase's epoch, and its counter does not pass the end.

@@ -17,10 +17,10 @@ use Rattle.host_table.specs.declared.told.Stop.{Stop}
 use Rattle.host_table.specs.declared.views.Row.{Row}
 use Rattle.host_table.specs.Phase.{row_at}
 use Rattle.host_table.specs.Terms.{Terms, place_count, first_at}
-use Rattle.host_world.specs.declared.settings.Settings.{Settings}
+use Rattle.shipped_host.specs.declared.settings.Settings.{Settings}
 use Rattle.host_world.specs.Behind.{IsBehindSetup}
 use Rattle.host_world.specs.Places.{places_each, place_of}
-use Rattle.host_world.specs.ShippedHost.{shipped_host}
+use Rattle.shipped_host.specs.ShippedHost.{shipped_host}
 
 -- The table was made of the world: of its places in the order of their numbers, and for its workers, with the host's header
 -- and digests, and is told as the host is whether a get of a key that has no record makes none.

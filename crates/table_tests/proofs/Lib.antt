@@ -1,2 +1,4 @@
 mod ReadyLemmas
 mod TurnLemmas
+mod RoundLemmas
+mod StartLemmas

@@ -2,7 +2,7 @@
 use Rattle.std.proofs.Common.{◌≡◌, ℕ, zero, suc, ◌<◌, List, [], ◌∷◌, length, get_or, map, All, refl, sym, ap, ◌∙◌, subst, arith}
 use Rattle.lamport_clocks.specs.Reading.{Reading}
 use Rattle.atomic_table.specs.Seated.{TableId}
-use Rattle.host_table.specs.declared.hand.Hand.{Hand}
+use Rattle.host_epochs.specs.declared.hand.Hand.{Hand}
 use Rattle.host_table.specs.Calls.{AreAll, IsNew}
 use Rattle.host_table.specs.Hands.{worker_of, IsFree}
 use Rattle.host_table.specs.Terms.{Terms, IsClockOf}

@@ -3,7 +3,7 @@ use Rattle.std.specs.Prelude.{◌≡◌, ℕ, ◌<◌, ◌≤◌, Bool, false, L
 use Rattle.lamport_clocks.specs.Reading.{Reading}
 use Rattle.merkle_records.specs.Merkle.{Digest}
 use Rattle.atomic_table.specs.Seated.{TableId}
-use Rattle.host_table.specs.declared.hand.Hand.{Hand}
+use Rattle.host_epochs.specs.declared.hand.Hand.{Hand}
 use Rattle.host_table.specs.Terms.{Terms, IsClockOf, place_count}
 use Rattle.host_table.specs.Told.{TakesUp}
 use Rattle.host_table.specs.Hands.{worker_of, services, stop, IsFree}

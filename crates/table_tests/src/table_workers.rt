@@ -50,7 +50,7 @@ pub fn set_up<D: Digests>(
 }
 
 // The numbers of the tests' bundle, whose counters end here.
-fn header(end: u32) -> Header
+pub(crate) fn header(end: u32) -> Header
     ensures value { result ≡ header_by_path 64 128 1 end }
 {
     Header::by_path(64, 128, 1, end)

@@ -5,9 +5,9 @@ use Rattle.fv_outside.specs.Faults.{Rose}
 use Rattle.record_hash.specs.Functions.{DigestFunctions}
 use Rattle.script_text.specs.Text.{AreTasks}
 use Rattle.script_text.specs.declared.task.Task.{Task}
-use Rattle.host_world.specs.declared.settings.Settings.{Settings}
+use Rattle.shipped_host.specs.declared.settings.Settings.{Settings}
 use Rattle.host_world.specs.declared.world.World as code
-use Rattle.host_world.specs.ShippedHost.{turn_of}
+use Rattle.shipped_host.specs.ShippedHost.{turn_of}
 use Rattle.host_world.specs.Shown.{shown_world, digests_of, requests_of}
 use Rattle.host_world.specs.Behind.{AreOfOneHost}
 use Rattle.verifier_threads.specs.declared.accounts.Account.{Account}

@@ -24,12 +24,13 @@ use Rattle.host_shard.specs.Content.{Content}
 use Rattle.script_text.specs.declared.task.Task.{Task}
 use Rattle.script_text.specs.Text.{AreTasks, IsTask}
 use Rattle.host_world.specs.declared.fault.ClockEnd.{ClockEnd}
-use Rattle.host_world.specs.declared.settings.Settings.{Settings}
+use Rattle.shipped_host.specs.declared.settings.Settings.{Settings}
 use Rattle.host_world.specs.declared.world.World as code
 use Rattle.host_world.specs.Shown.{shown_world, digests_of, requests_of}
-use Rattle.host_world.specs.ShippedHost.{shipped_host, turn_of}
-use Rattle.host_world.specs.Settings.{IsSettings}
-use Rattle.host_world.specs.Behind.{AreInRange, HaveShortValues, AreOfOneHost, host_of, with_logs}
+use Rattle.shipped_host.specs.ShippedHost.{shipped_host, turn_of}
+use Rattle.shipped_host.specs.Settings.{IsSettings}
+use Rattle.shipped_host.specs.Ranges.{AreInRange, HaveShortValues}
+use Rattle.host_world.specs.Behind.{AreOfOneHost, host_of, with_logs}
 use Rattle.host_world.proofs.FrontLaws.{before_each-none}
 use Rattle.host_fits.specs.Promise.{CanRun}
 use Rattle.host_fits.specs.Holds.{ContentsHold}
@@ -102,6 +103,7 @@ module _ {C R : Type 0} (host : Host C R) where
 -- a world that is set up, of settings that suffice
 pub record IsRunningFrom (functions : DigestFunctions) (settings : Settings) (script : List (List Task)) (world : World Content) : Type 0 where
   pub settings_fit : IsSettings settings
+  pub plain : settings.rolling ≡ false
   pub counters : settings.shards ≤ settings.header.end
   pub keys : AreInRange settings.header script
   pub values : HaveShortValues settings.header script
@@ -126,6 +128,7 @@ running-new account functions settings script world rounds vault vault_after out
     ap (λ (workers : List Worker). record world { workers = workers }) (before_each-none settings.header.verifiers world.workers) ∙ from.is in
     record {
       settings_fit = from.settings_fit;
+      plain = from.plain;
       counters = from.counters;
       keys = from.keys;
       values = from.values;

@@ -14,7 +14,7 @@ use Rattle.bundle_report.specs.Logs.{empty_logs}
 use Rattle.bundle_report.specs.Report.{EpochText, told_by, operations_told}
 use Rattle.script_text.specs.declared.task.Task.{Task}
 use Rattle.host_world.specs.declared.fault.ClockEnd.{ClockEnd}
-use Rattle.host_world.specs.declared.settings.Settings.{Settings}
+use Rattle.shipped_host.specs.declared.settings.Settings.{Settings}
 use Rattle.host_rounds.specs.Bundle.{HasBundle}
 use Rattle.host_rounds.specs.SoFar.{RunsSoFar, HaveRun, lines_due, operations_due, epochs_due, summary_due}
 use Rattle.host_rounds.proofs.RoundLaws.{counted-none}

@@ -11,7 +11,7 @@ use Rattle.host_core.specs.World.{World, logs_of}
 use Rattle.host_shard.specs.Content.{Content}
 use Rattle.script_text.specs.declared.task.Task.{Task}
 use Rattle.host_world.specs.declared.fault.ClockEnd.{ClockEnd}
-use Rattle.host_world.specs.declared.settings.Settings.{Settings}
+use Rattle.shipped_host.specs.declared.settings.Settings.{Settings}
 use Rattle.host_world.specs.declared.world.World as code
 use Rattle.host_world.specs.Shown.{shown_world, digests_of, requests_of}
 use Rattle.host_world.specs.Behind.{StandsBehind, AreOfOneHost, host_of}
@@ -28,7 +28,7 @@ use Rattle.verifier_threads.specs.declared.world_run.WorldRun.{WorldRun}
 use Rattle.verifier_threads.specs.InRounds.{Logs, logged_with, IsBehindRounds}
 use Rattle.verifier_threads.specs.Serving.{Outputs, GrowsFor, HasTold, told_for}
 use Rattle.verifier_threads.specs.Running.{IsRunning, Runs, RunsBehind, RunsWhole, all_handed_out, with_runs_of}
-use Rattle.host_world.specs.ShippedHost.{shipped_host}
+use Rattle.shipped_host.specs.ShippedHost.{shipped_host}
 use Rattle.verifier_threads.proofs.RoundLemmas.{take-all, take-more, length-one_more}
 use Rattle.verifier_threads.proofs.RunningLemmas.{of_one_host, leads-length, running-behind, running-led, running-handed}
 
@@ -173,6 +173,7 @@ module _ (account : Account) {D : Type 0} (functions : D → DigestFunctions) (o
     runs = record {
       running = record {
         settings_fit = runs.running.settings_fit;
+        plain = runs.running.plain;
         counters = runs.running.counters;
         keys = runs.running.keys;
         values = runs.running.values;

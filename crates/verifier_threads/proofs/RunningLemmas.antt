@@ -12,9 +12,9 @@ use Rattle.host_core.specs.WorldEvent.{WorldEvent, AreEnabled, step, run_events}
 use Rattle.host_shard.specs.Content.{Content}
 use Rattle.script_text.specs.declared.task.Task.{Task}
 use Rattle.host_world.specs.declared.fault.ClockEnd.{ClockEnd}
-use Rattle.host_world.specs.declared.settings.Settings.{Settings}
+use Rattle.shipped_host.specs.declared.settings.Settings.{Settings}
 use Rattle.host_world.specs.declared.world.World as code
-use Rattle.host_world.specs.ShippedHost.{shipped_host}
+use Rattle.shipped_host.specs.ShippedHost.{shipped_host}
 use Rattle.host_world.specs.Shown.{digests_of, requests_of}
 use Rattle.host_world.specs.Behind.{IsBehindSetup, AreOfOneHost, host_of, with_logs}
 use Rattle.host_world.proofs.FrontLaws.{length-step}
@@ -93,6 +93,7 @@ module _ (account : Account) (functions : DigestFunctions) (settings : Settings)
   pub running-behind : IsBehindSetup functions settings script (with_logs running.logs world)
   running-behind = record {
     settings_fit = running.settings_fit;
+    counters = running.counters;
     keys = running.keys;
     values = running.values;
     events = running.way.events;
@@ -119,6 +120,7 @@ module _ (account : Account) (functions : DigestFunctions) (settings : Settings)
       → IsRunning account functions settings script later rounds (first_of end next) past outputs
   running-led later next way = record {
     settings_fit = running.settings_fit;
+    plain = running.plain;
     counters = running.counters;
     keys = running.keys;
     values = running.values;
@@ -127,7 +129,7 @@ module _ (account : Account) (functions : DigestFunctions) (settings : Settings)
     each = running.each ∙ sym (leads-length own_host world later next way.leads);
     passed = through-leads own_host 0 (no_logs settings.header.verifiers) (set_up own_host) past (with_logs running.logs world) (with_logs running.logs later) running.passed
         (next, leads-with own_host running.logs world later next way.leads);
-    way = way.on running.logs (set_up own_host) (set_up_before own_host refl) running.way;
+    way = way.on running.logs (set_up own_host) (set_up_before own_host running.plain) running.way;
     rests = running.rests;
     keeps = running.keeps;
     written = running.written;
@@ -146,6 +148,7 @@ module _ (account : Account) (functions : DigestFunctions) (settings : Settings)
       let first = no_logs settings.header.verifiers in
       record {
         settings_fit = running.settings_fit;
+        plain = running.plain;
         counters = running.counters;
         keys = running.keys;
         values = running.values;

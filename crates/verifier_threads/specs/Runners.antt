@@ -5,8 +5,8 @@ use Rattle.bundle_report.specs.Logs.{empty_logs}
 use Rattle.script_text.specs.Text.{AreTasks}
 use Rattle.script_text.specs.declared.task.Task.{Task}
 use Rattle.host_world.specs.declared.fault.ClockEnd.{ClockEnd}
-use Rattle.host_world.specs.declared.settings.Settings.{Settings}
-use Rattle.host_world.specs.Settings.{IsSettings}
+use Rattle.shipped_host.specs.declared.settings.Settings.{Settings}
+use Rattle.shipped_host.specs.Settings.{IsSettings}
 use Rattle.host_world.specs.Shown.{shown_world, digests_of, requests_of}
 use Rattle.host_world.specs.Behind.{host_of}
 use Rattle.host_rounds.specs.SoFar.{RunsSoFar, Keeps}

@@ -1,5 +1,5 @@
 -- How a run stands between two calls: its world, the vault, what the verifiers read, and what is written.
-use Rattle.std.specs.Prelude.{◌≡◌, ◌≢◌, ◌⊎◌, ℕ, suc, ◌+◌, ◌*◌, ◌≤◌, List, [], length, map, take, Option, None}
+use Rattle.std.specs.Prelude.{◌≡◌, ◌≢◌, ◌⊎◌, ℕ, suc, ◌+◌, ◌*◌, ◌≤◌, false, List, [], length, map, take, Option, None}
 use Rattle.std.specs.List.{AllByRecursion}
 use Rattle.fv_outside.specs.Written.{GrowsByFront}
 use Rattle.record_hash.specs.Functions.{DigestFunctions}
@@ -12,11 +12,12 @@ use Rattle.host_core.specs.World as machine
 use Rattle.host_shard.specs.Content.{Content}
 use Rattle.script_text.specs.declared.task.Task.{Task}
 use Rattle.host_world.specs.declared.fault.ClockEnd.{ClockEnd}
-use Rattle.host_world.specs.declared.settings.Settings.{Settings}
-use Rattle.host_world.specs.Settings.{IsSettings}
+use Rattle.shipped_host.specs.declared.settings.Settings.{Settings}
+use Rattle.shipped_host.specs.Settings.{IsSettings}
 use Rattle.host_world.specs.Shown.{shown_world, digests_of, requests_of}
-use Rattle.host_world.specs.ShippedHost.{shipped_host}
-use Rattle.host_world.specs.Behind.{AreInRange, HaveShortValues, with_logs}
+use Rattle.shipped_host.specs.ShippedHost.{shipped_host}
+use Rattle.shipped_host.specs.Ranges.{AreInRange, HaveShortValues}
+use Rattle.host_world.specs.Behind.{with_logs}
 use Rattle.host_serving.specs.Leading.{LeadsAs, CanDoNoMore}
 use Rattle.host_serving.specs.Form.{AreInRounds}
 use Rattle.host_serving.specs.Standing.{IsServedUpTo, IsServedOut, NoneStopped, SomeStopped, IsLowest, IsAllServed}
@@ -61,6 +62,7 @@ ending_for (accounts.Summary load) rounds status = summary_with_end load.seed lo
 pub record IsRunning (account : Account) (functions : DigestFunctions) (settings : Settings) (script : List (List Task)) (world : machine.World Content) (rounds : RunsSoFar) (end : Option ClockEnd)
     (past : List Logs) (outputs : Outputs) : Type 0 where
   pub settings_fit : IsSettings settings
+  pub plain : settings.rolling ≡ false
   pub counters : settings.shards ≤ settings.header.end
   pub keys : AreInRange settings.header script
   pub values : HaveShortValues settings.header script

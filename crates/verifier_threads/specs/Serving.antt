@@ -15,8 +15,8 @@ use Rattle.host_core.specs.World.{World, logs_of, set_up}
 use Rattle.host_shard.specs.Content.{Content}
 use Rattle.script_text.specs.declared.task.Task.{Task}
 use Rattle.host_world.specs.declared.fault.ClockEnd.{ClockEnd}
-use Rattle.host_world.specs.declared.settings.Settings.{Settings}
-use Rattle.host_world.specs.ShippedHost.{shipped_host}
+use Rattle.shipped_host.specs.declared.settings.Settings.{Settings}
+use Rattle.shipped_host.specs.ShippedHost.{shipped_host}
 use Rattle.host_fits.specs.Holds.{ContentsHold}
 use Rattle.run_reports.specs.Runs.{map_certified}
 use Rattle.host_serving.specs.Leading.{LeadsAs, CanDoNoMore}

@@ -9,7 +9,7 @@ ghost use Rattle.bundle_report.specs.Answer.{check_answer};
 ghost use Rattle.host_rounds.specs.Bundle.{IsBundle};
 ghost use Rattle.host_rounds.specs.SoFar.{lines_due};
 ghost use Rattle.script_text.specs.declared.task.Task.{Task};
-ghost use Rattle.host_world.specs.Settings.{IsSettings};
+ghost use Rattle.shipped_host.specs.Settings.{IsSettings};
 ghost use Rattle.verifier_threads.specs.declared.accounts.Account.{Account};
 ghost use Rattle.verifier_threads.specs.Serving.{IsCutOff, ServesTo};
 
@@ -18,7 +18,7 @@ use bundle_frames::{bytes_bound_the_frames, frames_are_read_back, headers_are_re
 use fv_outside::Failure;
 use host_log::{bundles_hold_the_logs, frames_join_to_the_bytes};
 use host_rounds::rounds_make_a_bundle;
-use host_world::Settings;
+use shipped_host::Settings;
 
 /// What the bundle of logs certifies is due whatever bytes follow it, and more may be due behind.
 pub fn what_is_due_stays_due()

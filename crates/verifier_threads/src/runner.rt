@@ -1,11 +1,11 @@
 //! A run of a script, call by call: its setup, each phase, each close, and its end.
-ghost use Rattle.std.specs.Prelude.{◌≡◌, ◌≢◌, ◌≤◌, ◌<◌, ℕ, List, Option, length, OnOk, OnErr, IfOk, Ok, Err};
+ghost use Rattle.std.specs.Prelude.{◌≡◌, ◌≢◌, ◌≤◌, ◌<◌, ℕ, false, List, Option, length, OnOk, OnErr, IfOk, Ok, Err};
 ghost use Rattle.fv_outside.specs.Failures.{FailsByOutput, FailsByVault};
 ghost use Rattle.fv_outside.specs.Faults.{Rose};
 ghost use Rattle.record_hash.specs.Functions.{DigestFunctions};
 ghost use Rattle.script_text.specs.Text.{AreTasks};
 ghost use Rattle.script_text.specs.declared.task.Task.{Task};
-ghost use Rattle.host_world.specs.Settings.{IsSettings};
+ghost use Rattle.shipped_host.specs.Settings.{IsSettings};
 ghost use Rattle.verifier_threads.specs.Serving.{Outputs, IfDone, IsServed, IsCutOff, IsCutAtEnd, IsCutInHeader, IsCutInRound};
 ghost use Rattle.verifier_threads.specs.Runners.{Stands, IsServing, IsUnserved, KeepsWhatIsCertified, TellsLines, next_call_of, phases_left};
 
@@ -16,10 +16,11 @@ use crate::world_run::WorldRun;
 use fv_outside::{Failure, Gate, Sink};
 use host_fits::scripts_ask_for_keys_in_range;
 use host_rounds::Rounds;
-use host_world::{ClockEnd, Settings, World, WorldFault};
+use host_world::{ClockEnd, World, WorldFault};
 use record_hash::Digests;
 use run_reports::logs_of_no_bytes_certify_nothing;
 use script_text::Requests;
+use shipped_host::Settings;
 use std::alloc::Global;
 use std::sync::Wait;
 use std::thread::Threads;
@@ -68,6 +69,7 @@ impl<'a, D: Digests> Runner<'a, D> {
         vault: &mut V,
     ) -> Result<Self, Failure>
         requires settings { IsSettings settings.now }
+        requires plain { settings.now.rolling ≡ false }
         requires tasks { AreTasks settings.now.header requests.now }
         ensures stands { (held : Option (List ℕ)) → IfOk result (λ runner. Stands account D.functions (D.functions d.now) settings.now requests.now runner
             (record { vault = V.held vault.old; vault_after = V.held vault.new; out = held; out_after = held })) }

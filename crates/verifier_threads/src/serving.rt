@@ -1,17 +1,17 @@
 //! A script that is served, from the setup to the end of its report or its summary.
-ghost use Rattle.std.specs.Prelude.{◌≡◌, ◌≤◌, Err};
+ghost use Rattle.std.specs.Prelude.{◌≡◌, ◌≤◌, false, Err};
 ghost use Rattle.fv_outside.specs.Faults.{Rose};
 ghost use Rattle.script_text.specs.Text.{AreTasks};
-ghost use Rattle.host_world.specs.Settings.{IsSettings};
+ghost use Rattle.shipped_host.specs.Settings.{IsSettings};
 ghost use Rattle.verifier_threads.specs.Serving.{ServesTo};
 
 use crate::accounts::Account;
 use crate::ending::RunEnd;
 use crate::runner::{NextCall, Runner};
 use fv_outside::{Failure, Gate, Sink};
-use host_world::Settings;
 use record_hash::Digests;
 use script_text::Requests;
+use shipped_host::Settings;
 use std::alloc::Global;
 use std::sync::Wait;
 use std::thread::Threads;
@@ -36,6 +36,7 @@ pub fn serve<R: Threads + Wait + Sync, D: Digests + Sync, V: Sink, O: Sink, G: G
     out: &mut O,
 ) -> Result<RunEnd, Failure>
     requires settings { IsSettings settings.now }
+    requires plain { settings.now.rolling ≡ false }
     requires tasks { AreTasks settings.now.header requests.now }
     ensures serves { ServesTo account (D.functions d.now) settings.now requests.now result
         (record { vault = V.held vault.old; vault_after = V.held vault.new; out = O.held out.old; out_after = O.held out.new }) }

@@ -8,9 +8,10 @@ ghost use Rattle.certified_epochs.specs.Telling.{text_by};
 ghost use Rattle.certified_epochs.specs.Turn.{AreVerdictsOn};
 ghost use Rattle.host_core.specs.World.{set_up, logs_of};
 ghost use Rattle.host_core.specs.WorldEvent.{IsLast};
-ghost use Rattle.host_world.specs.Settings.{IsSettings};
+ghost use Rattle.shipped_host.specs.Settings.{IsSettings};
 ghost use Rattle.host_world.specs.Shown.{shown_world, digests_of, requests_of, settings_of};
-ghost use Rattle.host_world.specs.Behind.{AreInRange, HaveShortValues, AreOfOneHost, host_of};
+ghost use Rattle.shipped_host.specs.Ranges.{AreInRange, HaveShortValues};
+ghost use Rattle.host_world.specs.Behind.{AreOfOneHost, host_of};
 ghost use Rattle.host_serving.specs.Leading.{first_of};
 ghost use Rattle.host_serving.specs.Standing.{turns_of};
 ghost use Rattle.verifier_threads.specs.declared.runner.State.{State};
@@ -67,6 +68,7 @@ impl<'a, D: Digests> WorldRun<'a, D> {
     ) -> Result<Self, Failure>
         requires setup { shown_world world ≡ set_up (host_of (D.functions (digests_of world)) world) }
         requires settings { IsSettings (settings_of world) }
+        requires plain { (settings_of world).rolling ≡ false }
         requires counters { (settings_of world).shards ≤ (settings_of world).header.end }
         requires keys { AreInRange (settings_of world).header (requests_of world) }
         requires values { HaveShortValues (settings_of world).header (requests_of world) }

@@ -11,8 +11,8 @@ use Rattle.host_core.specs.Host.{Host, asked_in, asked_from, asked}
 use Rattle.host_shard.specs.Content.{Content}
 use Rattle.host_table.specs.declared.told.Service.{Service}
 use Rattle.host_table.specs.declared.told.Stop.{Stop}
-use Rattle.host_world.specs.declared.settings.Settings.{Settings}
-use Rattle.host_world.specs.ShippedHost.{turn_of, shipped_host}
+use Rattle.shipped_host.specs.declared.settings.Settings.{Settings}
+use Rattle.shipped_host.specs.ShippedHost.{turn_of, shipped_host}
 use Rattle.host_serving.specs.Standing.{turns_of, asked_by}
 use Rattle.host_serving.proofs.TurnLaws.{slice_get-behind, asked-around}
 use Rattle.table_order.specs.Phases.{AreNext}

@@ -20,18 +20,19 @@ use Rattle.host_core.proofs.EventLaws.{enabled-append, run-append}
 use Rattle.host_shard.specs.declared.content.Content as content
 use Rattle.host_shard.specs.Content.{Content, vacant}
 use Rattle.host_shard.specs.Shown.{shown_content}
-use Rattle.host_table.specs.declared.hand.Hand.{Hand}
+use Rattle.host_epochs.specs.declared.hand.Hand.{Hand}
 use Rattle.host_table.specs.Calls.{AreAll, IsNew, told_by}
 use Rattle.host_table.specs.Phase.{IsPhase, row_at}
 use Rattle.host_table.specs.Terms.{Terms, IsClockOf, IsPlaceOf}
 use Rattle.host_world.specs.declared.fault.ClockEnd.{ClockEnd}
-use Rattle.host_world.specs.declared.settings.Settings.{Settings}
+use Rattle.shipped_host.specs.declared.settings.Settings.{Settings}
 use Rattle.host_world.specs.declared.worker.Worker as code
 use Rattle.host_world.specs.declared.world.World as world
-use Rattle.host_world.specs.Behind.{AreInRange, HaveShortValues, AreOfOneHost, IsBehindSetup, StandsWith, host_of, with_logs}
+use Rattle.shipped_host.specs.Ranges.{AreInRange, HaveShortValues}
+use Rattle.host_world.specs.Behind.{AreOfOneHost, IsBehindSetup, StandsWith, host_of, with_logs}
 use Rattle.host_world.specs.Lending.{all_contents, filled}
 use Rattle.host_world.specs.Shown.{shown_world, digests_of, requests_of}
-use Rattle.host_world.specs.ShippedHost.{turn_of, shipped_host}
+use Rattle.shipped_host.specs.ShippedHost.{turn_of, shipped_host}
 use Rattle.host_world.specs.Workers.{shown_worker}
 use Rattle.host_serving.specs.Leading.{Leads}
 use Rattle.host_serving.specs.Standing.{turns_of, IsServedUpTo, NoneStopped}
@@ -57,7 +58,7 @@ asked_below limit i (task ∷ tasks) all = go (task.worker == i) (asked_below li
     go false rest = rest
 
 turn_below : (limit : ℕ) (turns : List Turn) (k : ℕ) (d : Turn) → AllByRecursion (λ (request : Request). request.key < limit) (asked_in turns)
-    → k < length turns → (get_or turns k d).request.now.key < limit
+    → k < length turns → (get_or turns k d).task.request.key < limit
 turn_below limit [] k d all there = absurd (omega (arith, there))
 turn_below limit (turn ∷ turns) zero d all there = all.0
 turn_below limit (turn ∷ turns) (suc k) d all there = turn_below limit turns k d all.1 (omega (arith, there))
@@ -98,7 +99,7 @@ have_turns host world script terms turns keys many are owned = record {
       let own = get_or turns i d in
       let asked = are i d there in
       let small = asked_below (2 ^ key_bits (wide_of host.header)) i (get_or script world.phase []) (keys_in host.header script world.phase keys) in
-      λ k turn within. owned (get_or own k turn).place (get_or own k turn).request.now
+      λ k turn within. owned (get_or own k turn).place (get_or own k turn).task.request
       (turn_below (2 ^ key_bits (wide_of host.header)) own k turn
       (subst (AllByRecursion (λ (request : Request). request.key < 2 ^ key_bits (wide_of host.header))) (sym asked.requests) small) within)
       (asked.places k turn within);
@@ -215,6 +216,7 @@ goes_on {D} functions old new end same count way logs stands = record {
       (subst (λ (script : List (List Task)). IsBehindSetup (functions (digests_of old)) old.settings script (with_logs logs (shown_world new))) (sym same.requests)
       (record {
         settings_fit = stands.behind.settings_fit;
+        counters = stands.behind.counters;
         keys = stands.behind.keys;
         values = stands.behind.values;
         events = stands.behind.events ++ led.events;

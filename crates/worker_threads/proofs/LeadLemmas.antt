@@ -21,11 +21,11 @@ use Rattle.host_shard.specs.Content.{Content}
 use Rattle.host_shard.specs.Shown.{shown_content}
 use Rattle.host_table.specs.declared.views.Row.{Row}
 use Rattle.host_table.specs.Terms.{Terms, place_count}
-use Rattle.host_world.specs.declared.settings.Settings.{Settings}
+use Rattle.shipped_host.specs.declared.settings.Settings.{Settings}
 use Rattle.host_world.specs.Behind.{with_logs}
 use Rattle.host_world.specs.Ending.{end_at}
 use Rattle.host_world.specs.Places.{place_of}
-use Rattle.host_world.specs.ShippedHost.{shipped_host}
+use Rattle.shipped_host.specs.ShippedHost.{shipped_host}
 use Rattle.host_world.proofs.FrontLaws.{length-before_each, enabled_without, step_with}
 use Rattle.host_serving.specs.Leading.{first_end, LeadsAs}
 use Rattle.host_serving.specs.Form.{AreOfPhase}

@@ -10,8 +10,6 @@ mod StopLemmas
 mod ServedLemmas
 mod WorldLemmas
 mod LeadLemmas
-mod BoundLemmas
-mod PromiseLemmas
 mod SeatLemmas
 mod MakingLemmas
 mod TableLemmas

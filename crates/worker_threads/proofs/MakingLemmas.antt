@@ -23,31 +23,33 @@ use Rattle.host_shard.specs.Shown.{shown_content}
 use Rattle.host_laws.specs.Served.{waiting}
 use Rattle.host_plan.specs.Plan.{Owns}
 use Rattle.host_table.specs.Terms.{Terms, first_at, epoch_in, IsPlaceOf, IsClockOf}
-use Rattle.host_world.specs.declared.settings.Settings.{Settings}
+use Rattle.shipped_host.specs.declared.settings.Settings.{Settings}
 use Rattle.host_world.specs.Lending.{all_contents}
-use Rattle.host_world.specs.Orderly.{IsOrderly, moved_by}
+use Rattle.host_core.specs.Core.{IsInPhase, IsStanding}
+use Rattle.host_core.specs.Deeds.{IsStamped}
+use Rattle.host_fits.specs.Mirroring.{PlacesMirror}
+use Rattle.host_fits.proofs.StandingLaws.{tree_there}
 use Rattle.host_world.specs.Places.{place_of}
-use Rattle.host_world.specs.Seated.{SeatsMirror}
-use Rattle.host_world.specs.ShippedHost.{shipped_host, serves_key, is_blob}
-use Rattle.host_world.proofs.PlaceLaws.{waits_there}
-use Rattle.host_world.proofs.LongerLaws.{longest_fits, owns_longer}
-use Rattle.host_world.proofs.SeatLaws.{seat_serves, stage_mirrors, stage_at}
+use Rattle.shipped_host.specs.Seated.{SeatsMirror}
+use Rattle.shipped_host.specs.ShippedHost.{shipped_host, serves_key, is_blob}
+use Rattle.shipped_host.proofs.PlaceLaws.{waits_there}
+use Rattle.shipped_host.proofs.LongerLaws.{longest_fits, owns_longer}
+use Rattle.shipped_host.proofs.SeatLaws.{seat_serves, stage_mirrors, stage_at}
 use Rattle.move_laws.proofs.DescentLaws.{apart_by_number}
 use Rattle.table_order.specs.Phases.{AreTermsOf}
 use Rattle.worker_threads.specs.Phase.{IsPlaceFor}
-use Rattle.worker_threads.proofs.BoundLemmas.{IsBounded}
 use Rattle.worker_threads.proofs.FilledLemmas.{HaveFive, all_count, all_at}
 use Rattle.worker_threads.proofs.SeatLemmas.{serves_alone}
 
 module _ (functions : DigestFunctions) (settings : Settings) (script : List (List Task)) (world : World Content)
-    (orderly : IsOrderly functions settings script world) (bounded : IsBounded settings world) (phase : world.closing ≡ false) where
+    (standing : IsStanding (PlacesMirror functions settings) (shipped_host functions settings script) world) where
   abbrev host : Host Content Request
   host = shipped_host functions settings script
 
   -- Each shard has five seats.
   pub five : HaveFive world.shards
   five s there =
-      let mirrors = (orderly.shards s there).mirrors in
+      let mirrors = (standing.mirrored s there).mirrors in
       ap (λ (xs : List Content). length xs) mirrors.is ∙ ap (λ (n : ℕ). suc n) mirrors.four
 
   module _ (contents : List code.Content) (lent : map shown_content contents ≡ all_contents world.shards) where
@@ -66,48 +68,46 @@ module _ (functions : DigestFunctions) (settings : Settings) (script : List (Lis
 
     -- ---- the epoch
 
-    waits_in : (place : ℕ) → place < length contents → (element : Element) → pending (shown_content (get_or contents place Vacant)) ≡ Some element
-        → element.stamp.epoch ≡ epoch_of host world
-    waits_in place there element found =
-        let s = place / 5 in
-        let here : s < length world.shards = omega (arith, there, as_many) in
-        let epoch : epoch_of host world + moved_by (shard_at world s).moved ≡ epoch_of host world + 0 = ap (λ b. epoch_of host world + moved_by b) (orderly.unmoved phase s here) in
-        let waits = waits_there (λ e. e.stamp.epoch ≡ epoch_of host world + moved_by (shard_at world s).moved) (shard_at world s).contents (place % 5) (orderly.shards s here).stamped in
-        let one = subst (λ (o : Option Element). AllByRecursion (λ e. e.stamp.epoch ≡ epoch_of host world + moved_by (shard_at world s).moved) (waiting o))
-        (ap pending (lent_at place there) ∙ found) waits in
-        omega (arith, one.0, epoch)
+    module _ (in_phase : IsInPhase host world) (phase : world.closing ≡ false) where
+      waits_in : (place : ℕ) → place < length contents → (element : Element) → pending (shown_content (get_or contents place Vacant)) ≡ Some element
+          → element.stamp.epoch ≡ epoch_of host world
+      waits_in place there element found =
+          let here : place / 5 < length world.shards = omega (arith, there, as_many) in
+          let waits = waits_there (IsStamped host (epoch_of host world)) (shard_at world (place / 5)).contents (place % 5) ((in_phase phase).1 (place / 5) here) in
+          (subst (λ (o : Option Element). AllByRecursion (IsStamped host (epoch_of host world)) (waiting o)) (ap pending (lent_at place there) ∙ found) waits).0.1
 
-    pub epoch_is : 0 < length contents → epoch_in contents ≡ epoch_of host world
-    epoch_is some = go contents refl
-      where
-        first_shard : 0 < length world.shards
-        first_shard = omega (arith, some, as_many)
+      pub epoch_is : 0 < length contents → epoch_in contents ≡ epoch_of host world
+      epoch_is some = go contents refl
+        where
+          first_shard : 0 < length world.shards
+          first_shard = omega (arith, some, as_many)
 
-        at_first : (first : code.Content) (rest : List code.Content) → contents ≡ first ∷ rest → (element : Element) → pending (shown_content first) ≡ Some element
-            → element.stamp.epoch ≡ epoch_of host world
-        at_first first rest is element found =
-            waits_in 0 some element (ap (λ (xs : List code.Content). pending (shown_content (get_or xs 0 Vacant))) is ∙ found)
+          at_first : (first : code.Content) (rest : List code.Content) → contents ≡ first ∷ rest → (element : Element) → pending (shown_content first) ≡ Some element
+              → element.stamp.epoch ≡ epoch_of host world
+          at_first first rest is element found =
+              waits_in 0 some element (ap (λ (xs : List code.Content). pending (shown_content (get_or xs 0 Vacant))) is ∙ found)
 
-        no_vacant : (shard : Shard) → vacant ≡ cold shard → ⊥
-        no_vacant shard same = cc
+          no_vacant : (shard : Shard) → vacant ≡ cold shard → ⊥
+          no_vacant shard same = cc
 
-        go : (xs : List code.Content) → contents ≡ xs → epoch_in xs ≡ epoch_of host world
-        go [] is = absurd (omega (arith, some, ap (λ (ys : List code.Content). length ys) is))
-        go (Cold shard ∷ rest) is = at_first (Cold shard) rest is _ refl
-        go (Hot found ∷ rest) is = at_first (Hot found) rest is _ refl
-        go (Vacant ∷ rest) is =
-            let mirrors = (orderly.shards 0 first_shard).mirrors in
-            absurd (no_vacant mirrors.shard
-            (sym (ap (λ (xs : List code.Content). shown_content (get_or xs 0 Vacant)) is) ∙ sym (lent_at 0 some)
-            ∙ ap (λ (xs : List Content). get_or xs 0 vacant) mirrors.is))
+          go : (xs : List code.Content) → contents ≡ xs → epoch_in xs ≡ epoch_of host world
+          go [] is = absurd (omega (arith, some, ap (λ (ys : List code.Content). length ys) is))
+          go (Cold shard ∷ rest) is = at_first (Cold shard) rest is _ refl
+          go (Hot found ∷ rest) is = at_first (Hot found) rest is _ refl
+          go (Vacant ∷ rest) is =
+              let mirrors = (standing.mirrored 0 first_shard).mirrors in
+              absurd (no_vacant mirrors.shard
+              (sym (ap (λ (xs : List code.Content). shown_content (get_or xs 0 Vacant)) is) ∙ sym (lent_at 0 some)
+              ∙ ap (λ (xs : List Content). get_or xs 0 vacant) mirrors.is))
 
   module _ (terms : Terms) (lent : map shown_content terms.contents ≡ all_contents world.shards) where
     -- The workers' clocks stand in its phase.
-    pub clock_of : 0 < length terms.contents → terms.header ≡ settings.header → (i : ℕ) → i < length world.workers → IsClockOf terms (worker_at host world i).clock
-    clock_of some header i there = record {
-      first = orderly.bounded i ∙ sym (ap (λ h. h.first) header);
-      end = bounded.ends i ∙ sym (ap (λ h. h.end) header);
-      epoch = orderly.clocked phase i there ∙ sym (epoch_is terms.contents lent some);
+    pub clock_of : IsInPhase host world → world.closing ≡ false → 0 < length terms.contents → terms.header ≡ settings.header
+        → (i : ℕ) → i < length world.workers → IsClockOf terms (worker_at host world i).clock
+    clock_of in_phase phase some header i there = record {
+      first = (standing.clocks i there).first ∙ sym (ap (λ h. h.first) header);
+      end = (standing.clocks i there).end ∙ sym (ap (λ h. h.end) header);
+      epoch = (in_phase phase).0 i there ∙ sym (epoch_is terms.contents lent in_phase phase some);
     }
 
     -- It is a table of the world.
@@ -130,7 +130,7 @@ module _ (functions : DigestFunctions) (settings : Settings) (script : List (Lis
       owns = subst (λ (c : Content). Owns longest_blob c request.key) (lent_at terms.contents lent place there)
           (owns_longer (longest_of settings.header) longest_blob (longest_fits settings.header) (get_or seats (place % 5) vacant) request.key
           (seat_serves (longest_of settings.header) functions.digest seats mirrors (place % 5) request
-          (subst (λ (wide : Bool). request.key < 2 ^ key_bits wide) (sym (orderly.shards (place / 5) is.there.0).tree) small) is.owns).own);
+          (subst (λ (wide : Bool). request.key < 2 ^ key_bits wide) (sym (tree_there functions settings (place / 5) seats (standing.mirrored (place / 5) is.there.0))) small) is.owns).own);
       cold = λ other kept near found same. alone other kept near found same (cases_lt other (length terms.contents));
     }
       where
@@ -138,7 +138,7 @@ module _ (functions : DigestFunctions) (settings : Settings) (script : List (Lis
         seats = (shard_at world (place / 5)).contents
 
         mirrors : SeatsMirror (longest_of settings.header) functions.digest seats
-        mirrors = (orderly.shards (place / 5) is.there.0).mirrors
+        mirrors = (standing.mirrored (place / 5) is.there.0).mirrors
 
         there : place < length terms.contents
         there = let many = as_many terms.contents lent in omega (arith, many, is.there.0)

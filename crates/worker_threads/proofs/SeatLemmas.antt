@@ -10,8 +10,8 @@ use Rattle.host_shard.specs.Content.{Content, cold, hot, vacant}
 use Rattle.protection_moves.specs.Stage.{hot_records, is_hot_at}
 use Rattle.move_laws.specs.Stages.{IsOne}
 use Rattle.move_laws.proofs.PlaceLaws.{AreApart, one_of-all}
-use Rattle.host_world.specs.ShippedHost.{serves_key}
-use Rattle.host_world.proofs.PlaceLaws.{hot_there}
+use Rattle.shipped_host.specs.ShippedHost.{serves_key}
+use Rattle.shipped_host.proofs.PlaceLaws.{hot_there}
 
 no_hot : (found : HotRecord) → vacant ≡ hot found → ⊥
 no_hot found is = cc

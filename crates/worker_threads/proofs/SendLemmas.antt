@@ -6,8 +6,8 @@ use Rattle.slot_rewriting.proofs.writer.CommandWriter.TheSendSync as writer
 use Rattle.host_plan.proofs.commands.Commands.TheSendSync as commands
 use Rattle.worker_log.specs.contracts.log.WorkerLog as WorkerLog
 use Rattle.host_world.specs.contracts.worker.Worker as Worker
-use Rattle.host_table.specs.contracts.hand.Hand as Hand
-use Rattle.host_table.proofs.hand.Hand.TheSendSync as hand
+use Rattle.host_epochs.specs.contracts.hand.Hand as Hand
+use Rattle.host_epochs.proofs.hand.Hand.TheSendSync as hand
 use Rattle.verifier_feeds.specs.contracts.inbox.Inbox as Inbox
 use Rattle.verifier_feeds.proofs.inbox.Inbox.TheSendSync as inbox
 use Rattle.verifier_feeds.specs.contracts.outbox.Outbox as Outbox

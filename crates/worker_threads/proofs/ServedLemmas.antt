@@ -14,8 +14,8 @@ use Rattle.host_table.specs.declared.views.Row.{Row}
 use Rattle.host_table.specs.Phase.{row_at}
 use Rattle.host_table.specs.Terms.{Terms}
 use Rattle.host_world.specs.declared.fault.ClockEnd.{ClockEnd}
-use Rattle.host_world.specs.declared.settings.Settings.{Settings}
-use Rattle.host_world.specs.ShippedHost.{turn_of, shipped_host}
+use Rattle.shipped_host.specs.declared.settings.Settings.{Settings}
+use Rattle.shipped_host.specs.ShippedHost.{turn_of, shipped_host}
 use Rattle.host_serving.specs.Standing.{turns_of, asked_by, HasServedUpTo, IsServedUpTo, IsServedOut, NoneStopped, SomeStopped}
 use Rattle.host_serving.proofs.TurnLaws.{phase_served}
 use Rattle.worker_threads.specs.Parts.{asked_of, AreDone, HasDone}
@@ -44,8 +44,8 @@ module _ (functions : DigestFunctions) (settings : Settings) (script : List (Lis
   same_phase = ap (λ (w : World Content). w.phase) is.is
 
   -- The phase is served.
-  pub served_out : IsServedOut host later
-  served_out = phase_served host later (length (turns_of host world.phase)) (λ rolling. absurd (true≢false (sym rolling))) up_to (ap (λ (n : ℕ). length (turns_of host n)) (sym same_phase))
+  pub served_out : settings.rolling ≡ false → IsServedOut host later
+  served_out plain = phase_served host later (length (turns_of host world.phase)) (λ rolling. absurd (true≢false (sym rolling ∙ plain))) up_to (ap (λ (n : ℕ). length (turns_of host n)) (sym same_phase))
     where
       each : (i : ℕ) → i < length world.workers
           → HasServedUpTo (worker_at host later i) (asked_by host i world.phase (length (turns_of host world.phase)))

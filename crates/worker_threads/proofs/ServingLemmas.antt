@@ -1,5 +1,5 @@
 -- What a worker has done with one request more.
-use Rattle.std.proofs.Common.{◌≡◌, ℕ, zero, suc, ◌+◌, ◌<◌, ◌==◌, Bool, true, false, true≢false, List, [], ◌∷◌, ◌++◌, length, map, take, get_or, Option, Some, None, Result, Ok, Err, is_some, is_err, OnOk, flat_map, if◌then◌else◌, refl, sym, ◌∙◌, ap, subst, append_assoc, append-nil, eq-eqb, ne_eqb, take-suc, length-append, arith}
+use Rattle.std.proofs.Common.{◌≡◌, ℕ, suc, ◌+◌, ◌<◌, true, false, true≢false, List, [], ◌∷◌, ◌++◌, length, map, take, get_or, Option, Some, None, Result, Ok, Err, is_some, is_err, OnOk, refl, sym, ◌∙◌, ap, subst, append_assoc, append-nil, take-suc, length-append, arith}
 use Rattle.std.specs.Option.{ForSome}
 use Rattle.std.proofs.lemmas.Grind.{flat_map-append}
 use Rattle.std.proofs.lemmas.List.{get_or-map, take_all, map_push}
@@ -9,13 +9,13 @@ use Rattle.record_text.specs.declared.request.Request.{Request}
 use Rattle.log_codec.specs.declared.command.Command.{Command}
 use Rattle.host_core.specs.World.{Worker}
 use Rattle.host_plan.specs.declared.plans.Plan.{Plan}
-use Rattle.host_table.specs.declared.hand.Hand.{Hand}
+use Rattle.host_epochs.specs.declared.hand.Hand.{Hand}
 use Rattle.host_table.specs.declared.told.Service.{Service}
 use Rattle.host_table.specs.declared.told.Stop.{Stop}
 use Rattle.host_table.specs.declared.views.Row.{Row}
 use Rattle.host_table.specs.Calls.{Ends, IsNew, Serves, told_by}
 use Rattle.host_table.specs.Hands.{services, stop}
-use Rattle.host_table.specs.Terms.{Terms, IsPlaceOf}
+use Rattle.host_table.specs.Terms.{Terms}
 use Rattle.table_order.specs.Phases.{first_clock}
 use Rattle.slot_rewriting.specs.declared.writer.CommandWriter.{CommandWriter}
 use Rattle.slot_rewriting.specs.Writing.{text_from, writer_behind}
@@ -179,14 +179,14 @@ holds_ok (Err e) holds = tt
 
 -- one turn more
 pub asked-turn : (before : List Request) (turns : List Turn) (k : ℕ) (turn : Turn) → k < length turns → turn ≡ get_or turns k turn
-    → (before ++ asked_in (take k turns)) ++ turn.request.now ∷ [] ≡ before ++ asked_in (take (k + 1) turns)
+    → (before ++ asked_in (take k turns)) ++ turn.task.request ∷ [] ≡ before ++ asked_in (take (k + 1) turns)
 asked-turn before turns k turn there is =
     let one : k + 1 ≡ suc k = omega arith in
     let next : take (k + 1) turns ≡ take k turns ++ turn ∷ [] =
     ap (λ (n : ℕ). take n turns) one ∙ take-suc turns k turn there ∙ ap (λ (t : Turn). take k turns ++ t ∷ []) (sym is) in
-    append_assoc before (asked_in (take k turns)) (turn.request.now ∷ [])
+    append_assoc before (asked_in (take k turns)) (turn.task.request ∷ [])
     ∙ ap (λ (requests : List Request). before ++ requests)
-    (sym (ap asked_in next ∙ map_push (λ (t : Turn). t.request.now) (take k turns) turn))
+    (sym (ap asked_in next ∙ map_push (λ (t : Turn). t.task.request) (take k turns) turn))
 
 -- those of one worker, of lists as they stand in the code
 pub own-turns : {V : Type 0} (items : V → List Turn) (turns : List V) (own : V) (n number : ℕ) → n ≡ number → number < length turns

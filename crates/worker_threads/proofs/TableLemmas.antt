@@ -14,9 +14,9 @@ use Rattle.host_shard.specs.Content.{Content}
 use Rattle.host_table.specs.declared.views.Row.{Row}
 use Rattle.host_table.specs.Phase.{row_at}
 use Rattle.host_table.specs.Terms.{Terms}
-use Rattle.host_world.specs.declared.settings.Settings.{Settings}
+use Rattle.shipped_host.specs.declared.settings.Settings.{Settings}
 use Rattle.host_world.specs.Behind.{IsBehindSetup, with_logs}
-use Rattle.host_world.specs.ShippedHost.{shipped_host}
+use Rattle.shipped_host.specs.ShippedHost.{shipped_host}
 use Rattle.host_world.proofs.FrontLaws.{unlogged, same_unlogged, length-before_each}
 use Rattle.host_serving.specs.Standing.{asked_by, IsServedUpTo}
 use Rattle.table_order.specs.Phases.{AreTurnsOf, IsTableOf}

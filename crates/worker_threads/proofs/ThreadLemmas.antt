@@ -11,12 +11,11 @@ use Rattle.verifier_run.specs.Progress.{weight}
 use Rattle.certified_epochs.specs.declared.fed_run.FedRun.{FedRun}
 use Rattle.host_rounds.specs.Feeding.{Reads}
 use Rattle.atomic_table.specs.Seated.{TableId}
-use Rattle.host_table.specs.declared.hand.Hand.{Hand}
+use Rattle.host_epochs.specs.declared.hand.Hand.{Hand}
 use Rattle.host_table.specs.declared.views.Row.{Row}
 use Rattle.host_table.specs.Calls.{IsNew, told_by}
 use Rattle.host_table.specs.Hands.{worker_of, IsFree}
-use Rattle.host_table.specs.Made.{new_row}
-use Rattle.host_table.specs.Phase.{row_at}
+use Rattle.host_table.specs.Phase.{new_row, row_at}
 use Rattle.host_table.specs.Terms.{Terms, IsClockOf}
 use Rattle.host_world.specs.declared.worker.Worker.{Worker}
 use Rattle.host_world.specs.Workers.{shown_worker, writer_in}

@@ -17,14 +17,13 @@ use Rattle.host_shard.specs.declared.content.Content.TheVariants.{Vacant}
 use Rattle.host_shard.specs.Content.{Content, vacant}
 use Rattle.host_shard.specs.Shown.{shown_content}
 use Rattle.host_table.specs.declared.views.Row.{Row}
-use Rattle.host_table.specs.Made.{new_row}
-use Rattle.host_table.specs.Phase.{row_at}
+use Rattle.host_table.specs.Phase.{new_row, row_at}
 use Rattle.host_table.specs.Terms.{Terms, place_count}
-use Rattle.host_world.specs.declared.settings.Settings.{Settings}
+use Rattle.shipped_host.specs.declared.settings.Settings.{Settings}
 use Rattle.host_world.specs.Behind.{with_logs}
 use Rattle.host_world.specs.Lending.{all_contents, filled}
 use Rattle.host_world.specs.Places.{place_of}
-use Rattle.host_world.specs.ShippedHost.{shipped_host}
+use Rattle.shipped_host.specs.ShippedHost.{shipped_host}
 use Rattle.host_world.proofs.FrontLaws.{unlogged, same_unlogged, log_before, length-before_each}
 use Rattle.host_serving.proofs.LeadingLaws.{run-with}
 use Rattle.table_order.specs.Servings.{serving_of, servings_of, lists_of, stops_of}

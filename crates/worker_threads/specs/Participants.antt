@@ -6,7 +6,7 @@ use Rattle.atomic_table.specs.Seated.{TableId}
 use Rattle.verifier_run.specs.Progress.{weight}
 use Rattle.certified_epochs.specs.declared.fed_run.FedRun.{FedRun}
 use Rattle.host_rounds.specs.Feeding.{Reads}
-use Rattle.host_table.specs.declared.hand.Hand.{Hand}
+use Rattle.host_epochs.specs.declared.hand.Hand.{Hand}
 use Rattle.host_table.specs.Calls.{AreAll, IsNew, told_by}
 use Rattle.host_table.specs.Phase.{row_at}
 use Rattle.host_table.specs.Terms.{Terms, IsClockOf}

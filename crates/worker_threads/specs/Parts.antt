@@ -30,11 +30,11 @@ asked_of i (task ∷ tasks) = if task.worker == i then task.request ∷ asked_of
 
 -- what a worker's turns ask of it, in order
 abbrev pub asked_in : List Turn → List Request
-asked_in turns = map (λ turn. turn.request.now) turns
+asked_in turns = map (λ turn. turn.task.request) turns
 
 -- each turn has its key's place at a table
 abbrev pub HavePlaces : Terms → List Turn → Type 0
-HavePlaces terms turns = All (λ turn. IsPlaceOf terms turn.place turn.request.now.key) turns
+HavePlaces terms turns = All (λ turn. IsPlaceOf terms turn.place turn.task.request.key) turns
 
 -- The turns of each worker at a table, each at its key's place.
 pub record HaveTurns (terms : Terms) (turns : List (List Turn)) : Type 0 where

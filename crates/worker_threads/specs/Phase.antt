@@ -29,7 +29,7 @@ pub record IsPlaceFor (host : Host Content Request) (world : World Content) (req
 -- What a worker's turns ask is what it is asked, and each turn's place owns its request.
 pub record IsAsked (host : Host Content Request) (world : World Content) (asked : List Request) (turns : List Turn) : Type 0 where
   pub requests : asked_in turns ≡ asked
-  pub places : All (λ turn. IsPlaceFor host world turn.request.now turn.place) turns
+  pub places : All (λ turn. IsPlaceFor host world turn.task.request turn.place) turns
 
 -- So it is for each worker, with what the tasks ask of it.
 abbrev pub AreAsked : Host Content Request → World Content → List Task → List (List Turn) → Type 0

@@ -9,7 +9,7 @@ use Rattle.worker_log.specs.Logged.{text_of}
 use Rattle.atomic_table.specs.Seated.{TableId}
 use Rattle.host_core.specs.World.{Worker}
 use Rattle.host_plan.specs.declared.plans.Plan.{Plan}
-use Rattle.host_table.specs.declared.hand.Hand.{Hand}
+use Rattle.host_epochs.specs.declared.hand.Hand.{Hand}
 use Rattle.host_table.specs.Calls.{Ends, Serves, told_by}
 use Rattle.host_table.specs.Hands.{worker_of, services, stop, IsFree}
 use Rattle.host_table.specs.Table.{table, terms}

@@ -13,18 +13,18 @@ ghost use Rattle.host_shard.specs.Content.{Content};
 ghost use Rattle.host_shard.specs.Shown.{shown_content};
 ghost use Rattle.host_table.specs.declared.views.Row.{Row};
 ghost use Rattle.host_table.specs.Terms.{Terms, IsClockOf, IsMaking, IsPlaceOf};
-ghost use Rattle.host_world.specs.declared.settings.Settings.{Settings};
+ghost use Rattle.shipped_host.specs.declared.settings.Settings.{Settings};
 ghost use Rattle.host_world.specs.Behind.{IsBehindSetup, with_logs};
 ghost use Rattle.host_world.specs.Lending.{all_contents};
-ghost use Rattle.host_world.specs.ShippedHost.{shipped_host};
+ghost use Rattle.shipped_host.specs.ShippedHost.{shipped_host};
 ghost use Rattle.host_serving.specs.Leading.{LeadsAs};
 ghost use Rattle.host_serving.specs.Form.{AreOfPhase};
 ghost use Rattle.host_serving.specs.Standing.{IsServedOut, IsServedUpTo};
 ghost use Rattle.table_order.specs.Phases.{AreTermsOf};
 ghost use Rattle.worker_threads.specs.Phase.{IsPlaceFor, IsServedAtOnce, first_stopped};
 
-use host_fits::{the_shipped_host_is_steady, the_shipped_host_keeps_its_promise};
-use host_world::worlds_are_orderly;
+use host_fits::the_shipped_host_is_steady;
+use host_world::worlds_are_as_promised;
 use table_order::{a_phase_of_a_table_has_one_order, tables_tell_of_a_phase, worlds_make_tables};
 
 /// Of what a world's places have at a phase's begin a table can be made for its workers.
@@ -35,13 +35,12 @@ pub(crate) fn tables_can_be_made()
         → length world.workers ≡ settings.header.verifiers }
     ensures making { (functions : DigestFunctions) (settings : Settings) (script : List (List Task)) (logs : List (List Command))
         (world : World Content) (contents : List code.Content) → GivesDigests functions.digest
-        → IsBehindSetup functions settings script (with_logs logs world) → settings.shards ≤ settings.header.end
+        → IsBehindSetup functions settings script (with_logs logs world) → settings.rolling ≡ false
         → IsServedUpTo (shipped_host functions settings script) world 0
         → map shown_content contents ≡ all_contents world.shards
         → IsMaking settings.header (length world.workers) contents }
 {
-    worlds_are_orderly();
-    the_shipped_host_keeps_its_promise();
+    worlds_are_as_promised();
     worlds_make_tables();
 }
 
@@ -49,25 +48,25 @@ pub(crate) fn tables_can_be_made()
 pub(crate) fn tables_are_of_their_worlds()
     ensures clocks { (functions : DigestFunctions) (settings : Settings) (script : List (List Task)) (logs : List (List Command))
         (world : World Content) (terms : Terms) → GivesDigests functions.digest
-        → IsBehindSetup functions settings script (with_logs logs world) → world.closing ≡ false
+        → IsBehindSetup functions settings script (with_logs logs world) → settings.rolling ≡ false → world.closing ≡ false
         → map shown_content terms.contents ≡ all_contents world.shards → 0 < length terms.contents
         → terms.header ≡ settings.header → (i : ℕ) → i < length world.workers
         → IsClockOf terms (worker_at (shipped_host functions settings script) world i).clock }
     ensures of_world { (functions : DigestFunctions) (settings : Settings) (script : List (List Task)) (logs : List (List Command))
         (world : World Content) (terms : Terms) → GivesDigests functions.digest
-        → IsBehindSetup functions settings script (with_logs logs world) → world.closing ≡ false
+        → IsBehindSetup functions settings script (with_logs logs world)
         → map shown_content terms.contents ≡ all_contents world.shards
         → terms.header ≡ settings.header → terms.digest ≡ functions.digest → terms.absent ≡ settings.absent
         → terms.workers ≡ length world.workers
         → AreTermsOf (shipped_host functions settings script) settings.absent world terms }
     ensures places { (functions : DigestFunctions) (settings : Settings) (script : List (List Task)) (logs : List (List Command))
         (world : World Content) (terms : Terms) → GivesDigests functions.digest
-        → IsBehindSetup functions settings script (with_logs logs world) → world.closing ≡ false
+        → IsBehindSetup functions settings script (with_logs logs world)
         → map shown_content terms.contents ≡ all_contents world.shards
         → (place : ℕ) (request : Request) → request.key < 2 ^ key_bits (wide_of settings.header)
         → IsPlaceFor (shipped_host functions settings script) world request place → IsPlaceOf terms place request.key }
 {
-    worlds_are_orderly();
+    worlds_are_as_promised();
 }
 
 /// What workers at a table did of a phase was one list of events: these lead from the world that the table was made of to the one
@@ -77,16 +76,15 @@ pub(crate) fn phases_at_once_are_lists_of_events()
     ensures leads { (functions : DigestFunctions) (settings : Settings) (script : List (List Task)) (logs : List (List Command))
         (world later : World Content) (terms : Terms) (after : List code.Content) (rows : List Row)
         → GivesDigests functions.digest → length logs ≡ length world.workers
-        → IsBehindSetup functions settings script (with_logs logs world) → settings.shards ≤ settings.header.end
+        → IsBehindSetup functions settings script (with_logs logs world) → settings.rolling ≡ false
         → IsServedAtOnce (shipped_host functions settings script) settings.absent (get_or script world.phase []) world later terms after rows
         → LeadsAs AreOfPhase (shipped_host functions settings script) world later (first_stopped 0 later.workers) }
     ensures served { (functions : DigestFunctions) (settings : Settings) (script : List (List Task))
-        (world later : World Content) (terms : Terms) (after : List code.Content) (rows : List Row)
+        (world later : World Content) (terms : Terms) (after : List code.Content) (rows : List Row) → settings.rolling ≡ false
         → IsServedAtOnce (shipped_host functions settings script) settings.absent (get_or script world.phase []) world later terms after rows
         → IsServedOut (shipped_host functions settings script) later }
 {
-    worlds_are_orderly();
-    the_shipped_host_keeps_its_promise();
+    worlds_are_as_promised();
     tables_tell_of_a_phase();
     a_phase_of_a_table_has_one_order();
     the_shipped_host_is_steady();

@@ -1,5 +1,5 @@
 //! A phase of a script, served by all workers at once.
-ghost use Rattle.std.specs.Prelude.{◌≡◌, ◌≤◌, ◌<◌, List, IfOk, IfSome, OnOk, Ok, None, length, map, get_or};
+ghost use Rattle.std.specs.Prelude.{◌≡◌, ◌≤◌, ◌<◌, List, IfOk, IfSome, OnOk, Ok, None, length, map, get_or, false};
 ghost use Rattle.std.specs.List.{AllByRecursion};
 ghost use Rattle.log_codec.specs.declared.command.Command.{Command};
 ghost use Rattle.slot_rewriting.specs.Writing.{written_logs};
@@ -66,7 +66,7 @@ pub fn serve_phase_at_once<R: Threads + Wait + Sync, D: Digests + Sync, G: Gate 
     parcels: &mut Vec<u64>,
 ) -> Result<Option<ClockEnd>, Memory>
     requires behind { StandsBehind (D.functions (digests_of world.old)) world.old }
-    requires counters { (settings_of world.old).shards ≤ (settings_of world.old).header.end }
+    requires plain { (settings_of world.old).rolling ≡ false }
     requires begins { IsServedUpTo (host_of (D.functions (digests_of world.old)) world.old) (shown_world world.old) 0 }
     requires running { NoneStopped (host_of (D.functions (digests_of world.old)) world.old) (shown_world world.old) }
     requires workers { AllByRecursion (λ turn. turn.0 < length (shown_world world.old).workers)

@@ -10,15 +10,14 @@ ghost use Rattle.worker_threads.specs.Phase.{AreAsked};
 use base_words::Memory;
 use host_world::World;
 use record_hash::Digests;
-use record_text::Request;
-use script_text::Task;
+use script_text::{Phase, TaskRef};
 use std::alloc::Global;
 
-/// A request of a phase, and the number of its key's place.
-#[derive(Clone, Copy, Debug)]
+/// A task of a phase, and the number of its key's place.
+#[derive(Debug, Drop)]
 pub struct Turn<'a> {
     pub place: u32,
-    pub request: &'a Request,
+    pub task: TaskRef<'a>,
 }
 
 // For each of so many workers no turn yet.
@@ -33,27 +32,28 @@ fn no_turns<'a>(alloc: Global, workers: u16) -> Result<Vec<Vec<Turn<'a>>>, Memor
     Ok(turns)
 }
 
-/// The turns of so many workers: each has the requests that the tasks ask of it, in their order.
+/// The turns of so many workers: each has the tasks of the phase that are its own, in their order.
 pub(crate) fn turns_by_worker<'a, D: Digests>(
     alloc: Global,
     world: &World<'_, D>,
-    tasks: &'a [Task],
+    phase: Phase<'a>,
     workers: u16,
 ) -> Result<Vec<Vec<Turn<'a>>>, Memory>
     requires behind { StandsBehind (D.functions (digests_of world.now)) world.now }
-    requires short { AllByRecursion (λ task. IsBlob (longest_of (settings_of world.now).header) task.request.value) tasks.now }
-    requires workers { AllByRecursion (λ task. task.worker < workers) tasks.now }
+    requires short { AllByRecursion (λ task. IsBlob (longest_of (settings_of world.now).header) task.request.value) phase }
+    requires workers { AllByRecursion (λ task. task.worker < workers) phase }
     ensures count { IfOk result (λ turns. length turns.items ≡ workers) }
     ensures asked { IfOk result (λ turns. AreAsked (host_of (D.functions (digests_of world.now)) world.now)
-        (shown_world world.now) tasks.now (map (λ own. own.items) turns.items)) }
+        (shown_world world.now) phase.entry (map (λ own. own.items) turns.items)) }
 {
     let mut turns = no_turns(alloc, workers)?;
-    for task in tasks {
+    for task in phase {
+        let worker = usize::from(task.worker());
         let turn = Turn {
-            place: world.place_for(&task.request),
-            request: &task.request,
+            place: world.place_for(&task.request()),
+            task,
         };
-        turns[usize::from(task.worker)].push(turn)?;
+        turns[worker].push(turn)?;
     }
     Ok(turns)
 }

@@ -65,7 +65,7 @@ impl WorkerThread {
         self.offer(shared.alloc)?;
         let own = &shared.turns[usize::from(self.hand.worker())];
         for turn in own {
-            self.serve(rt, shared, gate, *turn)?;
+            self.serve(rt, shared, gate, turn)?;
         }
         self.end(shared.alloc)
     }
@@ -76,14 +76,14 @@ impl WorkerThread {
         rt: &R,
         shared: &SharedPhase<'_, D>,
         gate: &G,
-        turn: Turn<'_>,
+        turn: &Turn<'_>,
     ) -> Result<(), Memory>
         requires shared { IsSharedPhase D.functions shared.now }
-        requires place { IsPlaceOf (terms D.functions shared.now.records.now) turn.place turn.request.now.key }
+        requires place { IsPlaceOf (terms D.functions shared.now.records.now) turn.now.place turn.now.task.request.key }
         requires at_work { IsAtWork (terms D.functions shared.now.records.now) (table shared.now.records.now) self.old }
         ensures at_work { IsAtWork (terms D.functions shared.now.records.now) (table shared.now.records.now) self.new }
         ensures goes_on { GoesOnAs self.old self.new }
-        ensures done { OnOk result (HasDoneMore (turn.entry.request.now ∷ []) self.old self.new) }
+        ensures done { OnOk result (HasDoneMore (turn.now.task.request ∷ []) self.old self.new) }
     {
         if self.worker.stopped {
             return Ok(());
@@ -94,8 +94,9 @@ impl WorkerThread {
         };
         self.worker.log.settle()?;
         let place = turn.place as usize;
+        let request = turn.task.request();
         let clock = &mut self.worker.clock;
-        match shared.attempt_until(rt, &mut self.hand, place, turn.request, clock)? {
+        match shared.attempt_until(rt, &mut self.hand, place, &request, clock)? {
             Some(plan) => {
                 self.worker.log.push(plan.commands);
                 self.worker.served = served;

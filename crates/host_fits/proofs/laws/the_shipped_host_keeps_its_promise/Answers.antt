@@ -1,4 +1,4 @@
-use Rattle.host_fits.proofs.PromiseLemmas.{promised}
+use Rattle.host_fits.proofs.PromiseLaws.{promised}
 use Rattle.host_fits.proofs.laws.the_shipped_host_keeps_its_promise.Goals as goal
 
 pub returns : goal.returns

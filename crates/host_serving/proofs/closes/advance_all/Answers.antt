@@ -1,7 +1,7 @@
 use Rattle.std.proofs.Common.{◌≡◌, suc, ◌+◌, ◌<◌, ◌≤◌, length, None, refl, ap, subst, arith}
 use Rattle.record_text.specs.declared.request.Request.{Request}
 use Rattle.host_core.specs.WorldEvent.{WorldEvent, advances}
-use Rattle.host_world.specs.declared.settings.Settings.{Settings}
+use Rattle.shipped_host.specs.declared.settings.Settings.{Settings}
 use Rattle.host_world.specs.Behind.{host_of}
 use Rattle.host_world.specs.Shown.{shown_world, digests_of}
 use Rattle.host_serving.specs.Form.{all_advance}

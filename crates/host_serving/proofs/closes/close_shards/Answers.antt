@@ -21,9 +21,8 @@ advance_all-requires-clause-may g c =
     let stands = c.requires.behind.1 in
     let functions = g.D.Digests.functions (digests_of old) in
     let digests : GivesDigests functions.digest = λ text. (g.met.D.Digests.text_digest_shape old.d.now text).size in
-    let orderly = c.worlds_are_orderly.ensures.orderly functions old.settings (requests_of old) (with_logs logs (shown_world old)) digests stands.behind in
-    let phase : old.closing ≡ false = c.requires.served.served.phase in
-    begins (host_of functions old) (shown_world old) c.requires.served (clocks_stand functions old logs stands orderly phase) (none_is_moved functions old logs stands orderly phase)
+    let promised = c.worlds_are_as_promised.ensures.promised functions old.settings (requests_of old) (with_logs logs (shown_world old)) digests stands.behind in
+    begins (host_of functions old) (shown_world old) c.requires.served (clocks_stand functions old logs stands promised c.requires.served) (none_is_moved functions old logs stands promised c.requires.served)
 
 pub move_all-requires-clause-may : goal.move_all-requires-clause-may
 move_all-requires-clause-may g c =
@@ -34,14 +33,13 @@ move_all-requires-clause-may g c =
     let functions = g.D.Digests.functions (digests_of old) in
     let host = host_of functions old in
     let digests : GivesDigests functions.digest = λ text. (g.met.D.Digests.text_digest_shape old.d.now text).size in
-    let orderly = c.worlds_are_orderly.ensures.orderly functions old.settings (requests_of old) (with_logs logs (shown_world old)) digests stands.behind in
-    let phase : old.closing ≡ false = c.requires.served.served.phase in
+    let promised = c.worlds_are_as_promised.ensures.promised functions old.settings (requests_of old) (with_logs logs (shown_world old)) digests stands.behind in
     let some : 0 < length (shown_world old).workers = omega (arith, workers_are functions old logs stands, stands.behind.settings_fit.header.some_verifiers) in
     let ended : c.in_ok-end.field-0 ≡ None = c.in_default.is in
     let have : HaveAdvanced host (shown_world old) (shown_world middle) (length (shown_world old).workers) =
     subst (EndsAdvance host (shown_world old) (shown_world middle)) ended c.in_ok-end.ensures.ended in
     subst (λ (h : Host Content Request). CanMoveAll h (shown_world middle)) (sym (host_same g.D.Digests.functions old middle c.advance_all.ensures.host))
-    (moves_begin host (shown_world old) c.requires.served (clocks_stand functions old logs stands orderly phase) (none_is_moved functions old logs stands orderly phase)
+    (moves_begin host (shown_world old) c.requires.served (clocks_stand functions old logs stands promised c.requires.served) (none_is_moved functions old logs stands promised c.requires.served)
     (shown_world middle) some have)
 
 pub returns-in-Some-clause-ended : goal.returns-in-Some-clause-ended
@@ -95,14 +93,13 @@ returns-clause-ended g c =
     let functions = g.D.Digests.functions (digests_of old) in
     let host = host_of functions old in
     let digests : GivesDigests functions.digest = λ text. (g.met.D.Digests.text_digest_shape old.d.now text).size in
-    let orderly = c.worlds_are_orderly.ensures.orderly functions old.settings (requests_of old) (with_logs logs (shown_world old)) digests stands.behind in
-    let phase : old.closing ≡ false = c.requires.served.served.phase in
+    let promised = c.worlds_are_as_promised.ensures.promised functions old.settings (requests_of old) (with_logs logs (shown_world old)) digests stands.behind in
     let some : 0 < length (shown_world old).workers = omega (arith, workers_are functions old logs stands, stands.behind.settings_fit.header.some_verifiers) in
     let ended : c.in_ok-end.field-0 ≡ None = c.in_default.is in
     let have : HaveAdvanced host (shown_world old) (shown_world middle) (length (shown_world old).workers) =
     subst (EndsAdvance host (shown_world old) (shown_world middle)) ended c.in_ok-end.ensures.ended in
     if_ok_then (EndsMoves (host_of (g.D.Digests.functions (digests_of middle)) middle) (shown_world middle) (shown_world later)) (EndsShards host (shown_world old) (shown_world later)) c.move_all.result
-    (λ end moved. ends_shards host (shown_world old) c.requires.served (clocks_stand functions old logs stands orderly phase) (none_is_moved functions old logs stands orderly phase)
+    (λ end moved. ends_shards host (shown_world old) c.requires.served (clocks_stand functions old logs stands promised c.requires.served) (none_is_moved functions old logs stands promised c.requires.served)
     (shown_world middle) some have (shown_world later) end
     (subst (λ (h : Host Content Request). EndsMoves h (shown_world middle) (shown_world later) end) (host_same g.D.Digests.functions old middle c.advance_all.ensures.host) moved))
     c.move_all.ensures.ended

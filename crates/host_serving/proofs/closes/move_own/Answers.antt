@@ -2,7 +2,7 @@ use Rattle.std.proofs.Common.{◌≡◌, ◌+◌, ◌<◌, ◌≤◌, length, No
 use Rattle.merkle_records.specs.Merkle.{GivesDigests}
 use Rattle.record_text.specs.declared.request.Request.{Request}
 use Rattle.host_core.specs.WorldEvent.{WorldEvent, moves}
-use Rattle.host_world.specs.declared.settings.Settings.{Settings}
+use Rattle.shipped_host.specs.declared.settings.Settings.{Settings}
 use Rattle.host_world.specs.Behind.{host_of}
 use Rattle.host_world.specs.Shown.{shown_world, digests_of, requests_of}
 use Rattle.host_serving.specs.Form.{own_moves}

@@ -3,7 +3,7 @@ use Rattle.std.proofs.lemmas.Nat.{mod_below, pow_pos}
 use Rattle.std.proofs.Math.Nat.{mod-eq_of_lt}
 use Rattle.tree_keys.specs.Bits.{number_of, bits_of}
 use Rattle.tree_keys.specs.Path.{key_bits}
-use Rattle.host_world.specs.Settings.{frontier_bits}
+use Rattle.shipped_host.specs.Settings.{frontier_bits}
 use Rattle.host_world.proofs.PlacingLemmas.{shift_below, shard_below, shard_is, low_key}
 use Rattle.host_world.proofs.placing.shard_of.Goals as goal
 use Rattle.host_world.proofs.placing.shard_of.Goals.{then-wide, else-wide}

@@ -1,7 +1,7 @@
 use Rattle.std.proofs.Common.{◌≡◌, map}
 use Rattle.host_core.specs.World.{unmoved}
 use Rattle.host_shard.specs.Shown.{shown_content}
-use Rattle.host_world.specs.ShippedHost.{new_seats}
+use Rattle.shipped_host.specs.ShippedHost.{new_seats}
 use Rattle.host_world.specs.Shown.{shown_seats}
 use Rattle.host_world.proofs.seats.seats_for.Given as goal
 

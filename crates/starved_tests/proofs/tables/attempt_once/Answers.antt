@@ -1,6 +1,6 @@
 use Rattle.std.proofs.Common.{◌≡◌, ℕ, ap, sym, subst, ◌∙◌}
 use Rattle.lamport_clocks.specs.Clock.{opening_reading}
-use Rattle.host_table.specs.declared.hand.Hand.{Hand}
+use Rattle.host_epochs.specs.declared.hand.Hand.{Hand}
 use Rattle.host_table.specs.Table.{table, terms}
 use Rattle.host_table.specs.Terms.{Terms}
 use Rattle.starved_tests.specs.Seated.{CanAttempt, IsStart, table_header}

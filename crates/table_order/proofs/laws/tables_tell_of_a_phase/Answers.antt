@@ -6,11 +6,11 @@ pub returns : goal.returns
 returns c = record {
   told = λ functions settings script world terms after rows is phase.
       are_told functions settings script world terms after rows is phase
-      (c.worlds_are_orderly.ensures.orderly functions settings script world is.digests is.behind)
+      (c.worlds_are_as_promised.ensures.standing functions settings script world is.digests is.behind)
       (c.plans_are_what_the_host_does.ensures.served functions settings script);
   noted = λ functions settings script world terms after rows is phase.
       stops_noted functions settings script world terms after rows is phase
-      (c.worlds_are_orderly.ensures.orderly functions settings script world is.digests is.behind)
+      (c.worlds_are_as_promised.ensures.standing functions settings script world is.digests is.behind)
       (c.plans_are_what_the_host_does.ensures.served functions settings script)
       (c.plans_are_what_the_host_does.ensures.ended functions settings script);
   apart = λ rows. stops_apart 0 rows;

@@ -10,5 +10,5 @@ close-closed-requires g c =
     let made = c.in-Ok.records in
     let turns : List Turn = c.worked-turns.result.items in
     let same : c.tell-hands.result.1.items ≡ map hand_of turns = c.tell-hands.ensures.hands in
-    let count : length turns ≡ made.board.shared.key.workers = search rules in
+    let count : length turns ≡ (terms g.D.Digests.functions made).workers = search rules in
     record { all = hands_of (terms g.D.Digests.functions made) (table made) turns c.tell-hands.result.1.items same c.worked-turns.ensures.turns count }

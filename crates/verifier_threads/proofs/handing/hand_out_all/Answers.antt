@@ -1,7 +1,7 @@
 use Rattle.std.proofs.Common.{◌≡◌, suc, ◌+◌, ◌<◌, List, length, get_or, sym, ◌∙◌, ap, subst, arith}
 use Rattle.lamport_clocks.specs.Header.{IsHeader}
 use Rattle.slot_rewriting.specs.Writing.{written_log, written_logs}
-use Rattle.host_world.specs.declared.settings.Settings.{Settings}
+use Rattle.shipped_host.specs.declared.settings.Settings.{Settings}
 use Rattle.host_core.specs.World.{Worker, World, fresh, logs_of}
 use Rattle.host_core.specs.WorldEvent.{with_worker}
 use Rattle.host_shard.specs.Content.{Content}

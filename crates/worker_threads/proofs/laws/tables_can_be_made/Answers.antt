@@ -4,20 +4,18 @@ use Rattle.host_shard.specs.Content.{Content}
 use Rattle.host_table.specs.Terms.{IsMaking}
 use Rattle.host_world.specs.Behind.{with_logs}
 use Rattle.host_world.proofs.FrontLaws.{length-before_each}
-use Rattle.worker_threads.proofs.BoundLemmas.{bounded_behind}
-use Rattle.worker_threads.proofs.PromiseLemmas.{in_phase}
 use Rattle.worker_threads.proofs.TableLemmas.{at_rest}
 use Rattle.worker_threads.proofs.laws.tables_can_be_made.Goals as goal
 
 pub returns : goal.returns
 returns c = record {
   workers = λ functions settings script logs world digests behind.
-      let orders = c.worlds_are_orderly.ensures.orderly functions settings script in
-      sym (length-before_each logs world.workers) ∙ (bounded_behind functions settings script digests orders (with_logs logs world) behind).workers;
-  making = λ functions settings script logs world contents digests behind counters begins lent.
+      sym (length-before_each logs world.workers)
+      ∙ (c.worlds_are_as_promised.ensures.standing functions settings script (with_logs logs world) digests behind).workers;
+  making = λ functions settings script logs world contents digests behind plain begins lent.
       let before : World Content = with_logs logs world in
-      let epochs = in_phase c.the_shipped_host_keeps_its_promise.ensures.promised functions settings script before digests behind counters in
+      let promised = c.worlds_are_as_promised.ensures.promised functions settings script before digests behind in
       subst (λ (n : ℕ). IsMaking settings.header n contents) (length-before_each logs world.workers)
-      (c.worlds_make_tables.ensures.making functions settings script before contents digests behind counters
-      (at_rest functions settings script logs world begins epochs) lent);
+      (c.worlds_make_tables.ensures.making functions settings script before contents digests behind
+      (at_rest functions settings script logs world begins (promised.in_phase plain)) lent);
 }

@@ -2,7 +2,7 @@ use Rattle.std.proofs.Common.{◌++◌, ◌∷◌, [], ℕ, List, sym, ◌∙◌
 use Rattle.std.proofs.lemmas.List.{map_push}
 use Rattle.std.proofs.lemmas.List.Elements.{All-push}
 use Rattle.certified_epochs.specs.declared.fed_run.FedRun.{FedRun}
-use Rattle.host_table.specs.declared.hand.Hand.{Hand}
+use Rattle.host_epochs.specs.declared.hand.Hand.{Hand}
 use Rattle.host_world.specs.declared.worker.Worker.{Worker}
 use Rattle.worker_threads.specs.Participants.{worker_in, hand_in, HaveAll}
 use Rattle.worker_threads.specs.Pairs.{parcels_in, run_in}

@@ -17,7 +17,7 @@ use Rattle.host_shard.specs.Shown.{shown_content}
 use Rattle.host_table.specs.Calls.{told_by}
 use Rattle.host_table.specs.Table.{table, terms}
 use Rattle.host_table.specs.Terms.{Terms, IsMaking}
-use Rattle.host_world.specs.declared.settings.Settings.{Settings}
+use Rattle.shipped_host.specs.declared.settings.Settings.{Settings}
 use Rattle.host_world.specs.Behind.{host_of}
 use Rattle.host_world.specs.Lending.{all_contents}
 use Rattle.host_world.specs.Shown.{shown_world, digests_of, requests_of}
@@ -45,7 +45,7 @@ pub turns_by_worker-requires-clause-short : goal.turns_by_worker-requires-clause
 turns_by_worker-requires-clause-short g c =
     let old = c.args.world.now in
     subst (λ (tasks : List Task). AllByRecursion (λ (task : Task). IsBlob (longest_of old.settings.header) task.request.value) tasks)
-    (sym (asked (requests_of old) c.requests.result.now old.phase c.phase.result c.phase-tasks.result.now c.requests.ensures.value c.phase.ensures.value c.phase-tasks.ensures.value))
+    (sym (asked (requests_of old) c.requests.result.now old.phase c.phase.result c.phase-tasks.result c.requests.ensures.value c.phase.ensures.value c.phase-tasks.ensures.value))
     (values_in old.settings.header (requests_of old) old.phase c.requires.behind.1.behind.values)
 
 pub turns_by_worker-requires-clause-workers : goal.turns_by_worker-requires-clause-workers
@@ -57,7 +57,7 @@ turns_by_worker-requires-clause-workers g c =
     let count = c.tables_can_be_made.ensures.workers functions old.settings (requests_of old) stands.0 (shown_world old) sized stands.1.behind in
     let verifiers = ap (λ (settings : Settings). settings.header.verifiers) c.settings-settings.ensures.value in
     subst (λ (tasks : List Task). AllByRecursion (λ (task : Task). task.worker < c.settings-settings.result.header.verifiers) tasks)
-    (sym (asked (requests_of old) c.requests.result.now old.phase c.phase.result c.phase-tasks.result.now c.requests.ensures.value c.phase.ensures.value c.phase-tasks.ensures.value))
+    (sym (asked (requests_of old) c.requests.result.now old.phase c.phase.result c.phase-tasks.result c.requests.ensures.value c.phase.ensures.value c.phase-tasks.ensures.value))
     (workers_in functions old.settings (requests_of old) old.phase c.settings-settings.result.header.verifiers
     (subst (λ (n : ℕ). AllByRecursion (λ (turn : ℕ × Request). turn.0 < n) (turns_of (host_of functions old) old.phase)) (count ∙ sym verifiers) c.requires.workers))
 
@@ -73,7 +73,7 @@ make-requires g c =
           subst (λ (settings : Settings). IsMaking settings.header settings.header.verifiers c.in_ok-contents.contents.items) (sym c.settings-settings.ensures.value)
           (subst (λ (n : ℕ). IsMaking old.settings.header n c.in_ok-contents.contents.items) count
           (c.tables_can_be_made.ensures.making functions old.settings (requests_of old) stands.0 (shown_world old) c.in_ok-contents.contents.items sized
-          stands.1.behind c.requires.counters c.requires.begins c.in_ok-contents.ensures.lent));
+          stands.1.behind c.requires.plain c.requires.begins c.in_ok-contents.ensures.lent));
     }
 
 pub serve_at_table-requires-clause-shared : goal.serve_at_table-requires-clause-shared
@@ -83,7 +83,7 @@ serve_at_table-requires-clause-shared g c κs within =
     let stands = c.requires.behind in
     let sized = subst (λ d. GivesDigests (g.D.Digests.functions d).digest) c.digests-d.ensures.value c.digests_have_32_bytes.ensures.sized in
     let made : Terms = terms g.D.Digests.functions c.in-Ok.records in
-    let tasks_are = asked (requests_of old) c.requests.result.now old.phase c.phase.result c.phase-tasks.result.now
+    let tasks_are = asked (requests_of old) c.requests.result.now old.phase c.phase.result c.phase-tasks.result
     c.requests.ensures.value c.phase.ensures.value c.phase-tasks.ensures.value in
     let lent : map shown_content made.contents ≡ all_contents (shown_world old).shards =
     ap (λ (t : Terms). map shown_content t.contents) c.in-Ok.ensures.terms ∙ c.in_ok-contents.ensures.lent in
@@ -97,7 +97,7 @@ serve_at_table-requires-clause-shared g c κs within =
           (length-map c.in_ok-turns.turns.items (λ own. own.items) ∙ c.in_ok-turns.ensures.count ∙ sym (ap (λ (t : Terms). t.workers) c.in-Ok.ensures.terms))
           (subst (λ (ts : List Task). AreAsked host (shown_world old) ts turns) tasks_are c.in_ok-turns.ensures.asked)
           (c.tables_are_of_their_worlds.ensures.places functions old.settings (requests_of old) stands.0 (shown_world old) made sized
-          stands.1.behind c.requires.begins.phase lent));
+          stands.1.behind lent));
       header = subst (λ (settings : Settings). IsHeader settings.header) (sym c.settings-settings.ensures.value) stands.1.behind.settings_fit.header;
     }
 
@@ -113,14 +113,14 @@ serve_at_table-requires-clause-ready g c κs within =
     ap (λ (t : Terms). map shown_content t.contents) c.in-Ok.ensures.terms ∙ c.in_ok-contents.ensures.lent in
     let count = c.tables_can_be_made.ensures.workers functions old.settings (requests_of old) stands.0 (shown_world old) sized stands.1.behind in
     let some : _ = (c.tables_can_be_made.ensures.making functions old.settings (requests_of old) stands.0 (shown_world old) made.contents sized
-    stands.1.behind c.requires.counters c.requires.begins lent).places in
+    stands.1.behind c.requires.plain c.requires.begins lent).places in
     to_serve (host_of functions old) (shown_world old) made (table c.in-Ok.records) c.lend_workers-workers.result.items c.in-Ok.hands.items c.settings-settings.result.header.verifiers
     (c.lend_workers-workers.ensures.lent ∙ ap (λ (w : World Content). w.workers) c.in_ok-contents.ensures.left)
     (ap (λ (t : Terms). t.workers) c.in-Ok.ensures.terms)
     (count ∙ sym (ap (λ h. h.verifiers) header))
     c.in-Ok.ensures.hands c.in-Ok.ensures.new c.requires.running
     (c.tables_are_of_their_worlds.ensures.clocks functions old.settings (requests_of old) stands.0 (shown_world old) made sized
-    stands.1.behind c.requires.begins.phase lent some (ap (λ (t : Terms). t.header) c.in-Ok.ensures.terms ∙ header))
+    stands.1.behind c.requires.plain c.requires.begins.phase lent some (ap (λ (t : Terms). t.header) c.in-Ok.ensures.terms ∙ header))
 
 pub serve_at_table-requires-clause-watch : goal.serve_at_table-requires-clause-watch
 serve_at_table-requires-clause-watch g c κs within =
@@ -196,7 +196,7 @@ returns g c =
     let at_once = served_at_once functions old.settings (requests_of old) (shown_world old) (shown_world new) made (table c.in-Ok.records)
     c.close.result.items c.lend_workers-workers.result.items c.in_ok-left.left.workers.items c.in_ok-left.left.hands.items turns
     c.requires.begins c.requires.running
-    (c.tables_are_of_their_worlds.ensures.of_world functions old.settings (requests_of old) stands.0 (shown_world old) made sized stands.1.behind c.requires.begins.phase lent
+    (c.tables_are_of_their_worlds.ensures.of_world functions old.settings (requests_of old) stands.0 (shown_world old) made sized stands.1.behind lent
     (ap (λ (t : Terms). t.header) c.in-Ok.ensures.terms ∙ header)
     (ap (λ (t : Terms). t.digest) c.in-Ok.ensures.terms ∙ ap (λ d. (g.D.Digests.functions d).digest) c.digests-d.ensures.value)
     (ap (λ (t : Terms). t.absent) c.in-Ok.ensures.terms ∙ ap (λ (s : Settings). s.absent) c.settings-settings.ensures.value)
@@ -207,7 +207,7 @@ returns g c =
     ∙ sym (ap (λ ws. length ws) lent_workers) ∙ length-map c.lend_workers-workers.result.items shown_worker)
     (subst (λ (owns : List (List Turn)). AreAsked host (shown_world old) (get_or (requests_of old) old.phase []) owns) (sym turns_are)
     (subst (λ (ts : List Task). AreAsked host (shown_world old) ts (map (λ own. own.items) c.in_ok-turns.turns.items))
-    (asked (requests_of old) c.requests.result.now old.phase c.phase.result c.phase-tasks.result.now
+    (asked (requests_of old) c.requests.result.now old.phase c.phase.result c.phase-tasks.result
     c.requests.ensures.value c.phase.ensures.value c.phase-tasks.ensures.value) c.in_ok-turns.ensures.asked))
     c.in_ok-left.ensures.served later in
     let workers_are : (shown_world new).workers ≡ map shown_worker c.in_ok-left.left.workers.items = ap (λ (w : World Content). w.workers) later in
@@ -216,7 +216,7 @@ returns g c =
     let way : LeadsAs AreOfPhase host (shown_world old) (shown_world new) c.first_end_of-end.result =
     subst (LeadsAs AreOfPhase host (shown_world old) (shown_world new)) (sym end_is)
     (c.phases_at_once_are_lists_of_events.ensures.leads functions old.settings (requests_of old) stands.0 (shown_world old) (shown_world new) made c.close.result.items
-    (map told_by c.in_ok-left.left.hands.items) sized stands.1.each stands.1.behind c.requires.counters at_once) in
+    (map told_by c.in_ok-left.left.hands.items) sized stands.1.each stands.1.behind c.requires.plain at_once) in
     let leads : Leads host (shown_world old) (shown_world new) c.first_end_of-end.result =
     as-leads host AreOfPhase (shown_world old) (shown_world new) c.first_end_of-end.result way in
     let one_host = hosts_then old c.take_back.new.self new
@@ -235,7 +235,7 @@ returns g c =
       leads = leads;
       form = way;
       served = c.phases_at_once_are_lists_of_events.ensures.served functions old.settings (requests_of old) (shown_world old) (shown_world new) made c.close.result.items
-          (map told_by c.in_ok-left.left.hands.items) at_once;
+          (map told_by c.in_ok-left.left.hands.items) c.requires.plain at_once;
       phase = ap (λ (w : World Content). w.phase) later;
       running = λ none before. none_stopped host (shown_world new) (sym end_is ∙ no_end c.first_end_of-end.result none);
       stopped = some_stopped host (shown_world new) c.first_end_of-end.result (sym end_is);

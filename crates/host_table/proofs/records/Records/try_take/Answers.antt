@@ -1,12 +1,11 @@
-use Rattle.std.proofs.Common.{◌≡◌, ◌∷◌, ap, sym, ◌∙◌, rules}
-use Rattle.atomic_table.specs.Table.{rest}
-use Rattle.host_table.specs.Hands.{content}
+use Rattle.host_epochs.specs.Table as rounds
+use Rattle.host_table.proofs.CallLemmas.{tries_phase}
 use Rattle.host_table.proofs.records.Records.try_take.Goals as goal
 
-pub exchange-content-requires : goal.exchange-content-requires
-exchange-content-requires g c =
-    let zero : c.try_word.result ≡ 0 = search rules in
-    let held = (c.try_word.ensures.won zero).holds in
-    let x = content c.try_word.new.hand in
-    let out = ap (λ (m : Rattle.host_table.specs.Plays.Sat). m.1) held.1 in
-    (held.0, (x, out ∙ ap (λ cs. (c.args.place, x) ∷ rest cs) (sym out)))
+pub returns : goal.returns
+returns g c =
+    let self = c.args.self.now in
+    record {
+      tries = tries_phase (rounds.terms g.D.Digests.functions self.epochs) self.one (rounds.table self.epochs) c.args.hand.now c.args.place c.try_take.result c.try_take.new.hand c.requires.free
+          c.try_take.ensures.tries;
+    }

@@ -4,7 +4,7 @@ use Rattle.host_shard.specs.Content.{Content, vacant}
 use Rattle.host_shard.specs.Shown.{shown_content}
 use Rattle.host_world.specs.Doing.{HasServed}
 use Rattle.host_world.specs.Places.{place_of}
-use Rattle.host_world.specs.ShippedHost.{serve_at}
+use Rattle.shipped_host.specs.ShippedHost.{serve_at}
 use Rattle.host_world.specs.Shown.{contents_of}
 use Rattle.host_world.specs.Workers.{shown_worker}
 use Rattle.host_world.proofs.WorldLemmas.{hot_there, hot_read, hot_set, set_same}

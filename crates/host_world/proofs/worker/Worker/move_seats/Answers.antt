@@ -10,10 +10,10 @@ use Rattle.protection_moves.specs.Shown.{shown_stage}
 use Rattle.protection_moves.specs.Stage.{Stage}
 use Rattle.protection_moves.specs.Move.{IsPastEnd}
 use Rattle.host_world.specs.Workers.{shown_worker}
-use Rattle.host_world.specs.Moving.{stage_of, seats_of, move_seats}
-use Rattle.host_world.proofs.ServeLemmas.{just_logged}
+use Rattle.shipped_host.specs.Moving.{stage_of, seats_of, move_seats}
+use Rattle.host_world.proofs.LoggedLemmas.{just_logged}
 use Rattle.host_world.proofs.TakenLemmas.{taken_in}
-use Rattle.host_world.proofs.DescentLaws.{move_past, move_is_done}
+use Rattle.shipped_host.proofs.DescentLaws.{move_past, move_is_done}
 use Rattle.host_world.proofs.worker.Worker.move_seats.Goals as goal
 
 pub migrate-requires-clause-places : goal.migrate-requires-clause-places

@@ -4,7 +4,8 @@ use Rattle.record_text.specs.Longest.{longest_blob}
 use Rattle.host_shard.specs.Shown.{shown_content}
 use Rattle.host_world.specs.Places.{place_of}
 use Rattle.host_world.specs.Workers.{shown_worker}
-use Rattle.host_world.proofs.ServeLemmas.{plan_is_served, having_logged}
+use Rattle.shipped_host.proofs.ServeLaws.{plan_is_served}
+use Rattle.host_world.proofs.LoggedLemmas.{having_logged}
 use Rattle.host_world.proofs.worker.Worker.serve.Goals as goal
 
 pub returns-in-Ok-clause-served : goal.returns-in-Ok-clause-served

@@ -8,7 +8,7 @@ use Rattle.host_core.specs.WorldEvent.{after_advance, logging, next_clock}
 use Rattle.host_world.specs.Shown.{shown_world}
 use Rattle.host_world.specs.Workers.{shown_worker}
 use Rattle.host_world.proofs.BegunLaws.{begun-set}
-use Rattle.host_world.proofs.WorldLemmas.{read_shown, set_same, changed-worker, after_advanced, after_last, on_err}
+use Rattle.host_world.proofs.WorldLemmas.{read_shown, set_same, changed, after_advanced, after_last, on_err}
 use Rattle.host_world.proofs.world.World.advance.Goals as goal
 
 pub invariant_of-self : goal.invariant_of-self
@@ -43,7 +43,7 @@ returns-then-branch-clause-stepped g c =
     let worker = sym (read_shown shown_worker old.workers.items i x (fresh old.settings.header) own c.index_mut.ensures.value) in
     let other = λ (last : x.clock.at.epoch ≡ last_epoch). false≢true (sym (c.in_ok-advance.ensures.last.1 last) ∙ c.if-branch.true) in
     ap (λ (workers : List Worker). record world { workers = workers; closing = true })
-    (changed-worker old.workers.items i x c.advance.new.self (fresh old.settings.header) (λ (w : Worker). logging w (NextEpoch ∷ []) (next_clock x.clock)) own c.index_mut.ensures.value
+    (changed shown_worker old.workers.items i x c.advance.new.self (fresh old.settings.header) (λ (w : Worker). logging w (NextEpoch ∷ []) (next_clock x.clock)) own c.index_mut.ensures.value
     (c.advance.ensures.advanced (c.in_ok-advance.was ∙ ap Ok c.if-branch.true)))
     ∙ ap (λ (w : Worker). record world { workers = set world.workers i (logging w (NextEpoch ∷ []) (next_clock x.clock)); closing = true }) (sym worker)
     ∙ after_advanced world i (shown_worker x) other

@@ -9,7 +9,7 @@ use Rattle.host_world.specs.Shown.{shown_world}
 use Rattle.host_world.specs.Workers.{shown_worker, writer_in}
 use Rattle.host_world.proofs.BegunLaws.{begun-at, begun-set}
 use Rattle.host_world.proofs.StandingLemmas.{stands_handed}
-use Rattle.host_world.proofs.WorldLemmas.{read_shown, set_same, changed-worker, on_err}
+use Rattle.host_world.proofs.WorldLemmas.{read_shown, set_same, changed, on_err}
 use Rattle.host_world.proofs.world.World.hand_out.Goals as goal
 
 pub invariant_of-self : goal.invariant_of-self
@@ -66,7 +66,7 @@ returns-clause-forgotten g c =
     let x = c.index_mut.result.now in
     let own : c.args.worker < length old.workers.items = omega (arith, c.requires.there, length-map old.workers.items shown_worker) in
     ap (λ (workers : List Worker). record (shown_world old) { workers = workers })
-    (changed-worker old.workers.items c.args.worker x _ (fresh old.settings.header) (λ (w : Worker). record w { log = [] }) own c.index_mut.ensures.value
+    (changed shown_worker old.workers.items c.args.worker x _ (fresh old.settings.header) (λ (w : Worker). record w { log = [] }) own c.index_mut.ensures.value
     (ap (λ (log : Logged). record (shown_worker x) { log = log.commands }) c.hand_out.ensures.begun))
 
 pub returns-clause-goes_on : goal.returns-clause-goes_on

@@ -2,10 +2,10 @@ use Rattle.std.proofs.Common.{◌≡◌, Bool, take, refl, subst, arith}
 use Rattle.tree_keys.specs.Bits.{number_of, bits_of}
 use Rattle.tree_keys.specs.Path.{key_bits}
 use Rattle.merkle_records.specs.Merkle.{GivesDigests}
-use Rattle.host_world.specs.Settings.{frontier_bits}
+use Rattle.shipped_host.specs.Settings.{frontier_bits}
 use Rattle.host_world.specs.Shown.{digests_of}
 use Rattle.record_text.specs.Longest.{longest_of}
-use Rattle.host_world.proofs.SeatLaws.{fits_blob}
+use Rattle.shipped_host.proofs.SeatLaws.{fits_blob}
 use Rattle.host_world.proofs.PlacingLemmas.{shards_in, few_shards, five_seats, place_there, place_owns}
 use Rattle.host_world.proofs.world.World.place_for.Goals as goal
 

@@ -8,11 +8,11 @@ use Rattle.host_core.specs.WorldEvent.{after_serve}
 use Rattle.host_plan.specs.Plan.{Owns, IsOpenAt}
 use Rattle.host_shard.specs.Content.{Content, vacant}
 use Rattle.host_world.specs.Places.{place_of}
-use Rattle.host_world.specs.ShippedHost.{serve_at}
+use Rattle.shipped_host.specs.ShippedHost.{serve_at}
 use Rattle.host_world.specs.Shown.{shown_world, shown_seats, contents_of, digests_of, requests_of}
 use Rattle.host_world.specs.Workers.{shown_worker}
 use Rattle.host_world.proofs.BegunLaws.{begun-set}
-use Rattle.host_world.proofs.BehindLemmas.{serves_with}
+use Rattle.host_world.proofs.BehindLaws.{serves_with}
 use Rattle.host_world.proofs.WorldLemmas.{read_shown, set_same, same_seats, read_back, after_served, after_stopped, none_of, on_err, one_answer}
 use Rattle.host_world.proofs.world.World.serve.Goals as goal
 

@@ -1,5 +1,5 @@
 use Rattle.std.proofs.Common.{subst}
-use Rattle.host_core.specs.WorldEvent.{takes, serves, gives, advances, moves, opens, IsEnabled}
+use Rattle.host_core.specs.WorldEvent.{takes, serves, gives, advances, moves, opens, raises, enters, scans, finishes, stops, IsEnabled}
 use Rattle.host_world.specs.declared.event.Event.{Event}
 use Rattle.host_world.specs.Places.{place_of}
 use Rattle.host_world.specs.Behind.{host_of}
@@ -28,6 +28,23 @@ returns-in-Move-clause-goes_on g c =
 pub returns-in-Open-clause-goes_on : goal.returns-in-Open-clause-goes_on
 returns-in-Open-clause-goes_on g c = stands_stepped g.D.Digests.functions c.args.self.now c.open.new.self c.open.ensures.host opens (subst (λ (e : Event). IsEnabled (host_of (g.D.Digests.functions (digests_of c.args.self.now)) c.args.self.now) (shown_world c.args.self.now) (shown_event e)) c.in-Open.is c.requires.enabled) c.open.ensures.stepped
 
+pub returns-in-Raise-clause-goes_on : goal.returns-in-Raise-clause-goes_on
+returns-in-Raise-clause-goes_on g c = stands_stepped g.D.Digests.functions c.args.self.now c.raise.new.self c.raise.ensures.host (raises c.in-Raise.worker) (subst (λ (e : Event). IsEnabled (host_of (g.D.Digests.functions (digests_of c.args.self.now)) c.args.self.now) (shown_world c.args.self.now) (shown_event e)) c.in-Raise.is c.requires.enabled) c.raise.ensures.stepped
+
+pub returns-in-Scan-clause-goes_on : goal.returns-in-Scan-clause-goes_on
+returns-in-Scan-clause-goes_on g c =
+    stands_answered g.D.Digests.functions c.args.self.now c.scan.new.self c.scan.ensures.host (scans c.in-Scan.worker (place_of c.in-Scan.place)) (subst (λ (e : Event). IsEnabled (host_of (g.D.Digests.functions (digests_of c.args.self.now)) c.args.self.now) (shown_world c.args.self.now) (shown_event e)) c.in-Scan.is c.requires.enabled) c.scan.result c.scan.ensures.stepped c.scan.ensures.as_before
+
+pub returns-in-Finish-clause-goes_on : goal.returns-in-Finish-clause-goes_on
+returns-in-Finish-clause-goes_on g c = stands_stepped g.D.Digests.functions c.args.self.now c.finish.new.self c.finish.ensures.host (finishes c.in-Finish.worker) (subst (λ (e : Event). IsEnabled (host_of (g.D.Digests.functions (digests_of c.args.self.now)) c.args.self.now) (shown_world c.args.self.now) (shown_event e)) c.in-Finish.is c.requires.enabled) c.finish.ensures.stepped
+
+pub returns-in-Stop-clause-goes_on : goal.returns-in-Stop-clause-goes_on
+returns-in-Stop-clause-goes_on g c = stands_stepped g.D.Digests.functions c.args.self.now c.stop.new.self c.stop.ensures.host (stops c.in-Stop.worker c.in-Stop.found) (subst (λ (e : Event). IsEnabled (host_of (g.D.Digests.functions (digests_of c.args.self.now)) c.args.self.now) (shown_world c.args.self.now) (shown_event e)) c.in-Stop.is c.requires.enabled) c.stop.ensures.stepped
+
+pub returns-in_ok-enter-in-Enter-clause-goes_on : goal.returns-in_ok-enter-in-Enter-clause-goes_on
+returns-in_ok-enter-in-Enter-clause-goes_on g c =
+    stands_stepped g.D.Digests.functions c.args.self.now c.enter.new.self c.enter.ensures.host (enters c.in-Enter.worker) (subst (λ (e : Event). IsEnabled (host_of (g.D.Digests.functions (digests_of c.args.self.now)) c.args.self.now) (shown_world c.args.self.now) (shown_event e)) c.in-Enter.is c.requires.enabled) c.in_ok-enter-in-Enter.ensures.stepped
+
 pub returns-in-Take-clause-behind : goal.returns-in-Take-clause-behind
 returns-in-Take-clause-behind g c = (c.requires.behind.0, returns-in-Take-clause-goes_on g c c.requires.behind.0 c.requires.behind.1)
 
@@ -45,3 +62,18 @@ returns-in-Move-clause-behind g c = (c.requires.behind.0, returns-in-Move-clause
 
 pub returns-in-Open-clause-behind : goal.returns-in-Open-clause-behind
 returns-in-Open-clause-behind g c = (c.requires.behind.0, returns-in-Open-clause-goes_on g c c.requires.behind.0 c.requires.behind.1)
+
+pub returns-in-Raise-clause-behind : goal.returns-in-Raise-clause-behind
+returns-in-Raise-clause-behind g c = (c.requires.behind.0, returns-in-Raise-clause-goes_on g c c.requires.behind.0 c.requires.behind.1)
+
+pub returns-in-Scan-clause-behind : goal.returns-in-Scan-clause-behind
+returns-in-Scan-clause-behind g c = (c.requires.behind.0, returns-in-Scan-clause-goes_on g c c.requires.behind.0 c.requires.behind.1)
+
+pub returns-in-Finish-clause-behind : goal.returns-in-Finish-clause-behind
+returns-in-Finish-clause-behind g c = (c.requires.behind.0, returns-in-Finish-clause-goes_on g c c.requires.behind.0 c.requires.behind.1)
+
+pub returns-in-Stop-clause-behind : goal.returns-in-Stop-clause-behind
+returns-in-Stop-clause-behind g c = (c.requires.behind.0, returns-in-Stop-clause-goes_on g c c.requires.behind.0 c.requires.behind.1)
+
+pub returns-in_ok-enter-in-Enter-clause-behind : goal.returns-in_ok-enter-in-Enter-clause-behind
+returns-in_ok-enter-in-Enter-clause-behind g c = (c.requires.behind.0, returns-in_ok-enter-in-Enter-clause-goes_on g c c.requires.behind.0 c.requires.behind.1)

@@ -5,7 +5,7 @@ use Rattle.host_world.specs.Places.{place_of}
 use Rattle.host_world.specs.Shown.{shown_world}
 use Rattle.host_world.specs.Workers.{shown_worker}
 use Rattle.host_world.proofs.BegunLaws.{begun-set}
-use Rattle.host_world.proofs.WorldLemmas.{changed-worker}
+use Rattle.host_world.proofs.WorldLemmas.{changed}
 use Rattle.host_world.proofs.world.World.take.Goals as goal
 
 pub invariant_of-self : goal.invariant_of-self
@@ -18,5 +18,5 @@ returns-clause-stepped g c =
     let old = c.args.self.now in
     let own : c.args.worker < length old.workers.items = omega (arith, c.requires.may.serving.there, length-map old.workers.items shown_worker) in
     ap (λ (workers : List Worker). record (shown_world old) { workers = workers })
-    (changed-worker old.workers.items c.args.worker c.index_mut.result.now _ (fresh old.settings.header)
+    (changed shown_worker old.workers.items c.args.worker c.index_mut.result.now _ (fresh old.settings.header)
     (λ (w : Worker). record w { holds = Some (record { place = place_of c.args.place; used = false }) }) own c.index_mut.ensures.value refl)

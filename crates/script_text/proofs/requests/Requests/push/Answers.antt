@@ -1,15 +1,18 @@
-use Rattle.std.proofs.Common.{◌∙◌, [], ◌∷◌, ◌++◌, map, List, ap, sym}
+use Rattle.std.proofs.Common.{◌∙◌, ap, sym, List, map, drop, ◌++◌, ◌∷◌, []}
+use Rattle.std.proofs.lemmas.Result.{on_ok_weaker}
 use Rattle.script_text.specs.declared.task.Line.TheVariants as said
 use Rattle.script_text.specs.declared.task.Task.{Task}
+use Rattle.script_text.specs.Extents.{phase_at}
 use Rattle.script_text.specs.Script.{then_line}
-use Rattle.script_text.proofs.ScriptLemmas.{then_line-last}
+use Rattle.script_text.proofs.ExtentLemmas.{task_joins}
 use Rattle.script_text.proofs.requests.Requests.push.Goals as goal
 
-pub returns-in_ok-push-in-Task-clause-added : goal.returns-in_ok-push-in-Task-clause-added
-returns-in_ok-push-in-Task-clause-added c =
-    let closed : List (List Task) = map (λ phase. phase.items) c.self.inside.closed.items in
-    let task : Task = c.in-Task.task in
-    ap (λ items. closed ++ items ∷ []) c.in_ok-push-in-Task.ensures.items
-    ∙ sym (then_line-last closed c.self.inside.last.items task)
-    ∙ ap (λ phases. then_line phases (said.Task task)) c.self.view_is
-    ∙ ap (then_line c.args.self.now) (sym c.in-Task.is)
+pub returns-in-Task-clause-added : goal.returns-in-Task-clause-added
+returns-in-Task-clause-added c =
+    let closed = c.self.inside.closed.items in
+    let last = c.self.inside.last in
+    on_ok_weaker c.push.result (λ added.
+    ap (λ (tasks : List Task). map (phase_at tasks) closed ++ drop last tasks ∷ []) added
+    ∙ task_joins c.self.inside.tasks c.in-Task.task closed last c.self.invariant.0 c.self.invariant.1
+    ∙ ap (λ (phases : List (List Task)). then_line phases (said.Task c.in-Task.task)) c.self.view_is
+    ∙ ap (then_line c.args.self.now) (sym c.in-Task.is)) c.push.ensures.added

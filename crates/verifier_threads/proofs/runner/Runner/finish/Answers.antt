@@ -1,7 +1,7 @@
 use Rattle.std.proofs.Common.{◌≡◌, List, IfOk, OnErr, sym, subst}
 use Rattle.record_hash.specs.Functions.{DigestFunctions}
 use Rattle.script_text.specs.declared.task.Task.{Task}
-use Rattle.host_world.specs.declared.settings.Settings.{Settings}
+use Rattle.shipped_host.specs.declared.settings.Settings.{Settings}
 use Rattle.host_world.specs.Shown.{shown_world, digests_of, requests_of}
 use Rattle.verifier_threads.specs.declared.accounts.Account.{Account}
 use Rattle.verifier_threads.specs.declared.runner.NextCall.TheVariants as calls

@@ -1,4 +1,4 @@
-use Rattle.std.proofs.Common.{◌≡◌, ◌≤◌, ℕ, List, length, refl, sym, ◌∙◌, ap, subst, arith, Err, inl, inr}
+use Rattle.std.proofs.Common.{◌≡◌, ◌≤◌, ℕ, ◌-◌, Bool, if◌then◌else◌, List, length, refl, sym, ◌∙◌, ap, subst, arith, Err, inl, inr}
 use Rattle.std.proofs.lemmas.Bool.{cases_lt}
 use Rattle.fv_outside.proofs.WrittenLaws.{GrowsByFront-none}
 use Rattle.record_hash.specs.Functions.{DigestFunctions}
@@ -7,11 +7,13 @@ use Rattle.script_text.specs.declared.task.Task.{Task}
 use Rattle.host_core.specs.Host.{Host}
 use Rattle.host_core.specs.World.{World, set_up}
 use Rattle.host_shard.specs.Content.{Content}
-use Rattle.host_world.specs.declared.settings.Settings.{Settings}
+use Rattle.shipped_host.specs.declared.settings.Settings.{Settings}
 use Rattle.host_world.specs.declared.world.World as code
-use Rattle.host_world.specs.Settings.{IsSettings}
+use Rattle.shipped_host.specs.Settings.{IsSettings}
 use Rattle.host_world.specs.Shown.{shown_world, digests_of, requests_of}
-use Rattle.host_world.specs.Behind.{AreInRange, HaveShortValues, host_of}
+use Rattle.shipped_host.specs.ShippedHost.{shipped_host}
+use Rattle.shipped_host.specs.Ranges.{AreInRange, HaveShortValues}
+use Rattle.host_world.specs.Behind.{host_of}
 use Rattle.verifier_threads.specs.Serving.{IsCutOff, IsCutInHeader, setup_end}
 use Rattle.verifier_threads.specs.Running.{RunsBehind, IsAtPhase}
 use Rattle.verifier_threads.proofs.PassingLemmas.{err_any}
@@ -32,6 +34,7 @@ new-requires-in-Ok g c =
     record {
       setup = says.set_up ∙ ap (λ (h : Host Content Request). set_up h) (sym says.host);
       settings = subst IsSettings (sym says.numbers) c.requires.settings;
+      plain = ap (λ (s : Settings). s.rolling) says.numbers ∙ c.requires.plain;
       counters = subst (λ (s : Settings). s.shards ≤ s.header.end) (sym says.numbers) suffices;
       keys = subst (λ (s : Settings). AreInRange s.header (requests_of c.in-Ok.world)) (sym says.numbers)
           (subst (AreInRange settings.header) (sym says.asked) (c.scripts_ask_for_keys_in_range.ensures.keys settings.header c.args.requests.now c.requires.tasks));
@@ -73,7 +76,9 @@ returns-in_ok-served-in-Ok-clause-stands g c = λ held.
     let made = c.in_ok-served-in-Ok.ensures in
     let vault = g.V.Sink.held c.args.vault.now in
     let vault' = g.V.Sink.held c.new-in-Ok.new.vault in
-    let phase : (shown_world run.world).phase ≡ 0 = ap (λ (w : code.World _). (shown_world w).phase) made.world ∙ ap (λ (w : World Content). w.phase) says.set_up in
+    let phase : (shown_world run.world).phase ≡ 0 = ap (λ (w : code.World _). (shown_world w).phase) made.world ∙ ap (λ (w : World Content). w.phase) says.set_up
+    ∙ ap (λ (rolling : Bool). if rolling then length (shipped_host (functions c.args.d.now) c.args.settings.now c.args.requests.now).script - 1 else 0)
+    c.requires.plain in
     record {
       account_is = refl;
       state = record {

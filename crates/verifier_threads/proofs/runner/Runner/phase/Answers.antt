@@ -1,7 +1,7 @@
 use Rattle.std.proofs.Common.{◌≡◌, ◌-◌, ℕ, suc, List, length, sym, ◌∙◌, ap, subst, arith}
 use Rattle.record_hash.specs.Functions.{DigestFunctions}
 use Rattle.script_text.specs.declared.task.Task.{Task}
-use Rattle.host_world.specs.declared.settings.Settings.{Settings}
+use Rattle.shipped_host.specs.declared.settings.Settings.{Settings}
 use Rattle.host_world.specs.Shown.{shown_world, requests_of}
 use Rattle.verifier_threads.specs.declared.runner.NextCall.{NextCall}
 use Rattle.verifier_threads.specs.declared.runner.NextCall.TheVariants as calls

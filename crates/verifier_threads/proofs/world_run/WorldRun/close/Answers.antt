@@ -2,7 +2,7 @@ use Rattle.std.proofs.Common.{◌≡◌, ◌<◌, ◌-◌, ℕ, suc, List, lengt
 use Rattle.std.proofs.lemmas.List.{length-map}
 use Rattle.std.proofs.lemmas.Result.{err_from_is_err_and}
 use Rattle.script_text.specs.declared.task.Task.{Task}
-use Rattle.host_world.specs.ShippedHost.{turn_of}
+use Rattle.shipped_host.specs.ShippedHost.{turn_of}
 use Rattle.host_world.specs.Shown.{shown_world, requests_of}
 use Rattle.verifier_threads.specs.declared.runner.NextCall.TheVariants as calls
 use Rattle.verifier_threads.specs.declared.runner.State.TheVariants as states

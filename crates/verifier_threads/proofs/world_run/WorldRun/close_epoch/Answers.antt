@@ -8,7 +8,7 @@ use Rattle.host_core.specs.World.{World, logs_of}
 use Rattle.host_shard.specs.Content.{Content}
 use Rattle.script_text.specs.declared.task.Task.{Task}
 use Rattle.host_world.specs.declared.fault.ClockEnd.{ClockEnd}
-use Rattle.host_world.specs.declared.settings.Settings.{Settings}
+use Rattle.shipped_host.specs.declared.settings.Settings.{Settings}
 use Rattle.host_world.specs.Shown.{shown_world, digests_of, requests_of}
 use Rattle.host_world.specs.Behind.{host_of}
 use Rattle.host_serving.specs.Leading.{first_of}

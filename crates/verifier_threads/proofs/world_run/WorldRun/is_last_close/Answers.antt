@@ -1,7 +1,7 @@
 use Rattle.std.proofs.Common.{◌≡◌, ◌-◌, List, length, map, ◌∙◌, ap, arith}
 use Rattle.std.proofs.lemmas.List.{length-map}
 use Rattle.script_text.specs.declared.task.Task.{Task}
-use Rattle.host_world.specs.ShippedHost.{turn_of}
+use Rattle.shipped_host.specs.ShippedHost.{turn_of}
 use Rattle.host_world.specs.Shown.{shown_world, digests_of, requests_of}
 use Rattle.host_world.specs.Behind.{host_of}
 use Rattle.verifier_threads.proofs.PhaseLemmas.{closes-last}

@@ -5,8 +5,8 @@ use Rattle.lamport_clocks.specs.declared.header.Header.{Header}
 use Rattle.bundle_report.specs.Logs.{empty_logs}
 use Rattle.host_core.specs.World.{World}
 use Rattle.host_shard.specs.Content.{Content}
-use Rattle.host_world.specs.declared.settings.Settings.{Settings}
-use Rattle.host_world.specs.ShippedHost.{turn_of}
+use Rattle.shipped_host.specs.declared.settings.Settings.{Settings}
+use Rattle.shipped_host.specs.ShippedHost.{turn_of}
 use Rattle.host_world.specs.Shown.{shown_world, digests_of, requests_of}
 use Rattle.host_world.specs.Behind.{host_of}
 use Rattle.host_rounds.specs.SoFar.{Keeps, lines_due}
@@ -54,7 +54,7 @@ returns-clause-runs g c = λ account held.
       runs = record {
         running =
             running-new account f world.settings (requests_of world) (shown_world world) c.in_ok-rounds.rounds (g.V.Sink.held c.args.vault.now) (g.V.Sink.held c.new.new.vault) held
-            (record { settings_fit = c.requires.settings; counters = c.requires.counters; keys = c.requires.keys; values = c.requires.values; is = c.requires.setup; count = count })
+            (record { settings_fit = c.requires.settings; plain = c.requires.plain; counters = c.requires.counters; keys = c.requires.keys; values = c.requires.values; is = c.requires.setup; count = count })
             (subst (λ (header : Header). Keeps f header (empty_logs header.verifiers) [] c.in_ok-rounds.rounds (g.V.Sink.held c.args.vault.now) (g.V.Sink.held c.new.new.vault)) header_is
             (c.in_ok-rounds.ensures.keeps f))
             c.in_ok-rounds.ensures.none;
@@ -89,4 +89,4 @@ returns-clause-begins g c =
     let world = c.args.world in
     let host = host_of (g.D.Digests.functions (digests_of world)) world in
     subst (λ (w : World Content). IsAtPhase host w None) (sym c.requires.setup)
-    (set_up-begins host refl (omega (arith, c.requires.some, length-map (requests_of world) (map turn_of))))
+    (set_up-begins host c.requires.plain (omega (arith, c.requires.some, length-map (requests_of world) (map turn_of))))

@@ -6,7 +6,7 @@ use Rattle.slot_rewriting.specs.Writing.{written_logs}
 use Rattle.host_core.specs.World.{World, logs_of}
 use Rattle.host_shard.specs.Content.{Content}
 use Rattle.script_text.specs.declared.task.Task.{Task}
-use Rattle.host_world.specs.declared.settings.Settings.{Settings}
+use Rattle.shipped_host.specs.declared.settings.Settings.{Settings}
 use Rattle.host_world.specs.Shown.{shown_world, digests_of}
 use Rattle.host_rounds.specs.Round.{logs_with}
 use Rattle.host_rounds.specs.SoFar.{Keeps, HaveRun}

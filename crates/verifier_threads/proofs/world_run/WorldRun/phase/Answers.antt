@@ -6,7 +6,7 @@ use Rattle.host_core.specs.World.{World, logs_of}
 use Rattle.host_shard.specs.Content.{Content}
 use Rattle.script_text.specs.declared.task.Task.{Task}
 use Rattle.host_world.specs.declared.fault.ClockEnd.{ClockEnd}
-use Rattle.host_world.specs.declared.settings.Settings.{Settings}
+use Rattle.shipped_host.specs.declared.settings.Settings.{Settings}
 use Rattle.host_world.specs.Shown.{shown_world, digests_of}
 use Rattle.host_world.specs.Behind.{host_of}
 use Rattle.host_serving.specs.Leading.{first_of}
@@ -33,8 +33,8 @@ serve_phase_at_once-requires-clause-begins g c κs within = c.requires.begins.be
 pub serve_phase_at_once-requires-clause-running : goal.serve_phase_at_once-requires-clause-running
 serve_phase_at_once-requires-clause-running g c κs within = c.requires.begins.running
 
-pub serve_phase_at_once-requires-clause-counters : goal.serve_phase_at_once-requires-clause-counters
-serve_phase_at_once-requires-clause-counters g c κs within = c.requires.runs.2.runs.running.counters
+pub serve_phase_at_once-requires-clause-plain : goal.serve_phase_at_once-requires-clause-plain
+serve_phase_at_once-requires-clause-plain g c κs within = c.requires.runs.2.runs.running.plain
 
 pub serve_phase_at_once-requires-clause-runs : goal.serve_phase_at_once-requires-clause-runs
 serve_phase_at_once-requires-clause-runs g c κs within =

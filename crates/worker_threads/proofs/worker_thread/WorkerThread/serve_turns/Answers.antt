@@ -3,7 +3,7 @@ use Rattle.std.proofs.lemmas.List.{length-map}
 use Rattle.std.proofs.lemmas.List.Elements.{All-get_or}
 use Rattle.record_text.specs.declared.request.Request.{Request}
 use Rattle.host_core.specs.World.{Worker}
-use Rattle.host_table.specs.declared.hand.Hand.{Hand}
+use Rattle.host_epochs.specs.declared.hand.Hand.{Hand}
 use Rattle.host_table.specs.Calls.{told_by}
 use Rattle.host_table.specs.Hands.{worker_of}
 use Rattle.host_table.specs.Table.{terms}
@@ -30,8 +30,8 @@ serve-requires-clause-place g c =
     (c.from.ensures ∙ c.worker.ensures.worker ∙ ap worker_of c.offer.ensures.hand) within in
     let all : HavePlaces known items =
     subst (HavePlaces known) (sym own_is) (All-get_or (HavePlaces known) turns number [] (omega (arith, c.requires.number, many)) c.requires.shared.turns.places) in
-    subst (λ (turn : Turn). IsPlaceOf known turn.place turn.request.now.key) (sym c.turn-item.is)
-    (All-get_or (λ turn. IsPlaceOf known turn.place turn.request.now.key) items c.loop-turn.turn-index c.turn-item.result c.loop-turn-test.true all)
+    subst (λ (turn : Turn). IsPlaceOf known turn.place turn.task.request.key) (sym c.turn-item.is)
+    (All-get_or (λ turn. IsPlaceOf known turn.place turn.task.request.key) items c.loop-turn.turn-index c.turn-item.result c.loop-turn-test.true all)
 
 pub loop-turn-preserved : goal.loop-turn-preserved
 loop-turn-preserved g c =

@@ -1,4 +1,4 @@
-use Rattle.std.proofs.Common.{◌≡◌, take}
+use Rattle.std.proofs.Common.{take}
 use Rattle.host_table.specs.Table.{table, terms}
 use Rattle.worker_threads.specs.Parts.{asked_in}
 use Rattle.worker_threads.specs.Serving.{GoesOnAs, HasDoneMore, IsAtWork}

@@ -1,0 +1,9 @@
+use Rattle.std.proofs.Common.{map, ap, ◌∙◌}
+use Rattle.host_world.specs.Shown.{shown_event}
+use Rattle.host_tests.proofs.RoundLemmas.{AreEnabledBehind-same}
+use Rattle.host_tests.proofs.rounds.one_enters_while_another_serves.Goals as goal
+
+pub logs_behind-logs-requires-clause-enabled : goal.logs_behind-logs-requires-clause-enabled
+logs_behind-logs-requires-clause-enabled g c = λ functions.
+    AreEnabledBehind-same functions c.settings-settings.ensures.settings c.script_beside-requests.ensures.script
+    (ap (map shown_event) c.as_slice.ensures.value ∙ c.events_beside-events.ensures.events) (c.worked_rounds_are_enabled.ensures.beside functions)

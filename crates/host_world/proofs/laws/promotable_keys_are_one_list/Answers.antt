@@ -1,5 +1,0 @@
-use Rattle.host_world.proofs.PromotableLemmas.{are_promotable, promotable_is}
-use Rattle.host_world.proofs.laws.promotable_keys_are_one_list.Goals as goal
-
-pub returns : goal.returns
-returns c = record { there = are_promotable; only = promotable_is }

@@ -1,5 +1,0 @@
-use Rattle.host_world.proofs.PlannedLaws.{served_is_planned}
-use Rattle.host_world.proofs.laws.what_is_served_is_planned.Goals as goal
-
-pub returns : goal.returns
-returns c = record { planned = served_is_planned }
