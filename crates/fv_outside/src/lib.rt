@@ -13,6 +13,7 @@
 #![tactic(auto)]
 
 mod calls;
+mod counters;
 mod errors;
 mod failure;
 mod file_vaults;
@@ -25,6 +26,7 @@ mod std_streams;
 mod sure_sinks;
 
 pub use base_words::Memory;
+pub use counters::{Counter, MemoryCounter, SureCounter};
 pub use errors::Failed;
 pub use failure::Failure;
 pub use file_vaults::FileVault;
