@@ -10,6 +10,10 @@ eight at = at 0 ∷ at 1 ∷ at 2 ∷ at 3 ∷ at 4 ∷ at 5 ∷ at 6 ∷ at 7 �
 abbrev pub zero_sum : Tally
 zero_sum = record { lanes = eight (λ _. 0); count = 0 }
 
+-- these sums of the lanes, of so many elements
+abbrev pub sum_with : List ℕ → ℕ → Tally
+sum_with lanes count = record { lanes = lanes; count = count }
+
 -- one element more, whose hash has these lanes
 abbrev pub with_lanes : Tally → List ℕ → Tally
 with_lanes s lanes = record { lanes = eight (λ lane. slice_index s.lanes lane + slice_index lanes lane); count = s.count + 1 }

@@ -1,7 +1,7 @@
 //! The sum of a multiset of elements, lane by lane.
-ghost use Rattle.std.specs.Prelude.{◌≡◌, ◌+◌, ◌^◌, ◌<◌};
+ghost use Rattle.std.specs.Prelude.{◌≡◌, ◌+◌, ◌-◌, ◌*◌, ◌^◌, ◌<◌, ◌≤◌, EachIndex, slice_index};
 ghost use Rattle.multiset_sum.specs.Tally.{IsTally};
-ghost use Rattle.multiset_sum.specs.Sum.{zero_sum, with_lanes, joined};
+ghost use Rattle.multiset_sum.specs.Sum.{zero_sum, sum_with, with_lanes, joined};
 
 use std::marker::Model;
 
@@ -36,6 +36,15 @@ impl Sum {
             lanes: [0; 8],
             count: 0,
         }
+    }
+
+    /// The sum of so many elements whose lanes have these sums.
+    pub fn of(lanes: [u64; 8], count: u64) -> Self
+        requires room { count < 2 ^ 31 }
+        requires bounded { EachIndex lanes (λ lane. slice_index lanes lane ≤ count * (2 ^ 32 - 1)) }
+        ensures sum { result ≡ sum_with lanes count }
+    {
+        Sum { lanes, count }
     }
 
     /// The sum of each of the eight lanes.
