@@ -5,6 +5,7 @@ mod FrontLaws
 mod BundleLaws
 mod PartLaws
 mod FindsLaws
+mod JoinedLaws
 mod ExtentLemmas
 mod ReaderLemmas
 mod TextLemmas

@@ -15,6 +15,10 @@ pub record Progress : Type 0 where
 abbrev pub start : Progress
 start = record { header = None; offset = 0; held = []; body = [] }
 
+-- behind so many bytes of a bundle with this header, which are whole frames to their end
+abbrev pub start_behind : Header → ℕ → Progress
+start_behind header offset = record { header = Some header; offset = offset; held = []; body = [] }
+
 -- how many bytes were taken in all
 abbrev pub position : Progress → ℕ
 position p = p.offset + length p.held

@@ -1,5 +1,5 @@
 //! What follows from the definitions of bundles. These functions do nothing: their contracts are the laws.
-ghost use Rattle.std.specs.Prelude.{◌≡◌, ℕ, ◌^◌, ◌<◌, ◌≤◌, List, ◌++◌, length, take, All};
+ghost use Rattle.std.specs.Prelude.{◌≡◌, ℕ, ◌^◌, ◌<◌, ◌≤◌, List, ◌++◌, length, take, All, Some, None};
 ghost use Rattle.std.specs.List.{AllByRecursion};
 ghost use Rattle.lamport_clocks.specs.declared.header.Header.{Header};
 ghost use Rattle.lamport_clocks.specs.Header.{IsHeader};
@@ -42,4 +42,19 @@ pub fn bundles_are_read_back()
 pub fn bytes_bound_the_frames()
     ensures enough { (count verifiers offset : ℕ) (bytes : List ℕ) → length bytes ≤ count
         → frames_up_to count verifiers offset bytes ≡ frames_from verifiers offset bytes }
+{}
+
+/// A bundle of which nothing is bad goes on with the frames of the bytes that follow. What is bad there has its offset in all
+/// of the bytes.
+pub fn whole_bundles_go_on()
+    ensures header { (bytes more : List ℕ) (header : Header)
+        → (bundle_of bytes).header ≡ Some header → (bundle_of bytes).bad ≡ None
+        → (bundle_of (bytes ++ more)).header ≡ Some header }
+    ensures frames { (bytes more : List ℕ) (header : Header)
+        → (bundle_of bytes).header ≡ Some header → (bundle_of bytes).bad ≡ None
+        → (bundle_of (bytes ++ more)).frames
+        ≡ (bundle_of bytes).frames ++ (frames_from header.verifiers (length bytes) more).frames }
+    ensures bad { (bytes more : List ℕ) (header : Header)
+        → (bundle_of bytes).header ≡ Some header → (bundle_of bytes).bad ≡ None
+        → (bundle_of (bytes ++ more)).bad ≡ (frames_from header.verifiers (length bytes) more).bad }
 {}

@@ -39,7 +39,7 @@ impl Splitter {
     ghost use Rattle.lamport_clocks.specs.declared.header.Header.{Header};
     ghost use Rattle.lamport_clocks.specs.Header.{IsHeader};
     ghost use Rattle.bundle_frames.specs.Bundle.{IsFrame};
-    ghost use Rattle.bundle_frames.specs.Progress.{start, position, rest_of, is_bad, is_boundary};
+    ghost use Rattle.bundle_frames.specs.Progress.{start, start_behind, position, rest_of, is_bad, is_boundary};
     ghost use Rattle.bundle_frames.specs.Unfinished.{IsUnfinished};
     ghost use Rattle.bundle_frames.specs.Finds.{Finds, progress_after, found_then};
 
@@ -53,6 +53,20 @@ impl Splitter {
             is_whole: false,
             header: None,
             offset: 0,
+        })
+    }
+
+    /// A splitter that goes on behind so many bytes of a bundle with this header, which were a header and whole frames. The
+    /// offset counts among the bytes that it took.
+    pub fn resume(alloc: Global, header: &Header, offset: u64) -> Result<Splitter, Memory>
+        ensures starts { IfOk result (λ s. s ≡ start_behind header.now offset) }
+    {
+        let buffer = Vec::with_capacity(alloc, MOST_BYTES)?;
+        Ok(Splitter {
+            buffer,
+            is_whole: false,
+            header: Some(*header),
+            offset,
         })
     }
 

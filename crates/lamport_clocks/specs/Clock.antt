@@ -10,6 +10,10 @@ use Rattle.lamport_clocks.specs.Reading.{Reading}
 abbrev pub opening_reading : ℕ → ℕ → Reading
 opening_reading first end = record { first = first; end = end; at = record { epoch = first; counter = 0 } }
 
+-- at a stamp
+abbrev pub reading_at : ℕ → ℕ → Stamp → Reading
+reading_at first end at = record { first = first; end = end; at = at }
+
 -- the epochs of which stamps are taken in: the clock's and, past the first, the one before
 abbrev pub is_open : Reading → ℕ → Bool
 is_open clock epoch = epoch == clock.at.epoch || (nat_lt clock.first clock.at.epoch && epoch + 1 == clock.at.epoch)

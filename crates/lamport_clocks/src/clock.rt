@@ -1,7 +1,7 @@
 //! A verifier's clock, and its three steps.
 ghost use Rattle.std.specs.Prelude.{◌≡◌, ◌≤◌};
 ghost use Rattle.base_words.specs.Follows.{Follows, Becomes};
-ghost use Rattle.lamport_clocks.specs.Clock.{opening_reading, is_open, received, sent, advanced};
+ghost use Rattle.lamport_clocks.specs.Clock.{opening_reading, reading_at, is_open, received, sent, advanced};
 
 use crate::stamp::Stamp;
 use std::marker::Model;
@@ -55,6 +55,15 @@ impl Clock {
                 counter: 0,
             },
         }
+    }
+
+    /// A clock that goes on from a stamp at which one with these bounds stood.
+    pub fn resume(first: u32, end: u32, stamp: Stamp) -> Self
+        requires from_first { first ≤ stamp.epoch }
+        requires within { stamp.counter ≤ end }
+        ensures stands { result ≡ reading_at first end stamp }
+    {
+        Clock { first, end, stamp }
     }
 
     /// Where the clock stands.

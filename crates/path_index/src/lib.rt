@@ -10,5 +10,5 @@ mod searching;
 mod steps;
 
 pub use index::{Index, Mark};
-pub use searching::{Hint, hint_of, search, search_near, search_uncounted};
+pub use searching::{Hint, hint_of, order, search, search_near, search_uncounted};
 pub use steps::Steps;

@@ -10,9 +10,9 @@ use std::marker::Brand;
 use std::sync::ledger::{Blank, Ledger};
 use tree_keys::Path;
 
-// How one path lies to another in the order of an index: shorter ones first, those of one length by the number that their bits
-// spell, and those of one number by their trees.
-fn order(one: &Path, other: &Path) -> Ordering
+/// How one path lies to another in the order of an index: shorter ones first, those of one length by the number that their bits
+/// spell, and those of one number by their trees.
+pub fn order(one: &Path, other: &Path) -> Ordering
     ensures order { Compared result one.now other.now }
 {
     let (len, bits, wide) = (one.len(), one.bits(), one.is_wide());

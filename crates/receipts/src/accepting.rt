@@ -38,9 +38,9 @@ pub fn accept<D: Digests>(digests: &D, receipt: &Receipt, certificate: &Certific
     Acceptance::Accepted(operation.copy())
 }
 
-// Whether two tags are one. It takes the same steps whatever they are: who tries tags learns nothing of the right one
-// from the time that this takes.
-fn is_same_tag(tag: &[u8; TAG_LEN], other: &[u8; TAG_LEN]) -> bool
+/// Whether two tags are one. It takes the same steps whatever they are: who tries tags learns nothing of the right one
+/// from the time that this takes.
+pub fn is_same_tag(tag: &[u8; TAG_LEN], other: &[u8; TAG_LEN]) -> bool
     ensures same { IsTrue result ↔ (tag.now ≡ other.now) }
 {
     let mut differing = 0;

@@ -13,7 +13,7 @@ mod laws;
 mod reading;
 mod tagged_texts;
 
-pub use accepting::{Acceptance, accept};
+pub use accepting::{Acceptance, accept, is_same_tag};
 pub use issuing::{CERTIFICATE_LEN, LONGEST_RECEIPT, certificate, issue};
 pub use laws::texts_tell_what_they_are_of;
 pub use reading::{read_certificate, read_receipt};

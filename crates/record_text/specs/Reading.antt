@@ -1,6 +1,6 @@
 -- What bytes mean as paths, values, stamps and elements: the fields in order, and the first fault.
 use Rattle.std.specs.Prelude.{ℕ, ◌+◌, ◌==◌, nat_le, Bool, true, false, List, [], ◌∷◌, ◌++◌, drop, slice_index, Option, Some, None, Ok, if◌then◌else◌}
-use Rattle.std.specs.Int.{w16, w32, byte_len, from_be_bytes}
+use Rattle.std.specs.Int.{w16, w32, w64, byte_len, from_be_bytes}
 use Rattle.lamport_clocks.specs.declared.stamp.Stamp.{Stamp}
 use Rattle.tree_keys.specs.Path.{tree_of, path_in_word, is_prefix, is_data}
 use Rattle.record_text.specs.declared.value.Pointer.{Pointer}
@@ -115,6 +115,10 @@ u16_at bytes = field 2 (λ run. Some (from_be_bytes w16 run)) bytes
 -- a number of four bytes
 unfoldable pub u32_at : List ℕ → Parsed ℕ
 u32_at bytes = field 4 (λ run. Some (from_be_bytes w32 run)) bytes
+
+-- a number of eight bytes
+unfoldable pub u64_at : List ℕ → Parsed ℕ
+u64_at bytes = field 8 (λ run. Some (from_be_bytes w64 run)) bytes
 
 -- an epoch and a counter
 unfoldable pub stamp_at : List ℕ → Parsed Stamp

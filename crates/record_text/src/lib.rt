@@ -41,5 +41,5 @@ pub use request::Request;
 pub use value::{Blob, LONGEST_BLOB, Node, Pointer, Value, initial};
 pub use writing::{
     LONGEST_ELEMENT_TEXT, LONGEST_PATH_TEXT, LONGEST_VALUE_TEXT, element_text, push_blob,
-    push_element, push_path, push_stamp, push_u16, push_value, value_text,
+    push_element, push_path, push_stamp, push_u16, push_u32, push_u64, push_value, value_text,
 };

@@ -5,7 +5,7 @@ ghost use Rattle.tree_keys.specs.Path.{IsIn, IsPath, IsNodePath, is_prefix};
 ghost use Rattle.record_text.specs.Tree.{word_width};
 ghost use Rattle.record_text.specs.Value.{IsBlob, IsSide, IsOf};
 ghost use Rattle.record_text.specs.Fields.{Takes, TakesInto, field};
-ghost use Rattle.record_text.specs.Reading.{run_at, byte_at, flag_in, count_in, path_at, path_below_at, blob_at, path_in, pointer_tag_in, pointer_at, node_at, value_at, u16_at, u32_at, stamp_at, element_at};
+ghost use Rattle.record_text.specs.Reading.{run_at, byte_at, flag_in, count_in, path_at, path_below_at, blob_at, path_in, pointer_tag_in, pointer_at, node_at, value_at, u16_at, u32_at, u64_at, stamp_at, element_at};
 
 use crate::blob_ref::BlobRef;
 use crate::element::Element;
@@ -71,13 +71,22 @@ impl<'a> Reader<'a> {
         Ok(u16::from_be_bytes([bytes[0], bytes[1]]))
     }
 
-    // A number of four bytes.
+    /// A number of four bytes.
     #[tactic(auto, unfolding(crate::specs::Reading::u32_at))]
-    fn u32(&mut self) -> Result<u32, TextFault>
+    pub fn u32(&mut self) -> Result<u32, TextFault>
         ensures takes { Takes result self.new (u32_at self.old) }
     {
         let bytes = self.run(4)?;
         Ok(u32::from_be_bytes([bytes[0], bytes[1], bytes[2], bytes[3]]))
+    }
+
+    /// A number of eight bytes.
+    #[tactic(auto, unfolding(crate::specs::Reading::u64_at))]
+    pub fn u64(&mut self) -> Result<u64, TextFault>
+        ensures takes { Takes result self.new (u64_at self.old) }
+    {
+        let bytes = self.run(8)?;
+        Ok(u64::from_be_bytes(whole_word(bytes)))
     }
 
     /// An epoch and a counter.

@@ -1,6 +1,6 @@
 //! Writes paths, values, stamps and elements as texts.
 ghost use Rattle.std.specs.Prelude.{◌≡◌, ◌+◌, ◌≤◌, [], ◌++◌, length, Option, Some, None};
-ghost use Rattle.std.specs.Int.{w16, w32, to_be_bytes};
+ghost use Rattle.std.specs.Int.{w16, w32, w64, to_be_bytes};
 ghost use Rattle.arrayvec.specs.ArrayVec.{array_vec_len};
 ghost use Rattle.tree_keys.specs.Path.{IsPath, tree_of, word_of};
 ghost use Rattle.record_text.specs.Tree.{word_width};
@@ -123,11 +123,20 @@ pub fn push_u16<const CAP: usize>(items: &mut ArrayVec<u8, CAP>, number: u16)
     push_all(items, &number.to_be_bytes());
 }
 
-// Appends a number of four bytes.
-fn push_u32<const CAP: usize>(items: &mut ArrayVec<u8, CAP>, number: u32)
+/// Appends a number of four bytes.
+pub fn push_u32<const CAP: usize>(items: &mut ArrayVec<u8, CAP>, number: u32)
     requires room { array_vec_len items.old + 4 ≤ CAP }
     ensures text { items.new.items ≡ items.old.items ++ to_be_bytes w32 number }
     ensures len { array_vec_len items.new ≡ array_vec_len items.old + 4 }
+{
+    push_all(items, &number.to_be_bytes());
+}
+
+/// Appends a number of eight bytes.
+pub fn push_u64<const CAP: usize>(items: &mut ArrayVec<u8, CAP>, number: u64)
+    requires room { array_vec_len items.old + 8 ≤ CAP }
+    ensures text { items.new.items ≡ items.old.items ++ to_be_bytes w64 number }
+    ensures len { array_vec_len items.new ≡ array_vec_len items.old + 8 }
 {
     push_all(items, &number.to_be_bytes());
 }

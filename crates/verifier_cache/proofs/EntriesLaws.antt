@@ -29,7 +29,7 @@ entry_of-append k (x ∷ xs) ys = go (entry_of-append k xs ys) (same_path k x.pa
 
 -- ---- the entry at an index
 
-here_same : (k : List Bool) (x : Entry) → x.path ≡ k → same_path k x.path ≡ true
+pub here_same : (k : List Bool) (x : Entry) → x.path ≡ k → same_path k x.path ≡ true
 here_same k x is = subst (λ (p : List Bool). same_path k p ≡ true) (sym is) (same_path-self k)
 
 later_place : (k : List Bool) (x : Entry) (xs : List Entry) (i : ℕ) → IsIndexOf k (x ∷ xs) (suc i) → IsIndexOf k xs i

@@ -1,4 +1,6 @@
 -- Lemmas on the entries of a cache.
 pub mod EntriesLaws
+pub mod AlikeLaws
 mod TableLemmas
 mod IndexedLemmas
+mod ListedLemmas

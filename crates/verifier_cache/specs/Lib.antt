@@ -2,6 +2,8 @@
 pub mod Entry
 pub mod Cache
 pub mod Slots
+pub mod Alike
+pub mod Listed
 pub mod LendsValue
 pub mod Table
 pub use Rattle.record_text.specs

@@ -1,12 +1,15 @@
 //! The bounded cache of a verifier.
-ghost use Rattle.std.specs.Prelude.{◌≡◌, ◌+◌, ◌-◌, ◌*◌, ◌^◌, ◌<◌, ◌≤◌, nat_le, Bool, List, [], ◌∷◌, ◌++◌, length, Some, None, IsSome, IsNone, IfSome, IfNone, IfOk};
+ghost use Rattle.std.specs.Prelude.{◌≡◌, ◌+◌, ◌-◌, ◌*◌, ◌^◌, ◌<◌, ◌≤◌, nat_le, Bool, List, [], ◌∷◌, ◌++◌, length, Some, None, IsSome, IsNone, IfSome, IfNone, IfOk, All};
 ghost use Rattle.std.specs.Option.{option_map, option_copied};
 ghost use Rattle.std.specs.Borrow.{sem};
 ghost use Rattle.verifier_cache.specs.LendsValue.{LendsValue};
 ghost use Rattle.verifier_cache.specs.Entry.{kid_of, set_kid, linked, new_entry};
-ghost use Rattle.verifier_cache.specs.Cache.{Held, IsHeld, entry_of, without, changed, replaced};
+ghost use Rattle.verifier_cache.specs.Cache.{Held, IsHeld, AreDistinct, entry_of, without, changed, replaced};
+ghost use Rattle.verifier_cache.specs.Alike.{AreAlike, Rises};
+ghost use Rattle.verifier_cache.specs.Listed.{entries_in};
 
 use crate::entry::{Entry, Hold};
+use crate::listed::ListedEntry;
 use crate::table::Table;
 use base_words::Memory;
 use path_index::{Hint, Steps};
@@ -44,6 +47,29 @@ impl Cache {
     {
         let table = Table::new(alloc, room)?;
         Ok(Cache { table, room })
+    }
+
+    /// A cache made again from entries with distinct paths, in their order. It takes all of its memory here.
+    pub fn of_entries(alloc: Global, room: u32, listed: &[ListedEntry]) -> Result<Self, Memory>
+        requires distinct { AreDistinct (entries_in listed.now) }
+        requires within { length listed.now ≤ room }
+        ensures entries { IfOk result (λ cache. cache.entries ≡ entries_in listed.now) }
+        ensures room { IfOk result (λ cache. cache.room ≡ room) }
+    {
+        let mut cache = Cache::new(alloc, room)?;
+        for one in listed {
+            cache.insert_entry(one.entry.copy());
+        }
+        Ok(cache)
+    }
+
+    /// Its entries by rising path, in no slots: a walk of its index.
+    pub fn listed(&self, alloc: Global) -> Result<Vec<ListedEntry>, Memory>
+        ensures alike { IfOk result (λ listed. AreAlike self.now.entries (entries_in listed.items)) }
+        ensures rises { IfOk result (λ listed. Rises (entries_in listed.items)) }
+        ensures slots { IfOk result (λ listed. All (λ one. one.slot ≡ 0) listed.items) }
+    {
+        self.table.listed(alloc)
     }
 
     /// The number of entries.

@@ -41,6 +41,18 @@ impl Entry {
         }
     }
 
+    /// The same once more.
+    pub fn copy(&self) -> Self
+        ensures value { result ≡ self.now }
+    {
+        Entry {
+            path: self.path,
+            value: self.value.copy(),
+            hold: self.hold,
+            kids: self.kids,
+        }
+    }
+
     /// The kid bit of a side.
     pub fn kid(&self, side: bool) -> bool
         ensures value { result ≡ kid_of self.now side }

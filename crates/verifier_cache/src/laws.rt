@@ -4,6 +4,9 @@ ghost use Rattle.std.specs.Prelude.{◌≡◌, ◌≢◌, ◌+◌, Bool, List, [
 ghost use Rattle.std.specs.Option.{option_map, option_or};
 ghost use Rattle.verifier_cache.specs.declared.entry.Entry.{Entry};
 ghost use Rattle.verifier_cache.specs.Entry.{kid_of, kid_after, set_kid};
+ghost use Rattle.verifier_cache.specs.Slots.{Slots, empty_slots};
+ghost use Rattle.verifier_cache.specs.Alike.{Rises};
+ghost use Rattle.verifier_cache.specs.Listed.{listed_from, with_listed, SlotsRise};
 ghost use Rattle.verifier_cache.specs.Cache.{entry_of, without, changed, replaced, KeepsPath, AreDistinct};
 
 /// An entry that is found for a path is the path's.
@@ -65,4 +68,16 @@ pub fn replacing_changes_one_entry()
 pub fn setting_a_kid_bit_keeps_the_other()
     ensures kids { (entry : Entry) (side on which : Bool)
         → kid_of (set_kid entry side on) which ≡ kid_after entry side on which }
+{}
+
+/// No path stands in two entries whose paths rise.
+pub fn rising_paths_are_distinct()
+    ensures distinct { (entries : List Entry) → Rises entries → AreDistinct entries }
+{}
+
+/// Slots are made again from what is listed of them, which rises by slot.
+pub fn slots_are_made_again()
+    ensures again { (slots : Slots)
+        → with_listed (empty_slots (length slots)) (listed_from 0 slots) ≡ slots }
+    ensures rise { (slots : Slots) → SlotsRise 0 (length slots) (listed_from 0 slots) }
 {}

@@ -6,11 +6,13 @@
 //! `path_index`. Begin with `Entry` in `entry.rt`, then `specs/Cache.antt` and `Cache` in `cache.rt`;
 //! `laws.rt` says what is found after an entry came in, went out or was changed. Where commands name slots, a
 //! cache is a `SlotCache`, in `slots.rt`: a list of slots, each empty or with one entry.
+//! Each of both lists its entries, and is made again from them.
 #![tactic(auto)]
 
 mod cache;
 mod entry;
 mod laws;
+mod listed;
 mod slots;
 mod table;
 
@@ -18,7 +20,9 @@ pub use cache::Cache;
 pub use entry::{Entry, Hold};
 pub use laws::{
     changing_keeps_the_others, entries_are_found_by_their_paths, inserting_adds_one_entry,
-    removing_takes_one_entry, replacing_changes_one_entry, setting_a_kid_bit_keeps_the_other,
+    removing_takes_one_entry, replacing_changes_one_entry, rising_paths_are_distinct,
+    setting_a_kid_bit_keeps_the_other, slots_are_made_again,
 };
+pub use listed::ListedEntry;
 pub use path_index::{Hint, Steps};
 pub use slots::SlotCache;

@@ -1,11 +1,13 @@
 //! The cache of a verifier whose commands name slots.
-ghost use Rattle.std.specs.Prelude.{◌≡◌, Some, None, IsSome, IsNone, IsTrue, IfSome, IfOk};
+ghost use Rattle.std.specs.Prelude.{◌≡◌, ◌^◌, ◌<◌, ◌≤◌, length, All, Some, None, IsSome, IsNone, IsTrue, IfSome, IfOk};
 ghost use Rattle.std.specs.Option.{option_copied};
 ghost use Rattle.record_text.specs.declared.value.Value.TheVariants as values;
 ghost use Rattle.verifier_cache.specs.Entry.{with_value, linked};
 ghost use Rattle.verifier_cache.specs.Slots.{is_slot, entry_at, with_slot, empty_slots};
+ghost use Rattle.verifier_cache.specs.Listed.{listed_from, with_listed};
 
 use crate::entry::Entry;
+use crate::listed::ListedEntry;
 use base_words::Memory;
 use record_text::{Blob, Pointer, Value};
 use std::alloc::Global;
@@ -36,6 +38,35 @@ impl SlotCache {
             slots.push(None)?;
         }
         Ok(SlotCache { slots })
+    }
+
+    /// So many slots, with these entries in theirs and the others empty. It takes all of its memory here.
+    pub fn of_entries(alloc: Global, count: u32, listed: &[ListedEntry]) -> Result<Self, Memory>
+        requires slots { All (λ one. one.slot < count) listed.now }
+        ensures slots { IfOk result (λ cache. cache ≡ with_listed (empty_slots count) listed.now) }
+    {
+        let mut cache = SlotCache::new(alloc, count)?;
+        for one in listed {
+            cache.slots[usize::from(one.slot)] = Some(one.entry.copy());
+        }
+        Ok(cache)
+    }
+
+    /// Its entries by rising slot.
+    pub fn listed(&self, alloc: Global) -> Result<Vec<ListedEntry>, Memory>
+        requires numbered { length self.now ≤ 2 ^ 16 }
+        ensures listed { IfOk result (λ listed. listed.items ≡ listed_from 0 self.now) }
+    {
+        let mut listed = Vec::new(alloc);
+        for (slot, held) in self.slots.iter().enumerate() {
+            if let Some(entry) = held {
+                listed.push(ListedEntry {
+                    slot: slot as u16,
+                    entry: entry.copy(),
+                })?;
+            }
+        }
+        Ok(listed)
     }
 
     /// Whether there is a slot of this number.

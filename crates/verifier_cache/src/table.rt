@@ -2,14 +2,17 @@
 //!
 //! They lie in the order in which they came in. One that leaves stays behind as a gap, so that none is moved
 //! and no mark of the index has to change. Once there are more gaps than entries, all are closed.
-ghost use Rattle.std.specs.Prelude.{◌≡◌, ℕ, ◌+◌, ◌-◌, ◌*◌, ◌^◌, ◌<◌, ◌≤◌, [], ◌∷◌, ◌++◌, length, take, slice_index, vec_len, vec_capacity, IsSome, IsNone, IfSome, IfOk};
+ghost use Rattle.std.specs.Prelude.{◌≡◌, ℕ, ◌+◌, ◌-◌, ◌*◌, ◌^◌, ◌<◌, ◌≤◌, [], ◌∷◌, ◌++◌, length, take, slice_index, vec_len, vec_capacity, IsSome, IsNone, IfSome, IfOk, All};
 ghost use Rattle.std.specs.Option.{option_copied};
 ghost use Rattle.verifier_cache.specs.Cache.{entry_of, without};
+ghost use Rattle.verifier_cache.specs.Alike.{AreAlike, Rises};
+ghost use Rattle.verifier_cache.specs.Listed.{entries_in};
 ghost use Rattle.verifier_cache.specs.Table.{standing, is_live, IsTable, HasRoom, IsAt};
 ghost use Rattle.path_index.specs.Index.{mark_at, count_of, most_of, IsSound};
 ghost use Rattle.std.specs.List.{filter};
 
 use crate::entry::Entry;
+use crate::listed::ListedEntry;
 use base_words::Memory;
 use path_index::{Hint, Index, Mark, Steps, hint_of, search, search_near};
 use record_text::Value;
@@ -88,6 +91,22 @@ impl Table {
     {
         let mut steps = Steps::<L>::open(blank);
         self.entry(k, &mut steps)
+    }
+
+    /// Its entries in the order of the index, each once.
+    pub(crate) fn listed(&self, alloc: Global) -> Result<Vec<ListedEntry>, Memory>
+        requires table { IsTable self.now }
+        ensures alike { IfOk result (λ listed. AreAlike (standing self.now.stored.items) (entries_in listed.items)) }
+        ensures rises { IfOk result (λ listed. Rises (entries_in listed.items)) }
+        ensures slots { IfOk result (λ listed. All (λ one. one.slot ≡ 0) listed.items) }
+    {
+        let mut listed = Vec::with_capacity(alloc, self.index.len())?;
+        for rank in 0..self.index.len() {
+            let at = self.index.mark(rank).at;
+            let entry = self.stored[at].entry.copy();
+            listed.push_reserved(ListedEntry { slot: 0, entry });
+        }
+        Ok(listed)
     }
 
     /// Where a path is found, or would come in.
