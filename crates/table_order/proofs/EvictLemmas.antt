@@ -1,5 +1,5 @@
 -- What a worker's services evict has rising stamps.
-use Rattle.std.proofs.Common.{◌≡◌, ℕ, suc, ◌<◌, ◌≤◌, Bool, List, [], ◌∷◌, ◌++◌, length, Option, Some, inr, refl, sym, ◌∙◌, ap, subst, arith}
+use Rattle.std.proofs.Common.{◌≡◌, ℕ, suc, ◌<◌, ◌≤◌, Bool, List, [], ◌∷◌, ◌++◌, length, Option, Some, None, inr, refl, sym, ◌∙◌, ap, subst, arith}
 use Rattle.std.specs.List.{AllByRecursion}
 use Rattle.std.specs.Ordering.{is_lt}
 use Rattle.lamport_clocks.specs.declared.stamp.Stamp.{Stamp}
@@ -15,7 +15,12 @@ use Rattle.host_shard.specs.Shard.{pending_shard}
 use Rattle.host_shard.specs.Shown.{shown_content}
 use Rattle.host_plan.specs.Plan.{AreLinks, clock_after, content_after}
 use Rattle.host_plan.specs.Request.{is_missed, served, served_hot}
+use Rattle.host_plan.specs.Moments.{renewing}
 use Rattle.host_laws.specs.Served.{waiting}
+use Rattle.host_epochs.specs.declared.told.Entry.{Entry}
+use Rattle.host_epochs.specs.Scan.{IsStale, scanned}
+use Rattle.host_epochs.specs.Terms as rounds
+use Rattle.host_epochs.specs.Told as told_of
 use Rattle.host_table.specs.declared.told.Service.{Service}
 use Rattle.host_table.specs.Terms.{Terms, phase_epoch, IsStampOf}
 use Rattle.host_table.specs.Told as told
@@ -24,7 +29,7 @@ use Rattle.table_order.proofs.MirrorLemmas.{service_stamped}
 
 -- The element with which what a request leaves waits: the worker's, with the clock's last stamp, which is later than the one
 -- before.
-record IsEvictOf (worker : ℕ) (before later : Stamp) (content : Content) : Type 0 where
+pub record IsEvictOf (worker : ℕ) (before later : Stamp) (content : Content) : Type 0 where
   pub element : Element
   pub waits : pending content ≡ Some element
   pub own : element.verifier ≡ worker
@@ -52,6 +57,40 @@ evict_after absent digest worker (hot found) links request clock way = record {
   risen = omega arith;
 }
 evict_after absent digest worker vacant links request clock way = absurd way
+
+-- the same of what a scan leaves
+scan_evict : (worker : ℕ) (content : Content) (clock : Reading) → IsStale clock.at.epoch content
+    → IsEvictOf worker clock.at (clock_after content clock).at (scanned worker content clock)
+scan_evict worker (cold shard) clock stale = record {
+  element = pending_shard (record shard { stamp = (renewing clock shard.stamp).at; evictor = worker; touches = λ k. 0 });
+  waits = refl;
+  own = refl;
+  at = refl;
+  in_epoch = refl;
+  risen = omega arith;
+}
+scan_evict worker (hot found) clock stale = record {
+  element = pending_hot (record found { stamp = (renewing clock found.stamp).at; evictor = worker; touches = 0 });
+  waits = refl;
+  own = refl;
+  at = refl;
+  in_epoch = refl;
+  risen = omega arith;
+}
+scan_evict worker vacant clock stale = absurd stale
+
+-- of what an entry of a round leaves
+pub entry_evict : (terms : rounds.Terms) (entry : Entry) (request : Option Request) → told_of.IsWork terms entry request
+    → IsEvictOf entry.worker entry.clock.at entry.later.at (shown_content entry.after)
+entry_evict terms entry (Some request) work =
+    subst (λ (c : Content). IsEvictOf entry.worker entry.clock.at entry.later.at c) (sym work.plan.content)
+    (subst (λ (r : Reading). IsEvictOf entry.worker entry.clock.at r.at
+    (content_after terms.absent terms.digest entry.worker (shown_content entry.before) work.plan.links request entry.clock)) (sym work.plan.clock)
+    (evict_after terms.absent terms.digest entry.worker (shown_content entry.before) work.plan.links request entry.clock work.plan.way))
+entry_evict terms entry None work =
+    subst (λ (c : Content). IsEvictOf entry.worker entry.clock.at entry.later.at c) (sym work.content)
+    (subst (λ (r : Reading). IsEvictOf entry.worker entry.clock.at r.at (scanned entry.worker (shown_content entry.before) entry.clock)) (sym work.clock)
+    (scan_evict entry.worker (shown_content entry.before) entry.clock work.stale))
 
 -- of a service
 evict_of : (terms : Terms) (service : Service) → told.IsServed terms service
