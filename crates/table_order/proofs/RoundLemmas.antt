@@ -1,16 +1,15 @@
 -- What a table with epochs tells of a round of the shipped host is what `round_order` asks.
-use Rattle.std.proofs.Common.{◌≡◌, ◌⊎◌, ℕ, suc, ◌+◌, ◌<◌, ◌≤◌, ◌%◌, ◌/◌, Bool, true, false, List, [], ◌++◌, length, get_or, refl, sym, ◌∙◌, ap, subst, inl, inr, arith, IsPermutation}
+use Rattle.std.proofs.Common.{◌≡◌, ◌⊎◌, ℕ, suc, ◌+◌, ◌<◌, ◌≤◌, ◌/◌, false, List, [], None, length, get_or, refl, sym, ◌∙◌, ap, subst, inl, inr, arith, IsPermutation}
 use Rattle.std.specs.List.{AllByRecursion}
 use Rattle.std.proofs.lemmas.Bool.{cases_lt}
 use Rattle.std.proofs.lemmas.Nat.{mod_below}
 use Rattle.std.proofs.lemmas.List.{get_or_past}
 use Rattle.std.proofs.lemmas.List.Sorted.{IsPermutation-map, IsPermutation-sym}
-use Rattle.lamport_clocks.specs.Reading.{Reading}
 use Rattle.record_hash.specs.Functions.{DigestFunctions}
 use Rattle.record_text.specs.declared.request.Request.{Request}
 use Rattle.script_text.specs.declared.task.Task.{Task}
 use Rattle.host_core.specs.Host.{Host}
-use Rattle.host_core.specs.World.{Place, World, worker_at, shard_at, set_up}
+use Rattle.host_core.specs.World.{Place, World, worker_at, set_up}
 use Rattle.host_core.specs.WorldEvent.{WorldEvent, IsPlace, AreEnabled, run_events}
 use Rattle.host_core.specs.Core.{IsInPhase, IsStanding}
 use Rattle.round_order.specs.Turn.{Turn, IsPlaceChain, IsWorkerChain, content_at, content_behind, clock_behind}
@@ -33,7 +32,7 @@ use Rattle.host_world.specs.Places.{places_each, place_of}
 use Rattle.round_fits.specs.Rounds.{HasNothingHot}
 use Rattle.table_order.specs.Rounds.{turn_of, turns_of, lists_of, pasts_of, finals_of, IsTableOfRound}
 use Rattle.table_order.proofs.Keeping.{DoesPlans}
-use Rattle.table_order.proofs.ListLemmas.{all-moved, all-flat, all-part, all-map}
+use Rattle.table_order.proofs.ListLemmas.{all-moved, all-flat, all-map}
 use Rattle.table_order.proofs.PlaceLemmas.{place_back, five_seats}
 use Rattle.table_order.proofs.RoundShapeLemmas.{all-joined, all-numbered, list_is, entries_in, lists_joined, pasts_joined, number_of, past_is, past_cases}
 use Rattle.table_order.proofs.RoundPastLemmas.{behind_leads, chain_leads, place_leads, waits_each, IsSmall, IsOfMode, plain_made, past_taken}

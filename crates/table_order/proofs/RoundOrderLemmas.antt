@@ -1,6 +1,5 @@
 -- What a table with epochs tells of a round of the shipped host was one list of events, and how it ended.
-use Rattle.std.proofs.Common.{◌≡◌, ℕ, suc, ◌+◌, ◌<◌, ◌≤◌, Bool, true, false, List, ◌++◌, length, get_or, slice_get, None, refl, sym, ◌∙◌, ap, subst, arith}
-use Rattle.std.specs.List.{AllByRecursion}
+use Rattle.std.proofs.Common.{◌≡◌, ℕ, ◌+◌, ◌<◌, ◌≤◌, Bool, true, false, List, ◌++◌, length, get_or, slice_get, None, refl, sym, ◌∙◌, ap, subst, arith}
 use Rattle.record_hash.specs.Functions.{DigestFunctions}
 use Rattle.record_text.specs.declared.request.Request.{Request}
 use Rattle.script_text.specs.declared.task.Task.{Task}
@@ -20,14 +19,14 @@ use Rattle.host_shard.specs.declared.content.Content.TheVariants.{Vacant}
 use Rattle.host_shard.specs.Content.{Content}
 use Rattle.host_shard.specs.Shown.{shown_content}
 use Rattle.host_epochs.specs.declared.views.Row.{Row}
-use Rattle.host_epochs.specs.Round.{row_at, IsRound}
+use Rattle.host_epochs.specs.Round.{IsRound}
 use Rattle.host_epochs.specs.Terms.{Terms, place_count, first_epoch}
 use Rattle.shipped_host.specs.declared.settings.Settings.{Settings}
 use Rattle.shipped_host.specs.ShippedHost.{shipped_host}
 use Rattle.host_fits.specs.Mirroring.{PlacesMirror}
 use Rattle.host_world.specs.Behind.{IsBehindSetup}
 use Rattle.host_world.specs.Places.{place_of}
-use Rattle.table_order.specs.Rounds.{turns_of, lists_of, pasts_of, finals_of, stops_of, IsTableOfRound, AreThrough}
+use Rattle.table_order.specs.Rounds.{lists_of, pasts_of, finals_of, stops_of, IsTableOfRound, AreThrough}
 use Rattle.table_order.proofs.Keeping.{DoesPlans}
 use Rattle.table_order.proofs.RoundShapeLemmas.{list_is}
 use Rattle.table_order.proofs.RoundPastLemmas.{IsOfMode}

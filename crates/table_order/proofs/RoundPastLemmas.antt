@@ -1,6 +1,6 @@
 -- The past of a place in a round: each entry there is what the shipped host does, since the content that it finds mirrors.
 use Rattle.std.proofs.Common.{◌≡◌, ◌⊎◌, ℕ, zero, suc, ◌^◌, ◌/◌, ◌%◌, ◌<◌, ◌≤◌, Bool, true, false, List, [], ◌∷◌, length, get_or, Option, Some, None, if◌then◌else◌, inl, inr, refl, sym, ◌∙◌, ap, subst, arith}
-use Rattle.std.specs.List.{AllByRecursion, IsAmong}
+use Rattle.std.specs.List.{AllByRecursion}
 use Rattle.std.proofs.lemmas.Bool.{cases_lt, le-ltb}
 use Rattle.lamport_clocks.specs.declared.header.Header.{Header}
 use Rattle.lamport_clocks.specs.Reading.{Reading}
@@ -18,15 +18,14 @@ use Rattle.host_core.specs.Deeds.{pending_of}
 use Rattle.host_core.specs.Host.{Host}
 use Rattle.host_core.specs.World.{World, worker_at, shard_at}
 use Rattle.host_core.specs.WorldEvent.{IsPlace, AreUpTo}
-use Rattle.round_order.specs.Turn.{Turn, IsPlaceChain, content_behind, content_at}
+use Rattle.round_order.specs.Turn.{Turn, IsPlaceChain, content_behind}
 use Rattle.round_order.specs.Steady.{scanned_done}
 use Rattle.round_order.specs.Told.{others_in, others_at, IsScan, IsDid, IsTaken}
 use Rattle.host_shard.specs.declared.content.Content as code
-use Rattle.host_shard.specs.Shard.{Shard, pending_shard}
+use Rattle.host_shard.specs.Shard.{pending_shard}
 use Rattle.host_shard.specs.Content.{Content, cold, hot, vacant, pending}
 use Rattle.host_shard.specs.Shown.{shown_content}
-use Rattle.host_plan.specs.Plan.{Owns, CanServe, IsPlan, IsPastEnd, clock_after}
-use Rattle.host_plan.specs.declared.plans.Plan.{Plan}
+use Rattle.host_plan.specs.Plan.{Owns, IsPlan, IsPastEnd, clock_after}
 use Rattle.host_laws.specs.Mirroring.{ContentMirrors, IsCold}
 use Rattle.host_laws.specs.Served.{waiting}
 use Rattle.host_laws.proofs.MirrorLaws.{plan_mirrors, mirrors_serve}
@@ -44,8 +43,8 @@ use Rattle.host_fits.specs.Mirroring.{PlacesMirror}
 use Rattle.host_fits.proofs.StandingLaws.{tree_there}
 use Rattle.host_world.specs.Places.{place_of}
 use Rattle.round_fits.specs.Rounds.{AreOthersVacant, HasNothingHot}
-use Rattle.round_fits.proofs.ScanLemmas.{cold_move}
-use Rattle.round_fits.proofs.VacantLemmas.{none_waits}
+use Rattle.round_fits.proofs.ScanLaws.{cold_move}
+use Rattle.round_fits.proofs.VacantLaws.{none_waits}
 use Rattle.table_order.specs.Phases as phases
 use Rattle.table_order.specs.Rounds.{AreTermsOf, turn_of, turns_of}
 use Rattle.table_order.proofs.Keeping.{DoesPlans}

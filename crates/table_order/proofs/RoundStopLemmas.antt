@@ -1,5 +1,5 @@
 -- Where a worker of a round stopped its clock has ended, by itself or at an element that its place has had.
-use Rattle.std.proofs.Common.{◌≡◌, ◌⊎◌, ℕ, suc, ◌+◌, ◌==◌, ◌<◌, ◌≤◌, ◌/◌, ◌%◌, max, Bool, true, false, List, [], ◌∷◌, length, get_or, Option, Some, None, if◌then◌else◌, refl, sym, ◌∙◌, ap, subst, inl, inr, arith}
+use Rattle.std.proofs.Common.{◌≡◌, ◌⊎◌, ℕ, ◌+◌, ◌==◌, ◌<◌, ◌≤◌, ◌/◌, ◌%◌, max, Bool, true, false, List, [], ◌∷◌, length, get_or, Option, Some, None, if◌then◌else◌, refl, sym, ◌∙◌, ap, subst, inl, inr, arith}
 use Rattle.std.specs.List.{AllByRecursion}
 use Rattle.std.proofs.lemmas.Bool.{cases_lt, eqb-true}
 use Rattle.std.proofs.lemmas.Option.{none-some, same_Some}
@@ -17,7 +17,7 @@ use Rattle.host_core.specs.Host.{Host}
 use Rattle.host_core.specs.WorldEvent.{IsPlace}
 use Rattle.host_core.specs.World.{Seats, World, unmoved, worker_at, shard_at, epoch_of}
 use Rattle.round_order.specs.Turn.{Turn, on_to, served_more, IsWorkerChain, clock_behind}
-use Rattle.round_order.specs.Told.{final_clock, RoundStop, IsInTheWay, IsStopTold}
+use Rattle.round_order.specs.Told.{final_clock, IsInTheWay, IsStopTold}
 use Rattle.round_order.proofs.GoingLaws.{on_to-later, on_to-there}
 use Rattle.host_shard.specs.declared.content.Content as code
 use Rattle.host_shard.specs.declared.content.Content.TheVariants.{Vacant}
@@ -25,7 +25,6 @@ use Rattle.host_shard.specs.Shard.{pending_shard}
 use Rattle.host_shard.specs.Content.{Content, cold, hot, vacant, pending, pending_hot}
 use Rattle.host_shard.specs.Shown.{shown_content}
 use Rattle.host_plan.specs.Plan.{IsPastEnd, clock_after}
-use Rattle.host_laws.specs.Served.{waiting}
 use Rattle.host_epochs.specs.declared.told.Entry.{Entry}
 use Rattle.host_epochs.specs.declared.told.Meeting.{Meeting}
 use Rattle.host_epochs.specs.declared.told.Stop.{Stop}

@@ -1,4 +1,4 @@
-use Rattle.round_fits.proofs.VacantLemmas.{nothing_hot}
+use Rattle.round_fits.proofs.VacantLaws.{nothing_hot}
 use Rattle.round_fits.proofs.laws.nothing_is_hot.Goals as goal
 
 pub returns : goal.returns

@@ -1,4 +1,4 @@
-use Rattle.round_fits.proofs.ScanLemmas.{cold_move}
+use Rattle.round_fits.proofs.ScanLaws.{cold_move}
 use Rattle.round_fits.proofs.laws.scans_are_what_the_host_does.Goals as goal
 
 pub returns : goal.returns

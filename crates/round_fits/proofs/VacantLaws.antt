@@ -18,9 +18,8 @@ use Rattle.host_shard.specs.Content.{Content, cold, hot, vacant}
 use Rattle.host_plan.specs.Moments.{renewing}
 use Rattle.shipped_host.specs.declared.settings.Settings.{Settings}
 use Rattle.shipped_host.specs.ShippedHost.{is_blob, serves_key, new_seats, hot_places, shipped_host}
-use Rattle.round_order.specs.Steady.{scanned_done}
 use Rattle.round_fits.specs.Rounds.{AreOthersVacant, HasNothingHot}
-use Rattle.round_fits.proofs.ScanLemmas.{some_of, cold_move}
+use Rattle.round_fits.proofs.ScanLaws.{some_of, cold_move}
 use Rattle.round_fits.proofs.RoundLemmas.{get-replicate}
 
 -- ---- lists
@@ -48,7 +47,7 @@ module _ (functions : DigestFunctions) (settings : Settings) (script : List (Lis
   host = shipped_host functions settings script
 
   -- nothing waits where all is vacant
-  none_waits : (others : List Content) → ((k : ℕ) → get_or others k vacant ≡ vacant) → pending_of host others ≡ []
+  pub none_waits : (others : List Content) → ((k : ℕ) → get_or others k vacant ≡ vacant) → pending_of host others ≡ []
   none_waits [] none = refl
   none_waits (content ∷ others) none =
       ap (λ (c : Content). host.pending c ++ pending_of host others) (none 0) ∙ none_waits others (λ k. none (suc k))
