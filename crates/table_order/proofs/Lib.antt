@@ -2,7 +2,7 @@
 -- pasts, the turns of workers, and the whole. Then how it is proved that what a world lends can be made a table: what is
 -- evicted, and the whole. Then how it is proved that contents of a table mirror: what a history
 -- makes of one, what a worker evicts, the rule, and a table that is made of a world. Then the same of a round: lists of lists,
--- the pasts of places, the turns of workers, what is told, stops, and the whole.
+-- the pasts of places, the turns of workers, what is told, stops, the whole, and a phase as a round.
 mod ListLemmas
 mod ShapeLemmas
 mod Keeping
@@ -22,3 +22,4 @@ mod RoundTurnLemmas
 mod RoundLemmas
 mod RoundStopLemmas
 mod RoundOrderLemmas
+mod RoundPhaseLemmas

@@ -1,6 +1,7 @@
 -- The turns of a worker in a round: its list is a chain from its clock, its last clock stands behind it, and what it asks is in range.
-use Rattle.std.proofs.Common.{◌≡◌, ◌≢◌, ℕ, suc, ◌+◌, ◌^◌, ◌<◌, ◌≤◌, List, [], ◌∷◌, ◌++◌, length, Option, Some, None, inl, inr, sym, ◌∙◌, ap, subst, arith}
+use Rattle.std.proofs.Common.{◌≡◌, ◌≢◌, ℕ, zero, suc, ◌+◌, ◌^◌, ◌<◌, ◌≤◌, ◌||◌, Bool, false, List, [], ◌∷◌, ◌++◌, length, is_some, Option, Some, None, inl, inr, refl, sym, ◌∙◌, ap, subst, arith}
 use Rattle.std.specs.List.{AllByRecursion}
+use Rattle.std.proofs.lemmas.Bool.{eq-eqb, ne_eqb}
 use Rattle.tree_keys.specs.Path.{key_bits}
 use Rattle.stamp_order.proofs.InOrderLaws.{every-append}
 use Rattle.lamport_clocks.specs.Reading.{Reading}
@@ -12,7 +13,7 @@ use Rattle.record_text.specs.Tree.{wide_of}
 use Rattle.script_text.specs.declared.task.Task.{Task}
 use Rattle.host_core.specs.Host.{Host, asked}
 use Rattle.round_order.specs.Turn.{on_to, IsAsked, served_more, IsWorkerChain, clock_behind}
-use Rattle.round_order.specs.Told.{RoundStop, AreOfOthers}
+use Rattle.round_order.specs.Told.{RoundStop, AreOfOthers, stops_by}
 use Rattle.round_order.proofs.GoingLaws.{at_start, on_to-later, on_to-there}
 use Rattle.host_shard.specs.Content.{Content}
 use Rattle.host_epochs.specs.declared.told.Entry.{Entry}
@@ -125,3 +126,25 @@ stops_apart number (row ∷ rows) = go row.stop (stops_apart (suc number) rows)
     go : (stop : Option Stop) → AreOfOthers (stops_from (suc number) rows) → AreOfOthers (stop_of number stop ++ stops_from (suc number) rows)
     go None rest = rest
     go (Some stop) rest = (later_stops number (suc number) rows (omega arith), rest)
+
+-- A worker is among those that stopped where its row says so.
+other_flag : (worker i : ℕ) (stop : Option Stop) (rest : List RoundStop) → (worker ≡ i → ⊥) → stops_by i (stop_of worker stop ++ rest) ≡ stops_by i rest
+other_flag worker i None rest apart = refl
+other_flag worker i (Some stop) rest apart = ap (λ (b : Bool). b || stops_by i rest) (ne_eqb worker i apart)
+
+later_flags : (i number : ℕ) (rows : List Row) → i < number → stops_by i (stops_from number rows) ≡ false
+later_flags i number [] before = refl
+later_flags i number (row ∷ rows) before =
+    other_flag number i row.stop (stops_from (suc number) rows) (λ same. absurd (omega (arith, before, same)))
+    ∙ later_flags i (suc number) rows (omega (arith, before))
+
+pub flags_from : (number k i : ℕ) (rows : List Row) → k < length rows → i ≡ number + k → stops_by i (stops_from number rows) ≡ is_some (row_at rows k).stop
+flags_from number k i [] there is = absurd (omega (arith, there))
+flags_from number zero i (row ∷ rows) there is = go row.stop
+  where
+    go : (stop : Option Stop) → stops_by i (stop_of number stop ++ stops_from (suc number) rows) ≡ is_some stop
+    go None = later_flags i (suc number) rows (omega (arith, is))
+    go (Some stop) = ap (λ (b : Bool). b || stops_by i (stops_from (suc number) rows)) (eq-eqb number i (omega (arith, is)))
+flags_from number (suc k) i (row ∷ rows) there is =
+    other_flag number i row.stop (stops_from (suc number) rows) (λ same. absurd (omega (arith, is, same)))
+    ∙ flags_from (suc number) k i rows (omega (arith, there)) (omega (arith, is))

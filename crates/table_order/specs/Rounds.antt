@@ -1,5 +1,5 @@
 -- When a table with epochs is that of a round of the shipped host, and what it tells, as the machine over places and workers sees it.
-use Rattle.std.specs.Prelude.{◌≡◌, ℕ, zero, suc, ◌+◌, ◌*◌, ◌<◌, ◌≤◌, ◌==◌, Bool, true, false, List, [], ◌∷◌, ◌++◌, length, map, slice_get, Option, Some, None, if◌then◌else◌}
+use Rattle.std.specs.Prelude.{◌≡◌, ℕ, zero, suc, ◌+◌, ◌*◌, ◌<◌, ◌≤◌, ◌==◌, Bool, true, false, List, [], ◌∷◌, ◌++◌, length, map, slice_get, is_some, Option, Some, None, if◌then◌else◌}
 use Rattle.std.specs.Option.{ForSome}
 use Rattle.lamport_clocks.specs.Reading.{Reading}
 use Rattle.record_hash.specs.Functions.{DigestFunctions}
@@ -9,8 +9,11 @@ use Rattle.merkle_records.specs.Merkle.{GivesDigests}
 use Rattle.script_text.specs.declared.task.Task.{Task}
 use Rattle.host_core.specs.Host.{Host, asked}
 use Rattle.host_core.specs.World.{World, worker_at, epoch_of}
+use Rattle.host_core.specs.WorldEvent.{WorldEvent, AreEnabled, run_events}
 use Rattle.round_order.specs.Turn.{Turn, on_to, IsAsked, served_more, served_behind, clock_behind, content_at}
-use Rattle.round_order.specs.Told.{IsLevel, RoundStop}
+use Rattle.round_order.specs.Told.{IsLevel, EndsWith, RoundStop}
+use Rattle.round_order.specs.Phase.{IsOfPhase}
+use Rattle.host_order.specs.Told.{phase_events}
 use Rattle.host_shard.specs.Content.{Content, pending}
 use Rattle.host_shard.specs.Shown.{shown_content}
 use Rattle.host_epochs.specs.declared.told.Entry.{Entry}
@@ -19,10 +22,12 @@ use Rattle.host_epochs.specs.declared.told.Stop.{Stop}
 use Rattle.host_epochs.specs.declared.views.Row.{Row}
 use Rattle.host_epochs.specs.Round.{row_at}
 use Rattle.host_epochs.specs.Terms.{Terms, place_count, first_at, first_epoch, final_epoch}
+use Rattle.host_table.specs.Services.{row_of}
 use Rattle.shipped_host.specs.declared.settings.Settings.{Settings}
 use Rattle.shipped_host.specs.ShippedHost.{shipped_host}
 use Rattle.host_world.specs.Behind.{IsBehindSetup}
 use Rattle.host_world.specs.Places.{places_each, place_of}
+use Rattle.table_order.specs.Servings as servings
 
 -- ---- what is told
 
@@ -133,8 +138,47 @@ pub record IsTableOfRound (functions : DigestFunctions) (settings : Settings) (s
   pub made : AreTermsOf (shipped_host functions settings script) settings.absent world terms
   pub turns : (worker : ℕ) → worker < length world.workers → AreTurnsOf (shipped_host functions settings script) world worker (row_at rows worker)
 
+-- ---- how it ends
+
 -- Each worker is through with the last epoch that may be entered, and served all that the script asks of it.
 pub record AreThrough (host : Host Content Request) (world : World Content) (terms : Terms) (rows : List Row) : Type 0 where
   pub done : (worker : ℕ) → worker < length world.workers → (row_at rows worker).done ≡ terms.more
   pub served : (worker : ℕ) → worker < length world.workers
       → slice_get (asked host worker) (served_behind (worker_at host world worker).served (turns_of (row_at rows worker).list)) ≡ None
+
+-- ---- one phase
+
+-- each entry serves the next request that the script asks of the worker in the phase
+abbrev pub AreOfPhase : Host Content Request → ℕ → ℕ → ℕ → List Entry → Type 0
+AreOfPhase host phase worker served [] = Unit {0}
+AreOfPhase host phase worker served (entry ∷ entries) =
+    IsOfPhase host phase worker served entry.request × AreOfPhase host phase worker (served_more served entry.request) entries
+
+-- the request for which a worker took the place at which it stopped
+abbrev pub request_at : Option Meeting → Option Request
+request_at None = None
+request_at (Some met) = met.request
+
+-- What a worker did is of the world's phase, and where it stopped it did so at its next request of it.
+pub record IsOfOnePhase (host : Host Content Request) (world : World Content) (worker : ℕ) (row : Row) : Type 0 where
+  pub next : AreOfPhase host world.phase worker (worker_at host world worker).served row.list
+  pub last : ForSome row.stop (λ stop.
+      IsOfPhase host world.phase worker (served_behind (worker_at host world worker).served (turns_of row.list)) (request_at stop.met))
+
+-- The table is that of a phase of the shipped host, which is not rolling: a round with no further epoch.
+pub record IsTableOfPhase (functions : DigestFunctions) (settings : Settings) (script : List (List Task)) (world : World Content)
+    (terms : Terms) (rows : List Row) : Type 0 where
+  pub table : IsTableOfRound functions settings script world terms rows
+  pub plain : settings.rolling ≡ false
+  pub of_phase : (worker : ℕ) → worker < length world.workers → IsOfOnePhase (shipped_host functions settings script) world worker (row_at rows worker)
+
+-- what was served in the phase by the stamps of its evicts, and then the stops, each a take, a serve and a give
+abbrev pub events_in : List Row → List (WorldEvent Request)
+events_in rows = phase_events (servings.lists_of (map row_of rows)) (servings.stops_of (map row_of rows))
+
+-- That is a list of enabled events, which ends where all is as it is told and stops the workers that stopped.
+pub record EndsInPhase (host : Host Content Request) (world : World Content) (top : ℕ) (finals : ℕ → ℕ) (rows : List Row)
+    (pasts : List (List (List (Turn Content Request)))) : Type 0 where
+  pub enabled : AreEnabled host world (events_in rows)
+  pub ends : EndsWith host world (run_events host world (events_in rows)) top finals (lists_of rows) pasts
+  pub stopped : (i : ℕ) → i < length world.workers → (worker_at host (run_events host world (events_in rows)) i).stopped ≡ is_some (row_at rows i).stop

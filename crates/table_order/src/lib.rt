@@ -16,5 +16,6 @@ pub use laws::{
     services_are_what_the_host_does, tables_tell_of_a_phase, worlds_make_tables,
 };
 pub use round_laws::{
-    a_round_of_a_table_has_one_order, tables_tell_of_a_round, worlds_make_rounds,
+    a_round_of_a_table_has_one_order, a_round_of_one_epoch_is_a_phase, tables_tell_of_a_round,
+    worlds_make_rounds,
 };
