@@ -6,9 +6,7 @@ use Rattle.lamport_clocks.specs.declared.header.Header.{Header}
 use Rattle.lamport_clocks.specs.Reading.{Reading}
 use Rattle.record_hash.specs.Functions.{DigestFunctions}
 use Rattle.record_text.specs.declared.request.Request.{Request}
-use Rattle.record_text.specs.Value.{IsBlob}
 use Rattle.record_text.specs.Longest.{longest_of}
-use Rattle.record_text.specs.Tree.{wide_of}
 use Rattle.log_codec.specs.declared.command.Command.{Command}
 use Rattle.merkle_records.specs.Merkle.{Digest, GivesDigests}
 use Rattle.script_text.specs.declared.task.Task.{Task}
@@ -47,6 +45,7 @@ use Rattle.round_fits.proofs.ScanLaws.{cold_move}
 use Rattle.round_fits.proofs.VacantLaws.{none_waits}
 use Rattle.table_order.specs.Phases as phases
 use Rattle.table_order.specs.Rounds.{AreTermsOf, turn_of, turns_of}
+use Rattle.table_order.specs.RoundMirroring.{IsAskInRange}
 use Rattle.table_order.proofs.Keeping.{DoesPlans}
 use Rattle.table_order.proofs.MadeLemmas.{seat_of_shard}
 use Rattle.table_order.proofs.PastLemmas.{IsStill, still, owns_still, cold_still, still_after}
@@ -81,7 +80,7 @@ waits_each P Q weaker (cold shard) waits = (weaker shard.stamp.epoch waits, tt)
 waits_each P Q weaker (hot found) waits = (weaker found.stamp.epoch waits, tt)
 waits_each P Q weaker vacant waits = tt
 
-not_less : (a b : ℕ) → (a < b → ⊥) → b ≤ a
+pub not_less : (a b : ℕ) → (a < b → ⊥) → b ≤ a
 not_less a b none = go (cases_lt a b)
   where
     go : (a < b) ⊎ (b ≤ a) → b ≤ a
@@ -144,13 +143,9 @@ scanned_mirrors longest digest hot_keys worker vacant clock is = tt
 
 -- ---- the entries of a place
 
--- a request asks for a key of no more bits, and for a value of no more bytes, than those of a bundle with this header
-abbrev pub IsSmallAsk : Header → Option Request → Type 0
-IsSmallAsk header None = Unit {0}
-IsSmallAsk header (Some request) = (request.key < 2 ^ key_bits (wide_of header)) × IsBlob (longest_of header) request.value
-
+-- what the entry asks for is in range
 abbrev pub IsSmall : Header → Entry → Type 0
-IsSmall header entry = IsSmallAsk header entry.request
+IsSmall header entry = IsAskInRange header entry.request
 
 -- the world has nothing hot where the host is rolling, and else no more epoch may be entered
 pub record IsOfMode (settings : Settings) (world : World Content) (terms : Terms) : Type 0 where
@@ -298,7 +293,7 @@ module _ (functions : DigestFunctions) (settings : Settings) (script : List (Lis
 
         -- ---- a service
 
-        module _ (request : Request) (service : told.IsService terms entry request) (small : IsSmallAsk settings.header (Some request)) where
+        module _ (request : Request) (service : told.IsService terms entry request) (small : IsAskInRange settings.header (Some request)) where
           is_at : IsPlaceOf terms place request.key
           is_at = subst (λ (n : ℕ). IsPlaceOf terms n request.key) at service.at
 
@@ -343,7 +338,7 @@ module _ (functions : DigestFunctions) (settings : Settings) (script : List (Lis
           pub same_after : IsStill first (shown_content entry.after)
           pub mirrors_after : ContentMirrors (longest_of settings.header) functions.digest hot_keys (shown_content entry.after)
 
-        keeping : (request : Option Request) → entry.request ≡ request → told.IsWork terms entry request → IsSmallAsk settings.header request → IsKeeping request
+        keeping : (request : Option Request) → entry.request ≡ request → told.IsWork terms entry request → IsAskInRange settings.header request → IsKeeping request
         keeping None is scan small = record {
           did = scan_is scan (subst (told.IsWork terms entry) (sym is) scan);
           same_after = subst (IsStill first) (sym scan.content) (still_scanned entry.worker first before entry.clock same);

@@ -27,8 +27,9 @@ use Rattle.shipped_host.specs.Ranges.{AreInRange, HaveShortValues}
 use Rattle.shipped_host.specs.ShippedHost.{shipped_host}
 use Rattle.shipped_host.proofs.RangeLaws.{in_phases}
 use Rattle.table_order.specs.Rounds.{turns_of, stop_of, stops_from, AreNext, BeginsAt}
+use Rattle.table_order.specs.RoundMirroring.{IsAskInRange}
 use Rattle.table_order.proofs.ListLemmas.{all-got}
-use Rattle.table_order.proofs.RoundPastLemmas.{IsSmallAsk, IsSmall}
+use Rattle.table_order.proofs.RoundPastLemmas.{IsSmall}
 
 -- ---- clocks
 
@@ -81,7 +82,7 @@ module _ (functions : DigestFunctions) (settings : Settings) (script : List (Lis
   abbrev host : Host Content Request
   host = shipped_host functions settings script
 
-  ask_small : (worker served epoch : ℕ) (request : Option Request) → IsAsked host worker served epoch request → IsSmallAsk settings.header request
+  ask_small : (worker served epoch : ℕ) (request : Option Request) → IsAsked host worker served epoch request → IsAskInRange settings.header request
   ask_small worker served epoch None is = tt
   ask_small worker served epoch (Some request) is = (
     all-got (λ (ask : ℕ × Request). ask.1.key < 2 ^ key_bits (wide_of settings.header)) (asked host worker) served (is.0, request)

@@ -3,3 +3,4 @@ pub mod Servings
 pub mod Phases
 pub mod Mirroring
 pub mod Rounds
+pub mod RoundMirroring
