@@ -2,4 +2,4 @@ mod PlanLemmas
 pub mod PhaseLaws
 mod CallLemmas
 mod AttemptLemmas
-mod EndLemmas
+pub mod RoundLaws

@@ -25,7 +25,7 @@ pub told_rows : (hs : List Hand) → map row_of (map hands.row_of hs) ≡ map to
 told_rows [] = refl
 told_rows (hand ∷ hs) = ap (λ rows. told_by hand ∷ rows) (told_rows hs)
 
-row_at_phase : (rows : List round_rows.Row) (worker : ℕ) → row_at (map row_of rows) worker ≡ row_of (rounds.row_at rows worker)
+pub row_at_phase : (rows : List round_rows.Row) (worker : ℕ) → row_at (map row_of rows) worker ≡ row_of (rounds.row_at rows worker)
 row_at_phase [] worker = refl
 row_at_phase (row ∷ rows) zero = refl
 row_at_phase (row ∷ rows) (suc worker) = row_at_phase rows worker
@@ -48,3 +48,9 @@ round_phase t one after rows round = record {
   same = subst (λ (ends : List Service × List Service). IsPermutation ends.0 ends.1) (λ i. (lists_phase rows i, joined_phase 0 (epochs.place_count t) round.past i))
       (IsPermutation-map service_of (flat_map (λ row. row.list) rows) (told.joined_from 0 (epochs.place_count t) round.past) round.same);
 }
+
+-- its pasts are those of the round
+pub round_past : (t : epochs.Terms) (one : t.more ≡ 0) (after : List Content) (rows : List round_rows.Row) (round : rounds.IsRound t after rows)
+    → (round_phase t one after rows round).past ≡ (λ place. services_of (round.past place))
+unfolding round_phase
+round_past t one after rows round = refl
