@@ -24,6 +24,7 @@ use Rattle.host_world.proofs.BehindLaws.{shards_there}
 use Rattle.host_world.proofs.FrontLaws.{length-before_each, clock_with, round_with, length-step}
 use Rattle.host_serving.specs.Leading.{first_of, LeadsBy, LeadsByFront}
 use Rattle.host_serving.specs.Standing.{IsServedOut}
+use Rattle.host_serving.proofs.BeforeLemmas.{rolling_last}
 
 -- ---- worlds of one host
 
@@ -128,6 +129,12 @@ module _ {D : Type 0} (functions : DigestFunctions) (world : code.World D) (logs
   -- as many shards as the settings say
   pub shard_count : GivesDigests functions.digest → length (shown_world world).shards ≡ world.settings.shards
   shard_count digests = shards_there functions world.settings (requests_of world) digests whole stands.behind
+
+  -- the phase of a rolling host is the last
+  pub rolling_closes : (host_of functions world).rolling ≡ true → length (host_of functions world).script ≤ suc (shown_world world).phase
+  rolling_closes rolling =
+      subst (λ (w : World Content). length (host_of functions world).script ≤ suc w.phase) (sym stands.behind.is)
+      (rolling_last (host_of functions world) rolling stands.behind.events)
 
   -- before a close the clocks stand in the epoch of the phase, and no shard is moved
   module _ (promised : IsPromised (host_of functions world) whole) (served : IsServedOut (host_of functions world) (shown_world world)) where
