@@ -1,13 +1,13 @@
 -- Worlds of the code in a close: they are of one host, stand behind its setup, and have its numbers of workers and shards.
-use Rattle.std.proofs.Common.{◌≡◌, ℕ, zero, suc, ◌-◌, ◌^◌, ◌<◌, ◌≤◌, Bool, true, false, List, [], ◌∷◌, length, nat_le, Option, Some, None, Result, Ok, Err, OnOk, OnErr, IfOk, if◌then◌else◌, refl, sym, ◌∙◌, ap, subst, inl, inr, ◌⊎◌, length-append, pow-suc, arith}
-use Rattle.std.proofs.lemmas.List.{length-map, length-replicate}
+use Rattle.std.proofs.Common.{◌≡◌, ℕ, suc, ◌-◌, ◌<◌, ◌≤◌, Bool, true, false, List, [], ◌∷◌, length, Option, Some, None, Result, Ok, Err, OnOk, OnErr, IfOk, refl, sym, ◌∙◌, ap, subst, arith}
+use Rattle.std.proofs.lemmas.List.{length-replicate}
 use Rattle.std.specs.Option.{option_or}
 use Rattle.record_hash.specs.Functions.{DigestFunctions}
 use Rattle.record_text.specs.declared.request.Request.{Request}
 use Rattle.log_codec.specs.declared.command.Command.{Command}
 use Rattle.merkle_records.specs.Merkle.{GivesDigests}
 use Rattle.host_core.specs.Host.{Host}
-use Rattle.host_core.specs.World.{Seats, World, fresh, shard_at, set_up}
+use Rattle.host_core.specs.World.{World, fresh, shard_at, set_up}
 use Rattle.host_core.specs.WorldEvent.{WorldEvent, step, run_events, IsEnabled, HasAdvanced}
 use Rattle.host_shard.specs.Content.{Content}
 use Rattle.script_text.specs.declared.task.Task.{Task}

@@ -199,7 +199,7 @@ phase_served {C} {R} host world k settled so_far all = record {
 pub round_served : {C R : Type 0} (host : Host C R) (world : World C) → world.over ≡ false → world.closing ≡ false
     → world.phase < length host.script → length host.script ≤ suc world.phase
     → ((i : ℕ) → i < length world.workers
-        → ((worker_at host world i).holds ≡ None) × ((worker_at host world i).stuck ≡ false) × ((worker_at host world i).served ≤ length (asked host i)))
+    → ((worker_at host world i).holds ≡ None) × ((worker_at host world i).stuck ≡ false) × ((worker_at host world i).served ≤ length (asked host i)))
     → IsRoundOver host world → IsServedOut host world
 round_served {C} {R} host world going open_still within last each over = record {
   served = record {
