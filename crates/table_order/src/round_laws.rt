@@ -59,7 +59,7 @@ pub fn a_round_of_a_table_has_one_order()
         → IsTableOfRound functions settings script world terms rows → (round : IsRound terms after rows)
         → let host = shipped_host functions settings script in
         let events = round_events (finals_of terms rows) (length world.workers) (first_epoch terms + round.newest) (first_epoch terms)
-            (in_one_order (joined (lists_of rows))) in
+        (in_one_order (joined (lists_of rows))) in
         IsBehindSetup functions settings script (run_events host world events) }
     ensures contents { (functions : DigestFunctions) (settings : Settings) (script : List (List Task)) (world : World Content)
         (terms : Terms) (after : List code.Content) (rows : List Row)
@@ -67,7 +67,7 @@ pub fn a_round_of_a_table_has_one_order()
         → (place : ℕ) → place < place_count terms
         → let host = shipped_host functions settings script in
         let events = round_events (finals_of terms rows) (length world.workers) (first_epoch terms + round.newest) (first_epoch terms)
-            (in_one_order (joined (lists_of rows))) in
+        (in_one_order (joined (lists_of rows))) in
         content_at host (run_events host world events) (place_of place) ≡ shown_content (get_or after place Vacant) }
     ensures whole { (functions : DigestFunctions) (settings : Settings) (script : List (List Task)) (world : World Content)
         (terms : Terms) (after : List code.Content) (rows : List Row)
