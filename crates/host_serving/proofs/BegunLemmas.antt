@@ -16,9 +16,9 @@ use Rattle.host_world.specs.Behind.{with_logs}
 use Rattle.host_world.proofs.FrontLaws.{length-before_each, same_unlogged}
 use Rattle.host_serving.specs.Leading.{first_of, first_end}
 use Rattle.host_serving.specs.Form.{AreOfPhase}
-use Rattle.host_serving.specs.Standing.{asked_by, IsServedUpTo, HaveServedBefore, NoneStopped}
+use Rattle.host_serving.specs.Standing.{asked_by, first_of_round, HasServedUpTo, IsServedUpTo, HaveServedBefore, NoneStopped}
 use Rattle.host_serving.proofs.MoveLemmas.{shows-set}
-use Rattle.host_serving.proofs.BeforeLemmas.{run-rises, run-count, serve-phase}
+use Rattle.host_serving.proofs.BeforeLemmas.{run-rises, run-count, serve-phase, first_plain}
 
 -- ---- parts of lists
 
@@ -92,7 +92,8 @@ module _ {C R : Type 0} (host : Host C R) where
 
   begun_none : (world : World C) (servings : List (Serving C R)) (stops : List (Stop R)) → AreDone host world servings
       → AreEnded host (run_events host world (replay servings)) stops → AreEnabled host world (replay servings ++ replay_stops stops)
-      → first_end host world (replay servings ++ replay_stops stops) ≡ None → HaveServedBefore host world
+      → first_end host world (replay servings ++ replay_stops stops) ≡ None
+      → ((i : ℕ) → i < length world.workers → asked_by host i world.phase 0 ≤ (worker_at host world i).served)
       → ((i : ℕ) → i < length world.workers → (worker_at host (run_events host world (replay servings ++ replay_stops stops)) i).served ≡ asked_by host i world.phase 0)
       → ◌≡◌ {A = List (WorldEvent R)} (replay servings ++ replay_stops stops) []
   begun_none world [] [] done ended enabled unended before served = refl
@@ -105,14 +106,18 @@ module _ {C R : Type 0} (host : Host C R) where
       absurd (omega (arith, more, same))
 
   -- Where a phase begins and no clock has ended, what was begun of it is nothing, whatever logs were handed out.
-  pub nothing_begun : (logs : List (List Command)) (world now : World C) (events : List (WorldEvent R)) → HaveServedBefore host world
+  pub nothing_begun : host.rolling ≡ false → (logs : List (List Command)) (world now : World C) (events : List (WorldEvent R)) → HaveServedBefore host world
       → AreOfPhase host world events → AreEnabled host world events
-      → with_logs logs now ≡ run_events host world events → first_end host world events ≡ None → IsServedUpTo host now 0 → NoneStopped host now → events ≡ []
-  nothing_begun logs world now events before form enabled is unended begins running =
+      → with_logs logs now ≡ run_events host world events → first_end host world events ≡ None
+      → IsServedUpTo host now (first_of_round host now) 0 → NoneStopped host now → events ≡ []
+  nothing_begun plain logs world now events before form enabled is unended begins running =
       form.are
       ∙ begun_none world servings form.stops form.done form.ended (subst (AreEnabled host world) form.are enabled)
-      (ap (first_end host world) (sym form.are) ∙ unended) before served
+      (ap (first_end host world) (sym form.are) ∙ unended) before_phase served
     where
+      before_phase : (i : ℕ) → i < length world.workers → asked_by host i world.phase 0 ≤ (worker_at host world i).served
+      before_phase i within = subst (λ (n : ℕ). asked_by host i n 0 ≤ (worker_at host world i).served) (first_plain host plain world) (before i within)
+
       servings : List (Serving C R)
       servings = in_one_order form.servings
 
@@ -123,7 +128,7 @@ module _ {C R : Type 0} (host : Host C R) where
       count = sym (length-before_each logs now.workers) ∙ ap (λ (w : World C). length w.workers) is ∙ run-count host world events
 
       own : (i : ℕ) → i < length now.workers → (worker_at host now i).served ≡ asked_by host i now.phase 0
-      own i within = go (begins.each i within).served
+      own i within = go (subst (λ (n : ℕ). HasServedUpTo (worker_at host now i) (asked_by host i n 0)) (first_plain host plain now) (begins.each i within)).served
         where
           go : ((worker_at host now i).stopped ≡ true) ⊎ (((worker_at host now i).stopped ≡ false) × ((worker_at host now i).served ≡ asked_by host i now.phase 0))
               → (worker_at host now i).served ≡ asked_by host i now.phase 0

@@ -1,5 +1,5 @@
 -- What a close comes to: the next phase is open, or nothing can follow.
-use Rattle.std.proofs.Common.{◌≡◌, ◌⊎◌, ℕ, zero, suc, ◌+◌, ◌<◌, ◌≤◌, ◌==◌, ◌%◌, true, false, List, [], ◌∷◌, length, get_or, filter, take, Option, Some, None, IfSome, refl, sym, ◌∙◌, ap, subst, inl, inr, length-append, mod-lt, arith}
+use Rattle.std.proofs.Common.{◌≡◌, ◌⊎◌, ℕ, zero, suc, ◌+◌, ◌<◌, ◌≤◌, ◌==◌, ◌%◌, Bool, true, false, List, [], ◌∷◌, length, get_or, filter, take, Option, Some, None, IfSome, if◌then◌else◌, refl, sym, ◌∙◌, ap, subst, inl, inr, length-append, mod-lt, arith}
 use Rattle.std.proofs.lemmas.Bool.{cases_lt, false≢true}
 use Rattle.std.proofs.lemmas.List.{length-map}
 use Rattle.host_core.specs.Host.{Host, asked_in, asked_from}
@@ -7,7 +7,7 @@ use Rattle.host_core.specs.World.{Worker, Seats, World, unmoved, worker_at, shar
 use Rattle.host_core.specs.WorldEvent.{WorldEvent, takes, loses, serves, gives, advances, moves, opens, raises, enters, scans, finishes, stops, step, IsEnabled, IsLast, AllMoved, HasAdvanced, MayOpen}
 use Rattle.host_world.specs.declared.fault.ClockEnd.{ClockEnd}
 use Rattle.host_serving.specs.Leading.{CanDoNoMore}
-use Rattle.host_serving.specs.Standing.{turns_of, asked_by, IsServedUpTo, IsServedOut, IsClosed, NoneStopped, NoneStuckBelow}
+use Rattle.host_serving.specs.Standing.{turns_of, asked_by, IsServedUpTo, BeginsRound, IsServedOut, IsClosed, NoneStopped, NoneStuckBelow}
 use Rattle.host_serving.specs.Closing.{IsKept, IsThroughMoves, IsStuckInMoves, CanAllAdvance, HaveTurned, CanMoveAll, HaveAdvanced, EndsAdvance, HaveAllMoved, HaveSomeStuck, EndsMoves, ShardsAreClosed, EndsShards}
 use Rattle.host_serving.proofs.AdvanceLemmas.{over_still, round_still, advance_keeps}
 use Rattle.host_serving.proofs.MoveLemmas.{kept-then, turned_still}
@@ -277,9 +277,20 @@ module _ {C R : Type 0} (host : Host C R) where
       closed_rests = twice_rests end (omega (arith, some, have.workers, closed.workers)) (have.closing (omega (arith, some, closed.workers))) twice
 
     -- the next phase is open
-    module _ (served : IsServedOut host world) (more : IsLast host world → ⊥) where
+    module _ (served : IsServedOut host world) (end : host.rolling ≡ true → length host.script ≤ suc world.phase) (more : IsLast host world → ⊥) where
       abbrev pub opened : World C
       opened = step host later opens
+
+      -- a rolling host closes its last phase alone
+      not_rolling : host.rolling ≡ true → ⊥
+      not_rolling rolling = more (inl (end rolling))
+
+      is_plain : host.rolling ≡ false
+      is_plain = go host.rolling refl
+        where
+          go : (b : Bool) → host.rolling ≡ b → b ≡ false
+          go true rolling = absurd (not_rolling rolling)
+          go false plain = refl
 
       running : (i : ℕ) → i < length later.workers → (worker_at host later i).stopped ≡ false
       running i within = go (served.served.each i there).served
@@ -292,7 +303,7 @@ module _ {C R : Type 0} (host : Host C R) where
           go (inl stopped) = absurd (more (inr (i, there, stopped)))
           go (inr whole) = (closed.kept i).stopped ∙ whole.0
 
-      pub opened_served : IsServedUpTo host opened 0
+      opened_served : IsServedUpTo host opened (suc later.phase) 0
       opened_served = record {
         going = closed.all.going;
         phase = refl;
@@ -322,6 +333,13 @@ module _ {C R : Type 0} (host : Host C R) where
               go (inl stopped) = absurd (more (inr (i, there, stopped)))
               go (inr whole) = (closed.kept i).served ∙ whole.1 ∙ asked_next i world.phase served.served.within
                   ∙ ap (λ (n : ℕ). asked_by host i (suc n) 0) (sym closed.phase)
+
+      pub opened_begins : BeginsRound host opened
+      opened_begins = record {
+        served = subst (λ (n : ℕ). IsServedUpTo host opened n 0) (sym (ap (λ (b : Bool). if b then 0 else suc later.phase) is_plain)) opened_served;
+        newest = λ rolling. absurd (not_rolling rolling);
+        marks = λ rolling. absurd (not_rolling rolling);
+      }
 
       pub opened_phase : opened.phase ≡ suc world.phase
       opened_phase = ap suc closed.phase

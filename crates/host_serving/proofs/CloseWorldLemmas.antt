@@ -1,13 +1,13 @@
 -- Worlds of the code in a close: they are of one host, stand behind its setup, and have its numbers of workers and shards.
-use Rattle.std.proofs.Common.{◌≡◌, ℕ, zero, suc, ◌-◌, ◌^◌, ◌<◌, ◌≤◌, Bool, true, false, List, [], ◌∷◌, length, nat_le, Option, Some, None, Result, Ok, Err, OnOk, OnErr, IfOk, if◌then◌else◌, refl, sym, ◌∙◌, ap, subst, inl, inr, ◌⊎◌, length-append, pow-suc, arith}
-use Rattle.std.proofs.lemmas.List.{length-map, length-replicate}
+use Rattle.std.proofs.Common.{◌≡◌, ℕ, suc, ◌-◌, ◌<◌, ◌≤◌, Bool, true, false, List, [], ◌∷◌, length, Option, Some, None, Result, Ok, Err, OnOk, OnErr, IfOk, refl, sym, ◌∙◌, ap, subst, arith}
+use Rattle.std.proofs.lemmas.List.{length-replicate}
 use Rattle.std.specs.Option.{option_or}
 use Rattle.record_hash.specs.Functions.{DigestFunctions}
 use Rattle.record_text.specs.declared.request.Request.{Request}
 use Rattle.log_codec.specs.declared.command.Command.{Command}
 use Rattle.merkle_records.specs.Merkle.{GivesDigests}
 use Rattle.host_core.specs.Host.{Host}
-use Rattle.host_core.specs.World.{Seats, World, fresh, shard_at, set_up}
+use Rattle.host_core.specs.World.{World, fresh, shard_at, set_up}
 use Rattle.host_core.specs.WorldEvent.{WorldEvent, step, run_events, IsEnabled, HasAdvanced}
 use Rattle.host_shard.specs.Content.{Content}
 use Rattle.script_text.specs.declared.task.Task.{Task}
@@ -24,6 +24,7 @@ use Rattle.host_world.proofs.BehindLaws.{shards_there}
 use Rattle.host_world.proofs.FrontLaws.{length-before_each, clock_with, round_with, length-step}
 use Rattle.host_serving.specs.Leading.{first_of, LeadsBy, LeadsByFront}
 use Rattle.host_serving.specs.Standing.{IsServedOut}
+use Rattle.host_serving.proofs.BeforeLemmas.{rolling_last}
 
 -- ---- worlds of one host
 
@@ -128,6 +129,12 @@ module _ {D : Type 0} (functions : DigestFunctions) (world : code.World D) (logs
   -- as many shards as the settings say
   pub shard_count : GivesDigests functions.digest → length (shown_world world).shards ≡ world.settings.shards
   shard_count digests = shards_there functions world.settings (requests_of world) digests whole stands.behind
+
+  -- the phase of a rolling host is the last
+  pub rolling_closes : (host_of functions world).rolling ≡ true → length (host_of functions world).script ≤ suc (shown_world world).phase
+  rolling_closes rolling =
+      subst (λ (w : World Content). length (host_of functions world).script ≤ suc w.phase) (sym stands.behind.is)
+      (rolling_last (host_of functions world) rolling stands.behind.events)
 
   -- before a close the clocks stand in the epoch of the phase, and no shard is moved
   module _ (promised : IsPromised (host_of functions world) whole) (served : IsServedOut (host_of functions world) (shown_world world)) where

@@ -1,9 +1,9 @@
--- Phases and closes are of their forms also where logs were handed out before; and a run so far goes on by a phase, or by a close.
-use Rattle.std.proofs.Common.{◌≡◌, ℕ, zero, suc, ◌-◌, Bool, false, List, [], ◌∷◌, ◌++◌, length, Option, None, is_none, if◌then◌else◌, refl, sym, ◌∙◌, ap, subst, append_assoc, append-nil, arith}
+-- Rounds and closes are of their forms also where logs were handed out before; and a run so far goes on by a round, or by a close.
+use Rattle.std.proofs.Common.{◌≡◌, ◌⊎◌, inl, inr, ℕ, zero, suc, Bool, true, false, List, [], ◌∷◌, ◌++◌, length, Option, None, is_none, if◌then◌else◌, refl, sym, ◌∙◌, ap, subst, append_assoc, append-nil}
 use Rattle.log_codec.specs.declared.command.Command.{Command}
 use Rattle.lamport_clocks.specs.Reading.{Reading}
 use Rattle.host_core.specs.Host.{Host}
-use Rattle.host_core.specs.World.{World, fresh, first_phase, set_up}
+use Rattle.host_core.specs.World.{World, fresh, set_up}
 use Rattle.host_core.specs.WorldEvent.{WorldEvent, opens, IsLast, AreEnabled, step, run_events}
 use Rattle.host_core.proofs.EventLaws.{run-append}
 use Rattle.host_order.specs.Serving.{Serving, content_at, in_one_order, replay}
@@ -14,11 +14,12 @@ use Rattle.host_world.specs.Ending.{end_of}
 use Rattle.host_world.specs.Behind.{before_each, with_logs}
 use Rattle.host_world.proofs.FrontLaws.{length-before_each, same_unlogged, clock_with, step_with, ends_with, last_other}
 use Rattle.host_serving.specs.Leading.{first_of, first_end, LeadsBy, LeadsAs, Leads}
-use Rattle.host_serving.specs.Form.{AreOfPhase, until_end, unless_ended, own_moves_from, all_advance, own_moves, moves_of_each, all_move, events_of_shards, events_of_close, AreOfClose, Round, events_of, AreInForm, AreInRounds}
-use Rattle.host_serving.specs.Standing.{asked_by, IsServedUpTo, HaveServedBefore, NoneStopped}
+use Rattle.host_serving.specs.Form.{AreOfPhase, AreRolling, AreOfRound, until_end, unless_ended, own_moves_from, all_advance, own_moves, moves_of_each, all_move, events_of_shards, events_of_close, AreOfClose, Round, events_of, AreInForm, AreInRounds}
+use Rattle.host_serving.specs.Standing.{first_of_round, IsServedUpTo, NoneStopped}
 use Rattle.host_serving.proofs.LeadingLaws.{first_end-append, run-with, first-with, by-then, by-with}
-use Rattle.host_serving.proofs.BeforeLemmas.{run_before}
+use Rattle.host_serving.proofs.BeforeLemmas.{served_before}
 use Rattle.host_serving.proofs.BegunLemmas.{nothing_begun, enabled-front, enabled-behind, first_of-behind}
+use Rattle.host_serving.proofs.RollingForms.{rolling_other}
 
 module _ {C R : Type 0} (host : Host C R) where
   -- ---- where logs were handed out before
@@ -78,6 +79,31 @@ module _ {C R : Type 0} (host : Host C R) where
       rising = form.rising;
       are = form.are;
     }
+
+    -- ---- a round
+
+    pub round-with : (world : World C) (events : List (WorldEvent R)) → AreOfRound host world events → AreOfRound host (with_logs logs world) events
+    round-with world events form = record {
+      plain = λ plain. phase-with world events (form.plain plain);
+      rolling = λ rolling. go (form.rolling rolling);
+    }
+      where
+        go : (events ≡ []) ⊎ AreRolling host world events → (events ≡ []) ⊎ AreRolling host (with_logs logs world) events
+        go (inl none') = inl none'
+        go (inr some) =
+            inr (rolling_other host world (before_each logs world.workers) (length-before_each logs world.workers) (λ i. same_unlogged logs world.workers i (fresh host.header)) events some)
+
+    -- What is of a round's form with logs in front is so without them.
+    pub round-without : (world : World C) (events : List (WorldEvent R)) → AreOfRound host (with_logs logs world) events → AreOfRound host world events
+    round-without world events form = record {
+      plain = λ plain. phase-without world events (form.plain plain);
+      rolling = λ rolling. go (form.rolling rolling);
+    }
+      where
+        go : (events ≡ []) ⊎ AreRolling host (with_logs logs world) events → (events ≡ []) ⊎ AreRolling host world events
+        go (inl none') = inl none'
+        go (inr some) =
+            inr (rolling_other host (with_logs logs world) world.workers (sym (length-before_each logs world.workers)) (λ i. sym (same_unlogged logs world.workers i (fresh host.header))) events some)
 
     -- ---- a close
 
@@ -141,20 +167,17 @@ module _ {C R : Type 0} (host : Host C R) where
 
   -- ---- a run
 
-  -- a phase in which nothing happened yet
-  phase-none : (world : World C) → AreOfPhase host world []
-  phase-none world = record { servings = []; stops = []; done = tt; ended = tt; rising = tt; are = refl }
+  -- a round in which nothing happened yet
+  round-none : (world : World C) → AreOfRound host world []
+  round-none world = record {
+    plain = λ plain. record { servings = []; stops = []; done = tt; ended = tt; rising = tt; are = refl };
+    rolling = λ rolling. inl refl;
+  }
 
   -- what some events of a form lead to, some events do
   pub as-leads : (Form : Host C R → World C → List (WorldEvent R) → Type 0) (world later : World C) (end : Option ClockEnd) → LeadsAs Form host world later end
       → Leads host world later end
   as-leads Form world later end so = record { events = so.events; enabled = so.enabled; is = so.is; first = so.first }
-
-  -- Behind the setup of a host that is not rolling nothing is asked before the phase.
-  pub set_up_before : host.rolling ≡ false → HaveServedBefore host (set_up host)
-  set_up_before plain i within =
-      let same : asked_by host i (first_phase host) 0 ≡ asked_by host i 0 0 = ap (λ (b : Bool). asked_by host i (if b then length host.script - 1 else 0) 0) plain in
-      omega (arith, same)
 
   -- Before its first event a run is in form.
   pub run-none : (world : World C) → LeadsAs AreInRounds host world world None
@@ -163,7 +186,7 @@ module _ {C R : Type 0} (host : Host C R) where
     enabled = tt;
     is = refl;
     first = refl;
-    form = record { rounds = []; whole = tt; phase = []; begun = phase-none world; are = refl };
+    form = record { rounds = []; whole = tt; served = []; begun = round-none world; are = refl };
   }
 
   -- rounds behind rounds
@@ -173,25 +196,28 @@ module _ {C R : Type 0} (host : Host C R) where
   form-append world (round ∷ rounds) more whole behind = (
     whole.0,
     whole.1,
-    form-append (run_events host world (round.phase ++ round.close)) rounds more whole.2
-        (subst (λ (w : World C). AreInForm host w more) (run-append host world (round.phase ++ round.close) (events_of rounds)) behind),
+    form-append (run_events host world (round.served ++ round.close)) rounds more whole.2
+        (subst (λ (w : World C). AreInForm host w more) (run-append host world (round.served ++ round.close) (events_of rounds)) behind),
   )
 
   events-append : (rounds more : List (Round R)) → events_of (rounds ++ more) ≡ events_of rounds ++ events_of more
   events-append [] more = refl
   events-append (round ∷ rounds) more =
-      ap (λ (rest : List (WorldEvent R)). (round.phase ++ round.close) ++ rest) (events-append rounds more)
-      ∙ sym (append_assoc (round.phase ++ round.close) (events_of rounds) (events_of more))
+      ap (λ (rest : List (WorldEvent R)). (round.served ++ round.close) ++ rest) (events-append rounds more)
+      ∙ sym (append_assoc (round.served ++ round.close) (events_of rounds) (events_of more))
 
-  module _ (logs : List (List Command)) (start world later : World C) (first second : Option ClockEnd)
-      (so_far : LeadsAs AreInRounds host start (with_logs logs world) first) where
+  module _ (logs : List (List Command)) (world later : World C) (first second : Option ClockEnd)
+      (so_far : LeadsAs AreInRounds host (set_up host) (with_logs logs world) first) where
+    abbrev start : World C
+    start = set_up host
+
     abbrev rounds : List (Round R)
     rounds = so_far.form.rounds
 
     abbrev begun : List (WorldEvent R)
-    begun = so_far.form.phase
+    begun = so_far.form.served
 
-    -- the world behind the whole rounds
+    -- the world behind the closed rounds
     abbrev behind : World C
     behind = run_events host start (events_of rounds)
 
@@ -205,10 +231,10 @@ module _ {C R : Type 0} (host : Host C R) where
         (record { enabled = so_far.enabled; is = so_far.is; first = so_far.first })
         (by-with host logs world later second next.events (record { enabled = next.enabled; is = next.is; first = next.first }))
 
-    -- Where a phase begins and no clock has ended, the run goes on by a phase.
-    pub run-phase : HaveServedBefore host start → first ≡ None → IsServedUpTo host world 0 → NoneStopped host world → LeadsAs AreOfPhase host world later second
-        → LeadsAs AreInRounds host start (with_logs logs later) (first_of first second)
-    run-phase before unended begins running next = record {
+    -- Where the round of a plain host begins and no clock has ended, the run goes on by the round.
+    run-plain : host.rolling ≡ false → first ≡ None → IsServedUpTo host world (first_of_round host world) 0 → NoneStopped host world
+        → LeadsAs AreOfRound host world later second → LeadsAs AreInRounds host start (with_logs logs later) (first_of first second)
+    run-plain plain unended begins running next = record {
       events = so_far.events ++ next.events;
       enabled = (led next).enabled;
       is = (led next).is;
@@ -216,9 +242,9 @@ module _ {C R : Type 0} (host : Host C R) where
       form = record {
         rounds = rounds;
         whole = so_far.form.whole;
-        phase = next.events;
-        begun = subst (λ (w : World C). AreOfPhase host w next.events) (now_is ∙ ap (run_events host behind) none_begun)
-            (phase-with logs world next.events next.form);
+        served = next.events;
+        begun = subst (λ (w : World C). AreOfRound host w next.events) (now_is ∙ ap (run_events host behind) none_begun)
+            (round-with logs world next.events next.form);
         are = ap (λ (events : List (WorldEvent R)). events ++ next.events)
             (so_far.form.are ∙ ap (λ (events : List (WorldEvent R)). events_of rounds ++ events) none_begun ∙ append-nil (events_of rounds));
       };
@@ -236,7 +262,31 @@ module _ {C R : Type 0} (host : Host C R) where
             (sym (first_end-append host start (events_of rounds) begun) ∙ ap (first_end host start) (sym so_far.form.are) ∙ so_far.first ∙ unended)
 
         none_begun : begun ≡ []
-        none_begun = nothing_begun host logs behind world begun (run_before host start (events_of rounds) enabled_rounds before) so_far.form.begun enabled now_is unended_begun begins running
+        none_begun =
+            nothing_begun host plain logs behind world begun (served_before host (events_of rounds) enabled_rounds) (so_far.form.begun.plain plain) enabled now_is unended_begun begins running
+
+    -- That of a rolling host begins behind the setup.
+    run-rolling : first ≡ None → with_logs logs world ≡ start → LeadsAs AreOfRound host world later second
+        → LeadsAs AreInRounds host start (with_logs logs later) (first_of first second)
+    run-rolling unended new next =
+        let way = by-with host logs world later second next.events (record { enabled = next.enabled; is = next.is; first = next.first }) in
+        subst (λ (end : Option ClockEnd). LeadsAs AreInRounds host start (with_logs logs later) (first_of end second)) (sym unended)
+        (subst (λ (w : World C). LeadsAs AreInRounds host w (with_logs logs later) second) new (record {
+          events = next.events;
+          enabled = way.enabled;
+          is = way.is;
+          first = way.first;
+          form = record { rounds = []; whole = tt; served = next.events; begun = round-with logs world next.events next.form; are = refl };
+        }))
+
+    -- So a run goes on by the round that begins.
+    pub run-round : (host.rolling ≡ true → with_logs logs world ≡ start) → first ≡ None → IsServedUpTo host world (first_of_round host world) 0
+        → NoneStopped host world → LeadsAs AreOfRound host world later second → LeadsAs AreInRounds host start (with_logs logs later) (first_of first second)
+    run-round new unended begins running next = go host.rolling refl
+      where
+        go : (b : Bool) → host.rolling ≡ b → LeadsAs AreInRounds host start (with_logs logs later) (first_of first second)
+        go true rolling = run-rolling unended (new rolling) next
+        go false plain = run-plain plain unended begins running next
 
     -- By a close it goes on where it stands.
     pub run-close : LeadsAs AreOfClose host world later second → LeadsAs AreInRounds host start (with_logs logs later) (first_of first second)
@@ -252,8 +302,8 @@ module _ {C R : Type 0} (host : Host C R) where
           subst (λ (w : World C). AreOfClose host w next.events) now_is (close-with logs world next.events next.form),
           tt,
         );
-        phase = [];
-        begun = phase-none (run_events host start (events_of (rounds ++ one ∷ [])));
+        served = [];
+        begun = round-none (run_events host start (events_of (rounds ++ one ∷ [])));
         are = ap (λ (events : List (WorldEvent R)). events ++ next.events) so_far.form.are
             ∙ append_assoc (events_of rounds) begun next.events
             ∙ ap (λ (events : List (WorldEvent R)). events_of rounds ++ events) (sym (append-nil (begun ++ next.events)))
@@ -263,25 +313,25 @@ module _ {C R : Type 0} (host : Host C R) where
     }
       where
         one : Round R
-        one = record { phase = begun; close = next.events }
+        one = record { served = begun; close = next.events }
 
   -- ---- how a run goes on
 
-  -- A run that stands in the one world, and has come to this end or to none, goes on to the other.
-  pub record GoesOn (world later : World C) (end next : Option ClockEnd) : Type 0 where
+  -- A run that stands in the one world, where it has handed out these logs and has come to this end or to none, goes on to the other.
+  pub record GoesOn (logs : List (List Command)) (world later : World C) (end next : Option ClockEnd) : Type 0 where
     pub leads : Leads host world later next
-    pub on : (logs : List (List Command)) (start : World C) → HaveServedBefore host start → LeadsAs AreInRounds host start (with_logs logs world) end
-        → LeadsAs AreInRounds host start (with_logs logs later) (first_of end next)
+    pub on : LeadsAs AreInRounds host (set_up host) (with_logs logs world) end → LeadsAs AreInRounds host (set_up host) (with_logs logs later) (first_of end next)
 
-  module _ (world later : World C) (end next : Option ClockEnd) where
-    pub on_by_phase : end ≡ None → IsServedUpTo host world 0 → NoneStopped host world → LeadsAs AreOfPhase host world later next → GoesOn world later end next
-    on_by_phase unended begins running so = record {
-      leads = as-leads AreOfPhase world later next so;
-      on = λ logs start before so_far. run-phase logs start world later end next so_far before unended begins running so;
+  module _ (logs : List (List Command)) (world later : World C) (end next : Option ClockEnd) where
+    pub on_by_round : (host.rolling ≡ true → with_logs logs world ≡ set_up host) → end ≡ None → IsServedUpTo host world (first_of_round host world) 0
+        → NoneStopped host world → LeadsAs AreOfRound host world later next → GoesOn logs world later end next
+    on_by_round new unended begins running so = record {
+      leads = as-leads AreOfRound world later next so;
+      on = λ so_far. run-round logs world later end next so_far new unended begins running so;
     }
 
-    pub on_by_close : LeadsAs AreOfClose host world later next → GoesOn world later end next
+    pub on_by_close : LeadsAs AreOfClose host world later next → GoesOn logs world later end next
     on_by_close so = record {
       leads = as-leads AreOfClose world later next so;
-      on = λ logs start before so_far. run-close logs start world later end next so_far so;
+      on = λ so_far. run-close logs world later end next so_far so;
     }

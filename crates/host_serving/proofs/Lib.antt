@@ -6,7 +6,8 @@ mod AdvanceLemmas
 mod MoveLemmas
 mod ClosePlanLemmas
 mod CloseLemmas
+pub mod BeforeLemmas
 mod CloseWorldLemmas
-mod BeforeLemmas
 mod BegunLemmas
+mod RollingForms
 pub mod FormLaws

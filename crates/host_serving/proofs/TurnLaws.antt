@@ -1,11 +1,24 @@
 -- What a script asks of a worker, turn by turn: what is next, and that nothing of a phase is left behind its last turn.
-use Rattle.std.proofs.Common.{◌≡◌, ◌⊎◌, inl, inr, ℕ, zero, suc, ◌+◌, ◌<◌, ◌≤◌, ◌==◌, Bool, true, false, List, [], ◌∷◌, ◌++◌, map, filter, length, take, drop, get_or, slice_get, Some, if◌then◌else◌, refl, sym, ◌∙◌, ap, subst, append_assoc, take_all, arith}
+use Rattle.std.proofs.Common.{◌≡◌, ◌⊎◌, inl, inr, ℕ, zero, suc, ◌+◌, ◌<◌, ◌≤◌, ◌==◌, Bool, true, false, List, [], ◌∷◌, ◌++◌, map, filter, length, take, drop, get_or, slice_get, Some, None, if◌then◌else◌, refl, sym, ◌∙◌, ap, subst, append_assoc, length-append, take_all, arith}
 use Rattle.std.proofs.lemmas.Bool.{eq-eqb, ne_eqb}
 use Rattle.std.proofs.lemmas.Option.{none-some, same_Some}
 use Rattle.host_core.specs.Host.{Host, asked_in, asked_from, asked}
 use Rattle.host_core.specs.World.{World, worker_at}
 use Rattle.host_core.specs.WorldEvent.{IsRoundOver}
 use Rattle.host_serving.specs.Standing.{turns_of, asked_by, IsServedUpTo, IsServedOut}
+
+-- where nothing is found, there is no more
+past_end : {X : Type 0} (xs : List X) (n : ℕ) → slice_get xs n ≡ None → length xs ≤ n
+past_end [] n none' = omega arith
+past_end (x ∷ xs) zero none' = absurd (none-some x (sym none'))
+past_end (x ∷ xs) (suc n) none' = omega (arith, past_end xs n none')
+
+-- nothing is behind the whole
+drop_all : {X : Type 0} (n : ℕ) (xs : List X) → length xs ≤ n → drop n xs ≡ []
+drop_all zero [] short = refl
+drop_all zero (x ∷ xs) short = absurd (omega (arith, short))
+drop_all (suc n) [] short = refl
+drop_all (suc n) (x ∷ xs) short = drop_all n xs (omega (arith, short))
 
 -- what is found behind a list
 pub slice_get-behind : {X : Type 0} (xs ys : List X) (n at : ℕ) → at ≡ length xs + n → slice_get (xs ++ ys) at ≡ slice_get ys n
@@ -145,17 +158,35 @@ module _ {C R : Type 0} (host : Host C R) where
       let later : suc phase ≤ phase = later_only i (suc phase) (drop (suc phase) host.script) (phase, request) next in
       absurd (omega (arith, later))
 
+  -- Behind all turns of the last phase there are as many as are asked.
+  asked_whole : (i phase : ℕ) → phase < length host.script → length host.script ≤ suc phase
+      → asked_by host i phase (length (turns_of host phase)) ≡ length (asked host i)
+  asked_whole i phase there last =
+      let turns = turns_of host phase in
+      let front = asked_from i 0 (take phase host.script) in
+      let inside = asked_in i phase turns in
+      let none' : drop (suc phase) host.script ≡ [] = drop_all (suc phase) host.script last in
+      let more : length (asked_from i (suc phase) (drop (suc phase) host.script)) ≡ 0 =
+      ap (λ (script : List (List (ℕ × R))). length (asked_from i (suc phase) script)) none' in
+      let around : length (asked host i) ≡ length (front ++ (inside ++ asked_from i (suc phase) (drop (suc phase) host.script))) =
+      ap length (asked-around i 0 phase phase host.script (omega arith) there) in
+      let one = length-append front (inside ++ asked_from i (suc phase) (drop (suc phase) host.script)) in
+      let two = length-append inside (asked_from i (suc phase) (drop (suc phase) host.script)) in
+      let all : length (asked_in i phase (take (length turns) turns)) ≡ length inside =
+      ap (λ (ts : List (ℕ × R)). length (asked_in i phase ts)) (take_all (length turns) turns (omega arith)) in
+      omega (arith, around, one, two, more, all)
+
 -- All turns are served, so no worker has more to do.
-pub phase_served : {C R : Type 0} (host : Host C R) (world : World C) (k : ℕ) → (host.rolling ≡ true → IsRoundOver host world) → IsServedUpTo host world k
-    → k ≡ length (turns_of host world.phase) → IsServedOut host world
+pub phase_served : {C R : Type 0} (host : Host C R) (world : World C) (k : ℕ) → (host.rolling ≡ true → IsRoundOver host world)
+    → IsServedUpTo host world world.phase k → k ≡ length (turns_of host world.phase) → IsServedOut host world
 phase_served {C} {R} host world k settled so_far all = record {
   served = served;
   over = λ i there. ((served.each i there).idle, through i there (served.each i there).served);
   settled = settled;
 }
   where
-    served : IsServedUpTo host world (length (turns_of host world.phase))
-    served = subst (IsServedUpTo host world) all so_far
+    served : IsServedUpTo host world world.phase (length (turns_of host world.phase))
+    served = subst (IsServedUpTo host world world.phase) all so_far
 
     through : (i : ℕ) → i < length world.workers
         → ((worker_at host world i).stopped ≡ true) ⊎ (((worker_at host world i).stopped ≡ false) × ((worker_at host world i).served ≡ asked_by host i world.phase (length (turns_of host world.phase))))
@@ -163,3 +194,31 @@ phase_served {C} {R} host world k settled so_far all = record {
     through i there (inl stopped) = inl stopped
     through i there (inr count) =
         inr (λ request is. nothing_left host i world.phase request so_far.within (ap (slice_get (asked host i)) (sym count.1) ∙ is))
+
+-- The round of a rolling host is over, and no worker holds a place or has served more than it is asked; so it is served out.
+pub round_served : {C R : Type 0} (host : Host C R) (world : World C) → world.over ≡ false → world.closing ≡ false
+    → world.phase < length host.script → length host.script ≤ suc world.phase
+    → ((i : ℕ) → i < length world.workers
+    → ((worker_at host world i).holds ≡ None) × ((worker_at host world i).stuck ≡ false) × ((worker_at host world i).served ≤ length (asked host i)))
+    → IsRoundOver host world → IsServedOut host world
+round_served {C} {R} host world going open_still within last each over = record {
+  served = record {
+    going = going;
+    phase = open_still;
+    within = within;
+    each = λ i there. record {
+      idle = (each i there).0;
+      going = (each i there).1;
+      served = inr ((over i there).0, count i there);
+    };
+  };
+  over = λ i there. ((each i there).0, inr (λ request next. absurd (none-some (world.phase, request) (sym (over i there).1 ∙ next))));
+  settled = λ _. over;
+}
+  where
+    count : (i : ℕ) → i < length world.workers → (worker_at host world i).served ≡ asked_by host i world.phase (length (turns_of host world.phase))
+    count i there =
+        let most = (each i there).2 in
+        let least = past_end (asked host i) (worker_at host world i).served (over i there).1 in
+        let all = asked_whole host i world.phase within last in
+        omega (arith, most, least, all)

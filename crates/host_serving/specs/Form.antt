@@ -1,11 +1,14 @@
--- The form of a run's list of events: phases and closes in turn, the events of each in one order.
-use Rattle.std.specs.Prelude.{◌≡◌, ◌↔◌, ℕ, zero, suc, ◌≤◌, ◌==◌, ◌%◌, Bool, true, List, [], ◌∷◌, ◌++◌, length, is_none, if◌then◌else◌}
+-- The form of a run's list of events: rounds and closes in turn, the events of each in one order. A round serves one phase, or in a
+-- rolling host all of them.
+use Rattle.std.specs.Prelude.{◌≡◌, ◌↔◌, ◌⊎◌, ℕ, zero, suc, ◌≤◌, ◌==◌, ◌%◌, Bool, true, false, List, [], ◌∷◌, ◌++◌, length, is_none, if◌then◌else◌}
 use Rattle.host_core.specs.Host.{Host}
 use Rattle.host_core.specs.World.{World}
 use Rattle.host_core.specs.WorldEvent.{WorldEvent, moves, opens, IsLast, step, run_events}
 use Rattle.host_order.specs.Serving.{Serving, in_one_order, replay}
 use Rattle.host_order.specs.Told.{Stop, AreDone, AreEnded, replay_stops}
 use Rattle.host_order.specs.Close.{advances_from}
+use Rattle.round_order.specs.Turn as rounds
+use Rattle.round_order.specs.Told.{RoundStop, AreTold, whole_events, stopped_events}
 use Rattle.host_world.specs.Ending.{end_of}
 use Rattle.host_serving.specs.Leading.{first_end}
 
@@ -25,6 +28,36 @@ pub record AreOfPhase {C R : Type 0} (host : Host C R) (world : World C) (events
   pub ended : AreEnded host (run_events host world (replay (in_one_order servings))) stops
   pub rising : AreRising 0 stops
   pub are : events ≡ replay (in_one_order servings) ++ replay_stops stops
+
+-- ---- the round of a rolling host
+
+-- each is of a higher worker than the one before it, from one on
+abbrev pub AreByWorker : ℕ → List RoundStop → Type 0
+AreByWorker i [] = Unit {0}
+AreByWorker i (stop ∷ stops) = (i ≤ stop.worker) × AreByWorker (suc stop.worker) stops
+
+-- the turns of workers in one order, with the epochs that they go on by where these first become due; then each notes that its shards
+-- are of the last epoch, or, where clocks ended, the stops
+abbrev pub rolling_events : {C R : Type 0} → World C → (ℕ → ℕ) → ℕ → List (List (rounds.Turn C R)) → List RoundStop → List (WorldEvent R)
+rolling_events world finals top lists [] = whole_events world finals top world.newest lists
+rolling_events world finals top lists (stop ∷ stops) = stopped_events world finals top world.newest lists (stop ∷ stops)
+
+-- They are those events, of what the workers did as each tells it and each place, up to the newest epoch and to each worker's last.
+-- The stops stand by worker.
+pub record AreRolling {C R : Type 0} (host : Host C R) (world : World C) (events : List (WorldEvent R)) : Type 0 where
+  pub top : ℕ
+  pub finals : ℕ → ℕ
+  pub lists : List (List (rounds.Turn C R))
+  pub pasts : List (List (List (rounds.Turn C R)))
+  pub stops : List RoundStop
+  pub told : AreTold host host.rolling world top finals lists pasts
+  pub by_worker : AreByWorker 0 stops
+  pub are : events ≡ rolling_events world finals top lists stops
+
+-- The events of a round: those of a phase, or in a rolling host of all phases together, of which nothing may have happened yet.
+pub record AreOfRound {C R : Type 0} (host : Host C R) (world : World C) (events : List (WorldEvent R)) : Type 0 where
+  pub plain : host.rolling ≡ false → AreOfPhase host world events
+  pub rolling : host.rolling ≡ true → (events ≡ []) ⊎ AreRolling host world events
 
 -- ---- a close
 
@@ -78,28 +111,28 @@ pub record AreOfClose {C R : Type 0} (host : Host C R) (world : World C) (events
 
 -- ---- a run
 
--- the events of a phase, and of its close
+-- the events of a round, and of its close
 pub record Round (Ask : Type 0) : Type 0 where
-  pub phase : List (WorldEvent Ask)
+  pub served : List (WorldEvent Ask)
   pub close : List (WorldEvent Ask)
 
 -- the events of rounds in turn
 abbrev pub events_of : {R : Type 0} → List (Round R) → List (WorldEvent R)
 events_of [] = []
-events_of (round ∷ rounds) = (round.phase ++ round.close) ++ events_of rounds
+events_of (round ∷ rounds) = (round.served ++ round.close) ++ events_of rounds
 
--- each phase and each close is of its form, in the world where it begins
+-- each round and each close is of its form, in the world where it begins
 abbrev pub AreInForm : {C R : Type 0} → Host C R → World C → List (Round R) → Type 0
 AreInForm host world [] = Unit {0}
 AreInForm host world (round ∷ rounds) =
-    AreOfPhase host world round.phase × AreOfClose host (run_events host world round.phase) round.close
-    × AreInForm host (run_events host world (round.phase ++ round.close)) rounds
+    AreOfRound host world round.served × AreOfClose host (run_events host world round.served) round.close
+    × AreInForm host (run_events host world (round.served ++ round.close)) rounds
 
--- The events of a run so far: whole rounds, and then a phase that is not closed, of which nothing has happened where a round ended
+-- The events of a run so far: closed rounds, and then a round that is not closed, of which nothing has happened where a close came
 -- last.
 pub record AreInRounds {C R : Type 0} (host : Host C R) (world : World C) (events : List (WorldEvent R)) : Type 0 where
   pub rounds : List (Round R)
   pub whole : AreInForm host world rounds
-  pub phase : List (WorldEvent R)
-  pub begun : AreOfPhase host (run_events host world (events_of rounds)) phase
-  pub are : events ≡ events_of rounds ++ phase
+  pub served : List (WorldEvent R)
+  pub begun : AreOfRound host (run_events host world (events_of rounds)) served
+  pub are : events ≡ events_of rounds ++ served

@@ -1,4 +1,4 @@
-//! A close of a phase: all workers advance, each moves its shards in order, and then the next phase opens, or all advance
+//! A close of a round: all workers advance, each moves its shards in order, and then the next phase opens, or all advance
 //! once more.
 ghost use Rattle.std.specs.Prelude.{◌≡◌, ◌↔◌, ℕ, suc, ◌<◌, true, false, List, length, Some, None, Ok, IfOk, IfSome, OnErr};
 ghost use Rattle.log_codec.specs.declared.command.Command.{Command};
@@ -8,7 +8,7 @@ ghost use Rattle.host_world.specs.Shown.{shown_world, digests_of};
 ghost use Rattle.host_world.specs.Behind.{host_of, StandsBehind, StandsWith, AreOfOneHost};
 ghost use Rattle.host_serving.specs.Leading.{Leads, LeadsBy, LeadsAs, LeadsByFront, CanDoNoMore};
 ghost use Rattle.host_serving.specs.Form.{AreOfClose, all_advance, own_moves, all_move, events_of_shards, events_of_close};
-ghost use Rattle.host_serving.specs.Standing.{IsServedUpTo, IsServedOut, IsClosed, NoneStopped, NoneStuckBelow};
+ghost use Rattle.host_serving.specs.Standing.{BeginsRound, IsServedOut, IsClosed, NoneStopped, NoneStuckBelow};
 ghost use Rattle.host_serving.specs.Closing.{CanAllAdvance, EndsAdvance, CanMoveOwn, EndsOwn, CanMoveAll, EndsMoves, EndsShards};
 
 use base_words::Memory;
@@ -34,7 +34,7 @@ pub fn close_phase<D: Digests>(
 
     // The next phase is open, and nothing is served of it yet.
     ensures opened { result ≡ Ok None → last ≡ false
-        → IsServedUpTo (host_of (D.functions (digests_of world.old)) world.old) (shown_world world.new) 0
+        → BeginsRound (host_of (D.functions (digests_of world.old)) world.old) (shown_world world.new)
         × ((shown_world world.new).phase ≡ suc (shown_world world.old).phase)
         × NoneStopped (host_of (D.functions (digests_of world.old)) world.old) (shown_world world.new) }
 
@@ -53,7 +53,7 @@ pub fn close_phase<D: Digests>(
     ensures lowest { IfOk result (λ end. IfSome end (λ found.
         NoneStuckBelow (host_of (D.functions (digests_of world.old)) world.old) (shown_world world.new) found.worker)) }
 
-    // Whose clock ended in the phase stays.
+    // Whose clock ended in the round stays.
     ensures stopped { IfOk result (λ _. (i : ℕ) → (worker_at (host_of (D.functions (digests_of world.old)) world.old) (shown_world world.new) i).stopped
         ≡ (worker_at (host_of (D.functions (digests_of world.old)) world.old) (shown_world world.old) i).stopped) }
     ensures on_the_way { OnErr result (LeadsByFront (host_of (D.functions (digests_of world.old)) world.old)

@@ -1,8 +1,9 @@
 -- What a check makes of the logs of the shipped host.
-use Rattle.std.proofs.Common.{◌≡◌, ℕ, zero, suc, ◌+◌, ◌<◌, ◌≤◌, ◌^◌, ◌==◌, true, false, List, [], ◌∷◌, ◌++◌, map, length, get_or, take, Some, None, sym, ◌∙◌, ap, subst, arith, Bool}
+use Rattle.std.proofs.Common.{◌≡◌, ℕ, zero, suc, ◌+◌, ◌<◌, ◌≤◌, ◌^◌, ◌==◌, true, false, List, [], ◌∷◌, ◌++◌, map, length, get_or, take, Some, None, refl, sym, ◌∙◌, ap, subst, arith, Bool}
 use Rattle.std.specs.List.{AllByRecursion}
 use Rattle.std.proofs.lemmas.Bool.{cond_both}
 use Rattle.std.proofs.lemmas.Grind.{flat_map-append}
+use Rattle.std.proofs.lemmas.List.{length-map}
 use Rattle.tree_keys.specs.Path.{key_bits}
 use Rattle.lamport_clocks.specs.Header.{IsHeader}
 use Rattle.record_hash.specs.Functions.{DigestFunctions}
@@ -202,6 +203,15 @@ module _ (keeps : KeepsPromise) (functions : DigestFunctions) (settings : Settin
         ∙ history_at host 0 world.workers i (fresh host.header) within
         ∙ ap (λ (n : ℕ). path_log_events (scheme host) host.header n (worker_at host world i).log) (omega arith)
 
+-- what is answered of the front of what is asked is answered of all of it, where it is as many
+all_answered : {C R : Type 0} (host : Host C R) (answers : List (ℕ × Request)) (asks : List (ℕ × R)) (n : ℕ)
+    → IsAnswering host answers (take n asks) → length answers ≡ length asks → IsAnswering host answers asks
+all_answered host [] [] n are same = tt
+all_answered host [] (ask ∷ asks) n are same = absurd (omega (arith, same))
+all_answered host (answer ∷ answers) [] n are same = absurd (omega (arith, same))
+all_answered host (answer ∷ answers) (ask ∷ asks) zero are same = absurd are
+all_answered host (answer ∷ answers) (ask ∷ asks) (suc n) are same = (are.0, are.1, all_answered host answers asks n are.2 (omega (arith, same)))
+
 -- ---- the laws
 
 module _ (keeps : KeepsPromise) where
@@ -254,6 +264,43 @@ module _ (keeps : KeepsPromise) where
   finds_all_answers functions settings script events can first enabled plain last over going i within =
       ap answers_in (history_read keeps functions settings script events can first enabled i within)
       ∙ (promise keeps functions settings script events can first enabled).done plain last over going i within
+
+  pub finds_all_in_time : HoldsOfRuns (λ host world. length host.script ≤ suc world.phase → IsPhaseOver host world
+      → ((i : ℕ) → i < length world.workers → (worker_at host world i).stopped ≡ false)
+      → ((i : ℕ) → i < length world.workers → HasAdvanced host world i 2)
+      → (i : ℕ) → i < length world.workers
+      → IsAnswering host (answers_in (get_or (histories_at (scheme host) host.header (written_logs host.header (logs_of world))) i [])) (asked host i))
+  finds_all_in_time functions settings script events can first enabled last over going advanced i within =
+      subst (λ (log : List Event). IsAnswering host (answers_in log) (asked host i))
+      (sym (history_read keeps functions settings script events can first enabled i within))
+      (go settings.rolling refl)
+    where
+      host : Host Content Request
+      host = shipped_host functions settings script
+
+      world : World Content
+      world = run_events host (set_up host) events
+
+      promised : IsPromised host world
+      promised = promise keeps functions settings script events can first enabled
+
+      -- behind the round of a rolling host no clock is past the epoch of its last phase
+      closes : settings.rolling ≡ true → (b : Bool) → world.closing ≡ b → world.closing ≡ true
+      closes rolling true closing = closing
+      closes rolling false phase =
+          let bounded = (promised.in_round rolling phase).0 in
+          let most = bounded.within in
+          let own = (bounded.scanned i within).2 in
+          let twice = advanced i within in
+          absurd (omega (arith, most, own, twice))
+
+      go : (b : Bool) → settings.rolling ≡ b → IsAnswering host (answers_in (path_log_events (scheme host) host.header i (worker_at host world i).log)) (asked host i)
+      go true rolling = promised.round_done rolling (closes rolling world.closing refl) i within
+      go false plain =
+          all_answered host (answers_in (path_log_events (scheme host) host.header i (worker_at host world i).log)) (asked host i) (worker_at host world i).served
+          (promised.in_time i within)
+          (ap length (promised.done plain last over going i within)
+          ∙ length-map (asked host i) (λ ask. (host.header.first + ask.0, host.telling ask.1)))
 
 -- ---- what the contents hold
 

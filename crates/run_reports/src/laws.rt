@@ -80,7 +80,8 @@ pub fn a_check_finds_nothing_to_show()
 }
 
 /// The answers that a check reads of each worker's log are what the script asks of it first, each in its phase's epoch, and of a
-/// rolling host in that or a later one. Where the last phase is over and no clock ended, they are all that it asks.
+/// rolling host in that or a later one. Where the last phase is over and no clock ended, they are all that it asks, and so they are
+/// behind the whole last close of a rolling host.
 pub fn a_check_finds_what_the_script_asks()
     ensures answered { HoldsOfRuns (λ host world. host.rolling ≡ false → (i : ℕ) → i < length world.workers
         → answers_in (get_or (histories_at (scheme host) host.header (written_logs host.header (logs_of world))) i [])
@@ -92,6 +93,11 @@ pub fn a_check_finds_what_the_script_asks()
         → ((i : ℕ) → i < length world.workers → (worker_at host world i).stopped ≡ false)
         → (i : ℕ) → i < length world.workers
         → answers_in (get_or (histories_at (scheme host) host.header (written_logs host.header (logs_of world))) i []) ≡ script_of host i) }
+    ensures all_in_time { HoldsOfRuns (λ host world. length host.script ≤ suc world.phase → IsPhaseOver host world
+        → ((i : ℕ) → i < length world.workers → (worker_at host world i).stopped ≡ false)
+        → ((i : ℕ) → i < length world.workers → HasAdvanced host world i 2)
+        → (i : ℕ) → i < length world.workers
+        → IsAnswering host (answers_in (get_or (histories_at (scheme host) host.header (written_logs host.header (logs_of world))) i [])) (asked host i)) }
 {
     the_shipped_host_keeps_its_promise();
 }

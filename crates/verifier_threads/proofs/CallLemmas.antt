@@ -69,12 +69,12 @@ module _ {D : Type 0} (functions : D → DigestFunctions) (own : DigestFunctions
       subst (λ (s : State D). StateStands account call functions own settings script s outputs) state_is
       (subst (λ (n : NextCall). StateStands account n functions own settings script runner.state outputs) call_is stands.state)
 
--- ---- what a phase is called with
+-- ---- what a round is called with
 
--- each turn of the phase is one of the workers'
-pub phase-turns : {D : Type 0} (functions : D → DigestFunctions) (run : WorldRun D) (phase closes : ℕ) (held : Option (List ℕ)) → AreTasks run.world.settings.header (requests_of run.world)
-    → IsUnderWayBehind functions run phase closes held
-    → AllByRecursion (λ turn. turn.0 < length (shown_world run.world).workers) (get_or (map (map turn_of) (requests_of run.world)) phase [])
-phase-turns functions run phase closes held tasks way =
+-- each turn of the script is one of the workers'
+pub script-turns : {D : Type 0} (functions : D → DigestFunctions) (run : WorldRun D) (served closes : ℕ) (held : Option (List ℕ)) → AreTasks run.world.settings.header (requests_of run.world)
+    → IsUnderWayBehind functions run served closes held
+    → (phase : ℕ) → AllByRecursion (λ turn. turn.0 < length (shown_world run.world).workers) (get_or (map (map turn_of) (requests_of run.world)) phase [])
+script-turns functions run served closes held tasks way phase =
     turns-now run.world run.world phase (record { settings = refl; requests = refl; digests = refl }) tasks
     (runs-workers way.0 functions run way.2.past way.1 way.2.runs)

@@ -1,5 +1,5 @@
 -- Where a run ends: what is served, and what its report says.
-use Rattle.std.proofs.Common.{◌≡◌, ◌*◌, ◌-◌, ℕ, zero, suc, ◌<◌, ◌≤◌, Bool, false, if◌then◌else◌, List, [], ◌∷◌, length, map, get_or, replicate, Option, Some, None, inr, refl, sym, ◌∙◌, ap, subst, arith}
+use Rattle.std.proofs.Common.{◌≡◌, ◌*◌, ◌-◌, ℕ, zero, suc, ◌<◌, ◌≤◌, Bool, true, false, if◌then◌else◌, List, [], ◌∷◌, length, map, get_or, replicate, Option, Some, None, inr, refl, sym, ◌∙◌, ap, subst, arith}
 use Rattle.std.specs.List.{AllByRecursion}
 use Rattle.std.proofs.lemmas.List.{length-map, length-replicate}
 use Rattle.fv_outside.specs.Written.{Grows, GrowsByFront}
@@ -18,7 +18,7 @@ use Rattle.merkle_records.specs.Scheme.{scheme_of}
 use Rattle.bundle_report.specs.Logs.{empty_logs}
 use Rattle.bundle_report.proofs.DueLaws.{lines-due}
 use Rattle.host_core.specs.Host.{Host}
-use Rattle.host_core.specs.World.{first_phase, Worker, World, logs_of, set_up, fresh, worker_at}
+use Rattle.host_core.specs.World.{Worker, World, logs_of, set_up, fresh, worker_at}
 use Rattle.host_core.specs.WorldEvent.{WorldEvent, AreEnabled, HasAdvanced, run_events}
 use Rattle.host_shard.specs.Content.{Content}
 use Rattle.script_text.specs.declared.task.Task.{Task}
@@ -47,11 +47,12 @@ use Rattle.verifier_threads.specs.declared.accounts.Account.TheVariants as accou
 use Rattle.verifier_threads.specs.declared.ending.RunEnd.{RunEnd}
 use Rattle.verifier_threads.specs.declared.world_run.WorldRun.{WorldRun}
 use Rattle.verifier_threads.specs.InRounds.{Logs}
-use Rattle.verifier_threads.specs.Serving.{Outputs, GrowsFor, IfDone, HoldsWhatIsCertified, AreOfRun, IsServed, IsCutAtEnd, account_of, end_by, status_at, told_for}
-use Rattle.verifier_threads.specs.Running.{IsRunning, Runs, RunsWhole, RunsToEnd, IsAtPhase, IsAtEnd, ending_for}
+use Rattle.verifier_threads.specs.Serving.{Outputs, GrowsFor, IfDone, HoldsWhatIsCertified, AreOfRun, IsServed, IsCutAtEnd, round_count, account_of, end_by, status_at, told_for}
+use Rattle.verifier_threads.specs.Running.{IsRunning, Runs, RunsTold, RunsWhole, RunsToEnd, rounds_before, IsAtRound, IsAtEnd, ending_for}
 use Rattle.verifier_threads.proofs.RunningLemmas.{running-workers}
 use Rattle.verifier_threads.proofs.HandingLemmas.{front-logs}
-use Rattle.verifier_threads.proofs.StandingLemmas.{all_with, rests_with, lowest_with}
+use Rattle.verifier_threads.proofs.PassingLemmas.{rounds-same}
+use Rattle.verifier_threads.proofs.StandingLemmas.{all_with, nothing_with, lowest_with}
 
 -- ---- the setup
 
@@ -84,26 +85,35 @@ module _ {C R : Type 0} (host : Host C R) where
   new_running zero = refl
   new_running (suc i) = ap (λ (w : Worker). w.stopped) (get-replicate (host.header.verifiers - 1) i (fresh host.header))
 
-  -- so the first phase begins
-  pub set_up-begins : host.rolling ≡ false → 0 < length host.script → IsAtPhase host (set_up host) None
-  set_up-begins plain some = record {
+  -- so the first round begins
+  pub set_up-begins : 0 < length host.script → IsAtRound host (set_up host) None
+  set_up-begins some = record {
     begins = record {
-      going = refl;
-      phase = refl;
-      within = subst (λ (n : ℕ). n < length host.script) (sym first) some;
-      each = λ i there. subst (λ (n : ℕ). HasServedUpTo (worker_at host (set_up host) i) (asked_by host i n 0)) (sym first) (new_worker i);
+      served = record {
+        going = refl;
+        phase = refl;
+        within = within host.rolling;
+        each = λ i there. subst (λ (n : ℕ). HasServedUpTo (worker_at host (set_up host) i) (asked_by host i n 0)) (sym (first host.rolling)) (new_worker i);
+      };
+      newest = λ rolling. refl;
+      marks = λ rolling i there. get-replicate host.header.verifiers i host.header.first;
     };
+    new = λ rolling. refl;
     running = λ i there. new_running i;
     unended = refl;
   }
     where
-      first : first_phase host ≡ 0
-      first = ap (λ (b : Bool). if b then length host.script - 1 else 0) plain
+      within : (b : Bool) → (if b then length host.script - 1 else 0) < length host.script
+      within true = omega (arith, some)
+      within false = some
+
+      first : (b : Bool) → (if b then 0 else (if b then length host.script - 1 else 0)) ≡ 0
+      first true = refl
+      first false = refl
 
 -- a world that is set up, of settings that suffice
 pub record IsRunningFrom (functions : DigestFunctions) (settings : Settings) (script : List (List Task)) (world : World Content) : Type 0 where
   pub settings_fit : IsSettings settings
-  pub plain : settings.rolling ≡ false
   pub counters : settings.shards ≤ settings.header.end
   pub keys : AreInRange settings.header script
   pub values : HaveShortValues settings.header script
@@ -115,7 +125,7 @@ pub grows-none : (account : Account) (held : Option (List ℕ)) → GrowsFor acc
 grows-none (accounts.Report receipts) held = Grows-nil held
 grows-none (accounts.Summary load) held = refl
 
--- the run before its first phase
+-- the run before its first round
 pub running-new : (account : Account) (functions : DigestFunctions) (settings : Settings) (script : List (List Task)) (world : World Content) (rounds : RunsSoFar) (vault vault_after out : Option (List ℕ))
     → IsRunningFrom functions settings script world → Keeps functions settings.header (empty_logs settings.header.verifiers) [] rounds vault vault_after
     → rounds.judged.count ≡ 0
@@ -128,7 +138,6 @@ running-new account functions settings script world rounds vault vault_after out
     ap (λ (workers : List Worker). record world { workers = workers }) (before_each-none settings.header.verifiers world.workers) ∙ from.is in
     record {
       settings_fit = from.settings_fit;
-      plain = from.plain;
       counters = from.counters;
       keys = from.keys;
       values = from.values;
@@ -231,12 +240,12 @@ module _ (account : Account) (functions : DigestFunctions) (settings : Settings)
       (subst (λ (w : World Content). ContentsHold settings w (map_certified functions settings.header (logs_of w))) (sym running.way.is)
       (holding functions settings script running.way.events (can-run digests) running.keeps.vault.is_bundle.first running.way.enabled (all-advanced none')))
 
-  ended-run : HoldAsCertified → GivesDigests functions.digest → (end ≡ None → length past ≡ 2 * length script) → AreOfRun functions settings script past running.logs end
+  ended-run : HoldAsCertified → GivesDigests functions.digest → (end ≡ None → length past ≡ 2 * round_count settings script) → AreOfRun functions settings script past running.logs end
   ended-run holding digests count = record {
     served = λ enough. record {
       world = all_logged;
       way = running.way;
-      rests = rests_with own_host running.logs world at.rests;
+      rests = nothing_with own_host running.logs world at.rests;
       logs_are = logs-are;
       whole = λ none'. all_with own_host running.logs world (at.whole none');
       holds = ended-holds holding digests;
@@ -274,7 +283,7 @@ module _ (account : Account) (functions : DigestFunctions) (settings : Settings)
       ∙ ap (λ (e : Option ClockEnd). last_line (status_at (end_by (length script) e))) (sym none')
 
   module _ (holding : HoldAsCertified) (digests : GivesDigests functions.digest)
-      (all : AllCounted functions settings.header (written_logs settings.header running.logs) rounds) (count : end ≡ None → length past ≡ 2 * length script) where
+      (all : AllCounted functions settings.header (written_logs settings.header running.logs) rounds) (count : end ≡ None → length past ≡ 2 * round_count settings script) where
     -- all that is due is written
     due-written : GrowsFor account outputs.out outputs.out_after (lines_due (told_for account functions settings.header) functions settings.header (written_logs settings.header running.logs))
     due-written =
@@ -319,7 +328,7 @@ set_up-count settings host world fit same is =
     ∙ ap (λ (header : Header). suc (header.verifiers - 1)) same
     ∙ (let some = fit.header.some_verifiers in omega arith)
 
--- ---- from phase to phase
+-- ---- from round to round
 
 -- each turn of a phase is one of the workers', also of a world further on
 pub turns-now : {D : Type 0} (old now : code.World D) (phase : ℕ) → AreOfOneHost old now → AreTasks old.settings.header (requests_of old)
@@ -337,15 +346,30 @@ pub runs-workers : (account : Account) {D : Type 0} (functions : D → DigestFun
 runs-workers account functions runner past outputs runs = running-workers _ _ _ _ (shown_world runner.world) runner.rounds runner.end past outputs runs.running
 
 -- behind the last close it runs to its end
-pub whole-to_end : (account : Account) {D : Type 0} (functions : D → DigestFunctions) (runner : WorldRun D) (phase : ℕ) (outputs : Outputs)
-    → RunsWhole account functions runner (suc phase) outputs → IsAtEnd (host_of (functions (digests_of runner.world)) runner.world) (shown_world runner.world) runner.end
-    → (runner.end ≡ None → (shown_world runner.world).phase ≡ phase) → RunsToEnd account functions runner outputs
-whole-to_end account functions runner phase outputs whole at same = record {
+pub whole-to_end : (account : Account) {D : Type 0} (functions : D → DigestFunctions) (old runner : WorldRun D) (outputs : Outputs) → AreOfOneHost old.world runner.world
+    → RunsWhole account functions runner (suc (rounds_before old)) outputs → IsAtEnd (host_of (functions (digests_of runner.world)) runner.world) (shown_world runner.world) runner.end
+    → (runner.end ≡ None → (shown_world runner.world).phase ≡ (shown_world old.world).phase) → RunsToEnd account functions runner outputs
+whole-to_end account functions old runner outputs host whole at same = record {
   past = whole.past;
   runs = whole.runs;
   all = whole.all;
   count = λ none'.
       let last : suc (shown_world runner.world).phase ≡ length (requests_of runner.world) = at.last none' ∙ length-map (requests_of runner.world) (map turn_of) in
-      let is = same none' in
-      omega (arith, whole.count, last, is);
+      let before : rounds_before runner ≡ rounds_before old = rounds-same old runner host (same none') in
+      let all = closes runner.world.settings.rolling (shown_world runner.world).phase (length (requests_of runner.world)) last in
+      omega (arith, whole.count, before, all);
+}
+  where
+    closes : (b : Bool) (phase size : ℕ) → suc phase ≡ size → suc (if b then 0 else phase) ≡ (if b then 1 else size)
+    closes true phase size is = refl
+    closes false phase size is = is
+
+-- where nothing follows the round of a rolling host, and a clock ended in it
+pub told-to_end : (account : Account) {D : Type 0} (functions : D → DigestFunctions) (runner : WorldRun D) (past : List Logs) (outputs : Outputs)
+    → RunsTold account functions runner past outputs → (runner.end ≡ None → ⊥) → RunsToEnd account functions runner outputs
+told-to_end account functions runner past outputs told ended = record {
+  past = past;
+  runs = told.runs;
+  all = told.all;
+  count = λ none'. absurd (ended none');
 }

@@ -6,7 +6,7 @@ mod StandingLemmas
 mod RoundLemmas
 mod RunningLemmas
 mod PassingLemmas
-mod PhaseLemmas
+mod ClosingLemmas
 mod EndingLemmas
 mod CutLemmas
 mod CallLemmas

@@ -1,5 +1,5 @@
 -- What all workers logged is passed on to the vault and to the runs.
-use Rattle.std.proofs.Common.{◌≡◌, ℕ, suc, ◌+◌, ◌*◌, ◌≤◌, List, [], ◌∷◌, ◌++◌, length, map, take, Option, Result, Vec, Global, Ok, Err, OnOk, OnErr, refl, sym, ◌∙◌, ap, subst, arith}
+use Rattle.std.proofs.Common.{◌≡◌, ℕ, suc, ◌*◌, ◌≤◌, Bool, true, if◌then◌else◌, List, [], ◌∷◌, ◌++◌, length, map, take, Option, Result, Vec, Global, Ok, Err, OnOk, OnErr, refl, sym, ◌∙◌, ap, subst, arith}
 use Rattle.std.proofs.lemmas.List.{length-map}
 use Rattle.record_hash.specs.Functions.{DigestFunctions}
 use Rattle.lamport_clocks.specs.declared.header.Header.{Header}
@@ -7,14 +7,14 @@ use Rattle.merkle_records.specs.Scheme.{Scheme, scheme_of}
 use Rattle.bundle_report.specs.SoFar.{runs_from}
 use Rattle.record_text.specs.declared.request.Request.{Request}
 use Rattle.host_core.specs.Host.{Host}
-use Rattle.host_core.specs.World.{World, logs_of}
+use Rattle.host_core.specs.World.{World, logs_of, set_up}
 use Rattle.host_shard.specs.Content.{Content}
 use Rattle.script_text.specs.declared.task.Task.{Task}
 use Rattle.host_world.specs.declared.fault.ClockEnd.{ClockEnd}
 use Rattle.shipped_host.specs.declared.settings.Settings.{Settings}
 use Rattle.host_world.specs.declared.world.World as code
 use Rattle.host_world.specs.Shown.{shown_world, digests_of, requests_of}
-use Rattle.host_world.specs.Behind.{StandsBehind, AreOfOneHost, host_of}
+use Rattle.host_world.specs.Behind.{StandsBehind, AreOfOneHost, host_of, with_logs}
 use Rattle.host_serving.specs.Leading.{first_of}
 use Rattle.host_serving.proofs.FormLaws.{GoesOn}
 use Rattle.certified_epochs.specs.declared.fed_run.FedRun.{FedRun}
@@ -27,10 +27,10 @@ use Rattle.verifier_threads.specs.declared.accounts.Account.{Account}
 use Rattle.verifier_threads.specs.declared.world_run.WorldRun.{WorldRun}
 use Rattle.verifier_threads.specs.InRounds.{Logs, logged_with, IsBehindRounds}
 use Rattle.verifier_threads.specs.Serving.{Outputs, GrowsFor, HasTold, told_for}
-use Rattle.verifier_threads.specs.Running.{IsRunning, Runs, RunsBehind, RunsWhole, all_handed_out, with_runs_of}
+use Rattle.verifier_threads.specs.Running.{IsRunning, Runs, RunsTold, RunsBehind, RunsWhole, rounds_before, all_handed_out, with_runs_of}
 use Rattle.shipped_host.specs.ShippedHost.{shipped_host}
 use Rattle.verifier_threads.proofs.RoundLemmas.{take-all, take-more, length-one_more}
-use Rattle.verifier_threads.proofs.RunningLemmas.{of_one_host, leads-length, running-behind, running-led, running-handed}
+use Rattle.verifier_threads.proofs.RunningLemmas.{of_one_host, leads-length, running-behind, running-fresh, running-led, running-handed}
 
 -- ---- answers
 
@@ -138,7 +138,7 @@ module _ (account : Account) {D : Type 0} (functions : D → DigestFunctions) (o
 
   -- events lead its world on
   pub runs-led : (world : code.World D) (next end : Option ClockEnd) → AreOfOneHost old.world world
-      → GoesOn host_now (shown_world old.world) (shown_world world) old.end next → end ≡ first_of old.end next
+      → GoesOn host_now runs.running.logs (shown_world old.world) (shown_world world) old.end next → end ≡ first_of old.end next
       → Runs account functions (record old { world = world; end = end }) past outputs
   runs-led world next end same way is = record {
     running =
@@ -152,7 +152,7 @@ module _ (account : Account) {D : Type 0} (functions : D → DigestFunctions) (o
 
   -- the same where its verifiers' runs were lent, and others taken in their stead, with other counts
   pub runs-fed : (world : code.World D) (next end : Option ClockEnd) (back : RunsSoFar) (before : List FedRun) (parcels : Vec ℕ Global) → AreOfOneHost old.world world
-      → GoesOn host_now (shown_world old.world) (shown_world world) old.end next → end ≡ first_of old.end next → with_runs before back ≡ old.rounds
+      → GoesOn host_now runs.running.logs (shown_world old.world) (shown_world world) old.end next → end ≡ first_of old.end next → with_runs before back ≡ old.rounds
       → length parcels.items ≡ length old.parcels.items
       → Runs account functions (with_runs_of before (record old { world = world; end = end; rounds = back; parcels = parcels })) past outputs
   runs-fed world next end back before parcels same way is rounds_are many =
@@ -161,19 +161,17 @@ module _ (account : Account) {D : Type 0} (functions : D → DigestFunctions) (o
       (record { running = led.running; buffers = led.buffers; counts = many ∙ led.counts })
 
   -- what its logs certify is counted and written
-  pub runs-certified : (rounds' : RunsSoFar) (out : Option (List ℕ)) (closes : ℕ) → length past ≡ closes + closes
+  pub runs-certified : (rounds' : RunsSoFar) (out : Option (List ℕ))
       → HaveRun (functions (digests_of old.world)) old.world.settings.header (written_logs old.world.settings.header runs.running.logs) rounds'
       → AllCounted (functions (digests_of old.world)) old.world.settings.header (written_logs old.world.settings.header runs.running.logs) rounds'
       → lines_counted (told_for account (functions (digests_of old.world)) old.world.settings.header) (functions (digests_of old.world)) old.world.settings.header (written_logs old.world.settings.header runs.running.logs) rounds'
       ≡ lines_due (told_for account (functions (digests_of old.world)) old.world.settings.header) (functions (digests_of old.world)) old.world.settings.header (written_logs old.world.settings.header runs.running.logs)
       → GrowsFor account outputs.out out (lines_due (told_for account (functions (digests_of old.world)) old.world.settings.header) (functions (digests_of old.world)) old.world.settings.header (written_logs old.world.settings.header runs.running.logs))
-      → RunsWhole account functions (record old { rounds = rounds' }) closes (record outputs { out_after = out })
-  runs-certified rounds' out closes count have all counted written = record {
-    past = past;
+      → RunsTold account functions (record old { rounds = rounds' }) past (record outputs { out_after = out })
+  runs-certified rounds' out have all counted written = record {
     runs = record {
       running = record {
         settings_fit = runs.running.settings_fit;
-        plain = runs.running.plain;
         counters = runs.running.counters;
         keys = runs.running.keys;
         values = runs.running.values;
@@ -190,12 +188,11 @@ module _ (account : Account) {D : Type 0} (functions : D → DigestFunctions) (o
       counts = runs.counts;
     };
     all = all;
-    count = count;
     told = subst (λ (logs : List (List ℕ)). GrowsFor account outputs.out out (lines_due (told_for account (functions (digests_of old.world)) old.world.settings.header) (functions (digests_of old.world)) old.world.settings.header logs))
         runs.running.keeps.vault.is_bundle.logs_are written;
   }
 
--- ---- behind phases and closes
+-- ---- behind rounds and closes
 
 module _ (account : Account) {D : Type 0} (functions : D → DigestFunctions) (old : WorldRun D) (phases closes : ℕ) (outputs : Outputs)
     (behind : RunsBehind account functions old phases closes outputs) where
@@ -216,7 +213,7 @@ module _ (account : Account) {D : Type 0} (functions : D → DigestFunctions) (o
 
   -- events lead its world on
   pub behind-led : (world : code.World D) (next end : Option ClockEnd) → AreOfOneHost old.world world
-      → GoesOn (host_of (functions (digests_of old.world)) old.world) (shown_world old.world) (shown_world world) old.end next → end ≡ first_of old.end next
+      → GoesOn (host_of (functions (digests_of old.world)) old.world) behind.runs.running.logs (shown_world old.world) (shown_world world) old.end next → end ≡ first_of old.end next
       → RunsBehind account functions (record old { world = world; end = end }) phases closes outputs
   behind-led world next end same way is = record {
     past = behind.past;
@@ -227,7 +224,7 @@ module _ (account : Account) {D : Type 0} (functions : D → DigestFunctions) (o
 
   -- the same where its verifiers' runs were lent, and others taken in their stead, with other counts
   pub behind-fed : (world : code.World D) (next end : Option ClockEnd) (back : RunsSoFar) (before : List FedRun) (parcels : Vec ℕ Global) → AreOfOneHost old.world world
-      → GoesOn (host_of (functions (digests_of old.world)) old.world) (shown_world old.world) (shown_world world) old.end next → end ≡ first_of old.end next → with_runs before back ≡ old.rounds
+      → GoesOn (host_of (functions (digests_of old.world)) old.world) behind.runs.running.logs (shown_world old.world) (shown_world world) old.end next → end ≡ first_of old.end next → with_runs before back ≡ old.rounds
       → length parcels.items ≡ length old.parcels.items
       → RunsBehind account functions (with_runs_of before (record old { world = world; end = end; rounds = back; parcels = parcels })) phases closes outputs
   behind-fed world next end back before parcels same way is rounds_are many = record {
@@ -237,7 +234,7 @@ module _ (account : Account) {D : Type 0} (functions : D → DigestFunctions) (o
     told = told-of world same;
   }
 
-  -- one phase more
+  -- one round more
   pub behind-more : (new : WorldRun D) (round : Logs) (vault : Option (List ℕ)) → AreOfOneHost old.world new.world → closes ≤ phases
       → Runs account functions new (behind.past ++ (round ∷ [])) (record outputs { vault_after = vault })
       → RunsBehind account functions new (suc phases) closes (record outputs { vault_after = vault })
@@ -252,7 +249,7 @@ module _ (account : Account) {D : Type 0} (functions : D → DigestFunctions) (o
             (sym (take-more (2 * closes) behind.past (round ∷ []) (omega (arith, count, few)))) (told-of new.world same);
       }
 
--- what is whole stands behind as many phases as closes
+-- what is whole stands behind as many rounds as closes
 pub whole-behind : (account : Account) {D : Type 0} (functions : D → DigestFunctions) (runner : WorldRun D) (closes : ℕ) (outputs : Outputs)
     → RunsWhole account functions runner closes outputs → RunsBehind account functions runner closes closes outputs
 whole-behind account functions runner closes outputs whole = record {
@@ -262,3 +259,28 @@ whole-behind account functions runner closes outputs whole = record {
   told = subst (λ (rounds : List Logs). HasTold account (functions (digests_of runner.world)) runner.world.settings.header rounds outputs)
       (sym (take-all (2 * closes) whole.past (omega (arith, whole.count)))) whole.told;
 }
+
+-- before the first round of a rolling host nothing is handed out
+pub behind-fresh : (account : Account) {D : Type 0} (functions : D → DigestFunctions) (runner : WorldRun D) (outputs : Outputs)
+    (behind : RunsBehind account functions runner (rounds_before runner) (rounds_before runner) outputs)
+    → (runner.world.settings.rolling ≡ true → shown_world runner.world ≡ set_up (host_of (functions (digests_of runner.world)) runner.world))
+    → runner.world.settings.rolling ≡ true
+    → with_logs behind.runs.running.logs (shown_world runner.world) ≡ set_up (host_of (functions (digests_of runner.world)) runner.world)
+behind-fresh account functions runner outputs behind new rolling =
+    running-fresh _ _ _ _ (shown_world runner.world) runner.rounds runner.end behind.past outputs behind.runs.running (empty-past behind.past none') (new rolling)
+  where
+    none' : length behind.past ≡ 0
+    none' =
+        let first : rounds_before runner ≡ 0 = ap (λ (b : Bool). if b then 0 else (shown_world runner.world).phase) rolling in
+        omega (arith, behind.count, first)
+
+    empty-past : (rounds : List Logs) → length rounds ≡ 0 → rounds ≡ []
+    empty-past [] is = refl
+    empty-past (round ∷ rounds) is = absurd (omega (arith, is))
+
+-- events of a world of the same phase leave as many rounds behind it
+pub rounds-same : {D : Type 0} (old new : WorldRun D) → AreOfOneHost old.world new.world → (shown_world new.world).phase ≡ (shown_world old.world).phase
+    → rounds_before new ≡ rounds_before old
+rounds-same old new same phase =
+    ap (λ (settings : Settings). if settings.rolling then 0 else (shown_world new.world).phase) same.settings
+    ∙ ap (λ (n : ℕ). if old.world.settings.rolling then 0 else n) phase

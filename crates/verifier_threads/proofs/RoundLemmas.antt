@@ -9,7 +9,7 @@ use Rattle.host_serving.specs.Leading.{LeadsTo, first_of}
 use Rattle.host_serving.proofs.LeadingLaws.{leads-none, leads-then}
 use Rattle.std.proofs.Common.{None}
 use Rattle.verifier_threads.specs.InRounds.{Logs, logged_with, logged_behind, IsBehindRounds, LeadThrough}
-use Rattle.verifier_threads.proofs.StandingLemmas.{rests_with, out_with, up_to_with}
+use Rattle.verifier_threads.proofs.StandingLemmas.{rests_with, ends_with, begins_with}
 
 -- ---- lists
 
@@ -58,6 +58,6 @@ module _ {C R : Type 0} (host : Host C R) where
 
   -- how a world stands does not depend on what its workers handed out
   pub behind_with : (count : ℕ) (logs : Logs) (world : World C) → IsBehindRounds host count world → IsBehindRounds host count (with_logs logs world)
-  behind_with count logs world (inl served) = inl (served.0, out_with host logs world served.1)
-  behind_with count logs world (inr (inl begins)) = inr (inl (begins.0, up_to_with host logs world 0 begins.1))
+  behind_with count logs world (inl done) = inl (done.0, ends_with host logs world done.1)
+  behind_with count logs world (inr (inl begins)) = inr (inl (begins.0, begins_with host logs world begins.1))
   behind_with count logs world (inr (inr rests)) = inr (inr (rests.0, rests.1, rests_with host logs world rests.2))

@@ -1,5 +1,5 @@
 -- A run goes on: events lead on, logs are handed out, and where it stops it is cut off.
-use Rattle.std.proofs.Common.{◌≡◌, inl, inr, ℕ, suc, ◌<◌, List, [], ◌∷◌, ◌++◌, length, map, Option, Result, Ok, Err, IfOk, OnErr, refl, sym, ◌∙◌, ap, subst, arith}
+use Rattle.std.proofs.Common.{◌≡◌, inl, inr, ℕ, suc, ◌<◌, ◌≤◌, true, List, [], ◌∷◌, ◌++◌, length, map, Option, Result, Ok, Err, IfOk, OnErr, refl, sym, ◌∙◌, ap, subst, arith}
 use Rattle.std.proofs.lemmas.List.{length-map}
 use Rattle.record_hash.specs.Functions.{DigestFunctions}
 use Rattle.record_text.specs.declared.request.Request.{Request}
@@ -7,7 +7,7 @@ use Rattle.slot_rewriting.specs.Writing.{written_logs, ComeToRestFrom}
 use Rattle.slot_rewriting.proofs.WritingLaws.{written-length}
 use Rattle.merkle_records.specs.Merkle.{GivesDigests}
 use Rattle.host_core.specs.Host.{Host}
-use Rattle.host_core.specs.World.{World, logs_of, set_up}
+use Rattle.host_core.specs.World.{Worker, World, logs_of, set_up}
 use Rattle.host_core.specs.WorldEvent.{WorldEvent, AreEnabled, step, run_events}
 use Rattle.host_shard.specs.Content.{Content}
 use Rattle.script_text.specs.declared.task.Task.{Task}
@@ -17,12 +17,13 @@ use Rattle.host_world.specs.declared.world.World as code
 use Rattle.shipped_host.specs.ShippedHost.{shipped_host}
 use Rattle.host_world.specs.Shown.{digests_of, requests_of}
 use Rattle.host_world.specs.Behind.{IsBehindSetup, AreOfOneHost, host_of, with_logs}
-use Rattle.host_world.proofs.FrontLaws.{length-step}
+use Rattle.host_world.proofs.FrontLaws.{length-step, before_each-none}
 use Rattle.host_fits.specs.Promise.{CanRun}
 use Rattle.host_serving.specs.Leading.{Leads, LeadsAs, first_of}
 use Rattle.host_serving.specs.Form.{AreInRounds}
 use Rattle.host_serving.proofs.LeadingLaws.{leads-with}
-use Rattle.host_serving.proofs.FormLaws.{GoesOn, set_up_before}
+use Rattle.host_serving.proofs.FormLaws.{GoesOn}
+use Rattle.host_serving.proofs.BeforeLemmas.{rolling_last}
 use Rattle.fv_outside.specs.declared.failure.Failure.{Failure}
 use Rattle.fv_outside.specs.declared.failure.Failure.TheVariants as failures
 use Rattle.host_rounds.specs.Round.{logs_with}
@@ -31,7 +32,7 @@ use Rattle.verifier_threads.specs.declared.accounts.Account.{Account}
 use Rattle.verifier_threads.specs.declared.accounts.Account.TheVariants as accounts
 use Rattle.verifier_threads.specs.declared.ending.RunEnd.{RunEnd}
 use Rattle.verifier_threads.specs.Serving.{Outputs, GrowsFor, IsServed, IsCutOff, IsCutAtEnd, IsCutByVault, IsCutBySink, ServesTo, told_for}
-use Rattle.verifier_threads.specs.InRounds.{Logs, logged_with, no_logs, IsBehindRounds, LeadThrough}
+use Rattle.verifier_threads.specs.InRounds.{Logs, logged_with, logged_behind, no_logs, IsBehindRounds, LeadThrough}
 use Rattle.verifier_threads.specs.Runners.{TellsLines}
 use Rattle.verifier_threads.specs.Running.{IsRunning, all_handed_out, with_no_log}
 use Rattle.verifier_threads.proofs.HandingLemmas.{logged_with-length, logged_with-texts, logs-behind, with_logs-handed}
@@ -45,6 +46,10 @@ one_host a b c first then' = record {
   requests = then'.requests ∙ first.requests;
   digests = then'.digests ∙ first.digests;
 }
+
+-- and where the last is the same world under another name
+pub same-host : {D : Type 0} (a b c d : code.World D) → AreOfOneHost a b → AreOfOneHost b c → d ≡ c → AreOfOneHost a d
+same-host {D} a b c d first then' is = subst (λ (w : code.World D). AreOfOneHost a w) (sym is) (one_host a b c first then')
 
 pub host_same : {D : Type 0} (functions : D → DigestFunctions) (old new : code.World D) → AreOfOneHost old new
     → host_of (functions (digests_of new)) new ≡ host_of (functions (digests_of old)) old
@@ -101,6 +106,18 @@ module _ (account : Account) (functions : DigestFunctions) (settings : Settings)
     is = running.way.is;
   }
 
+  -- in a rolling host it is in its last phase
+  pub running-last : settings.rolling ≡ true → length own_host.script ≤ suc world.phase
+  running-last rolling =
+      subst (λ (w : World Content). length own_host.script ≤ suc w.phase) (sym running.way.is) (rolling_last own_host rolling running.way.events)
+
+  -- before its first round it has handed out nothing
+  pub running-fresh : past ≡ [] → world ≡ set_up own_host → with_logs running.logs world ≡ set_up own_host
+  running-fresh none' is =
+      ap (λ (logs : Logs). with_logs logs world) (running.joined ∙ ap (logged_behind (no_logs settings.header.verifiers)) none')
+      ∙ ap (λ (workers : List Worker). record world { workers = workers }) (before_each-none settings.header.verifiers world.workers)
+      ∙ is
+
   -- as many workers as verifiers, and as many runs
   pub running-workers : length world.workers ≡ settings.header.verifiers
   running-workers =
@@ -116,11 +133,10 @@ module _ (account : Account) (functions : DigestFunctions) (settings : Settings)
       (rest functions settings script way.events can running.keeps.vault.is_bundle.first way.enabled))
 
   -- events lead on
-  pub running-led : (later : World Content) (next : Option ClockEnd) → GoesOn own_host world later end next
+  pub running-led : (later : World Content) (next : Option ClockEnd) → GoesOn own_host running.logs world later end next
       → IsRunning account functions settings script later rounds (first_of end next) past outputs
   running-led later next way = record {
     settings_fit = running.settings_fit;
-    plain = running.plain;
     counters = running.counters;
     keys = running.keys;
     values = running.values;
@@ -129,7 +145,7 @@ module _ (account : Account) (functions : DigestFunctions) (settings : Settings)
     each = running.each ∙ sym (leads-length own_host world later next way.leads);
     passed = through-leads own_host 0 (no_logs settings.header.verifiers) (set_up own_host) past (with_logs running.logs world) (with_logs running.logs later) running.passed
         (next, leads-with own_host running.logs world later next way.leads);
-    way = way.on running.logs (set_up own_host) (set_up_before own_host running.plain) running.way;
+    way = way.on running.way;
     rests = running.rests;
     keeps = running.keeps;
     written = running.written;
@@ -148,7 +164,6 @@ module _ (account : Account) (functions : DigestFunctions) (settings : Settings)
       let first = no_logs settings.header.verifiers in
       record {
         settings_fit = running.settings_fit;
-        plain = running.plain;
         counters = running.counters;
         keys = running.keys;
         values = running.values;

@@ -1,5 +1,6 @@
 -- How a world stands does not depend on its logs.
 use Rattle.std.proofs.Common.{◌≡◌, ◌⊎◌, inl, inr, ℕ, zero, suc, true, false, List, [], ◌∷◌, length, map, get_or, Option, Some, None, refl, sym, ◌∙◌, ap, arith}
+use Rattle.std.proofs.lemmas.Bool.{false≢true}
 use Rattle.std.proofs.lemmas.List.{length-map}
 use Rattle.log_codec.specs.declared.command.Command.{Command}
 use Rattle.host_core.specs.Host.{Host}
@@ -8,9 +9,11 @@ use Rattle.host_world.specs.declared.fault.ClockEnd.{ClockEnd}
 use Rattle.host_world.specs.Behind.{before_each, with_logs}
 use Rattle.host_world.proofs.FrontLaws.{unlogged, length-before_each, same_unlogged, over_other, round_other, advanced_other, enabled_other, enabled_without}
 use Rattle.host_serving.specs.Leading.{CanDoNoMore}
-use Rattle.host_serving.specs.Standing.{HasServedUpTo, IsServedUpTo, IsServedOut, NoneStopped, SomeStopped, IsLowest, IsClosed, IsAllServed, asked_by, turns_of}
-use Rattle.verifier_threads.specs.Running.{with_no_log, all_handed_out, IsAtPhase, IsAtClose}
+use Rattle.host_serving.specs.Standing.{HasServedUpTo, IsServedUpTo, BeginsRound, IsServedOut, NoneStopped, SomeStopped, IsRoundStopped, EndsRound, NothingFollows, IsLowest, IsClosed, IsAllServed, asked_by, turns_of, first_of_round}
+use Rattle.verifier_threads.specs.Running.{with_no_log, all_handed_out, IsAtRound, IsAtClose}
+use Rattle.worker_threads.specs.Phase.{first_stopped}
 use Rattle.verifier_threads.proofs.LowestLemmas.{first-handed}
+use Rattle.verifier_threads.proofs.HandingLemmas.{handed-none}
 
 -- ---- other logs
 
@@ -34,17 +37,24 @@ module _ {C R : Type 0} (host : Host C R) (world : World C) (workers : List Work
       go (inl stopped) = inl (stopped_other i ∙ stopped)
       go (inr served) = inr (stopped_other i ∙ served.0, ap (λ (w : Worker). w.served) (same i) ∙ served.1)
 
-  pub up_to_other : (turns : ℕ) → IsServedUpTo host world turns → IsServedUpTo host other turns
-  up_to_other turns is = record {
+  up_to_other : (at turns : ℕ) → IsServedUpTo host world at turns → IsServedUpTo host other at turns
+  up_to_other at turns is = record {
     going = is.going;
     phase = is.phase;
     within = is.within;
-    each = λ i there. served_worker i (asked_by host i world.phase turns) (is.each i (omega (arith, there, count)));
+    each = λ i there. served_worker i (asked_by host i at turns) (is.each i (omega (arith, there, count)));
   }
 
-  pub out_other : IsServedOut host world → IsServedOut host other
+  pub begins_other : BeginsRound host world → BeginsRound host other
+  begins_other is = record {
+    served = up_to_other (first_of_round host world) 0 is.served;
+    newest = is.newest;
+    marks = λ rolling i there. is.marks rolling i (omega (arith, there, count));
+  }
+
+  out_other : IsServedOut host world → IsServedOut host other
   out_other is = record {
-    served = up_to_other (length (turns_of host world.phase)) is.served;
+    served = up_to_other world.phase (length (turns_of host world.phase)) is.served;
     over = over_other host world workers count same is.over;
     settled = λ rolling. round_other host world workers count same (is.settled rolling);
   }
@@ -54,6 +64,20 @@ module _ {C R : Type 0} (host : Host C R) (world : World C) (workers : List Work
 
   pub some_other : SomeStopped host world → SomeStopped host other
   some_other some = (some.0, omega (arith, some.1, count), stopped_other some.0 ∙ some.2)
+
+  round_stopped_other : IsRoundStopped host world → IsRoundStopped host other
+  round_stopped_other is = record {
+    rolling = is.rolling;
+    going = is.going;
+    phase = is.phase;
+    within = is.within;
+    idle = λ i there. ap (λ (w : Worker). w.holds) (same i) ∙ is.idle i (omega (arith, there, count));
+    stopped = some_other is.stopped;
+  }
+
+  pub ends_other : EndsRound host world → EndsRound host other
+  ends_other (inl out) = inl (out_other out)
+  ends_other (inr stopped) = inr (round_stopped_other stopped)
 
   pub lowest_other : (end : Option ClockEnd) → IsLowest host world end → IsLowest host other end
   lowest_other None is = tt
@@ -75,6 +99,10 @@ module _ {C R : Type 0} (host : Host C R) (world : World C) (workers : List Work
   rests_other rests = λ event may. rests event
       (enabled_other host other world.workers (sym count) (λ i. sym (same i)) event may)
 
+  pub nothing_other : NothingFollows host world → NothingFollows host other
+  nothing_other (inl rests) = inl (rests_other rests)
+  nothing_other (inr stopped) = inr (round_stopped_other stopped)
+
 -- ---- handed out
 
 same_handed : (workers : List Worker) (i : ℕ) (d : Worker) → d.log ≡ [] → unlogged (get_or (map with_no_log workers) i d) ≡ unlogged (get_or workers i d)
@@ -89,18 +117,25 @@ module _ {C R : Type 0} (host : Host C R) (world : World C) where
   same : (i : ℕ) → unlogged (get_or (map with_no_log world.workers) i (fresh host.header)) ≡ unlogged (worker_at host world i)
   same i = same_handed world.workers i (fresh host.header) refl
 
-  pub phase_handed : (end : Option ClockEnd) → IsAtPhase host world end → IsAtPhase host (all_handed_out world) end
-  phase_handed end is = record {
-    begins = up_to_other host world (map with_no_log world.workers) count_handed same 0 is.begins;
-    running = running_other host world (map with_no_log world.workers) count_handed same is.running;
-    unended = is.unended;
+  -- a round that begins is none of a rolling host
+  pub round_handed : (end : Option ClockEnd) → host.rolling ≡ false → BeginsRound host world → NoneStopped host world → end ≡ None
+      → IsAtRound host (all_handed_out world) end
+  round_handed end plain begins running unended = record {
+    begins = begins_other host world (map with_no_log world.workers) count_handed same begins;
+    new = λ rolling. absurd (false≢true (sym plain ∙ rolling));
+    running = running_other host world (map with_no_log world.workers) count_handed same running;
+    unended = unended;
   }
 
-  pub close_handed : (end : Option ClockEnd) → IsAtClose host world end → IsAtClose host (all_handed_out world) end
-  close_handed end is = record {
-    served = out_other host world (map with_no_log world.workers) count_handed same is.served;
-    ended = go is.ended;
-    first = is.first ∙ sym (first-handed 0 world.workers);
+  -- a round that is done
+  pub close_handed : (end : Option ClockEnd) → EndsRound host world
+      → ((end ≡ None) × NoneStopped host world) ⊎ ((end ≡ None → ⊥) × SomeStopped host world) → end ≡ first_stopped 0 world.workers
+      → IsAtClose host (all_handed_out world) end
+  close_handed end done ended first = record {
+    done = ends_other host world (map with_no_log world.workers) count_handed same done;
+    handed = handed-none world.workers;
+    ended = go ended;
+    first = first ∙ sym (first-handed 0 world.workers);
   }
     where
       go : ((end ≡ None) × NoneStopped host world) ⊎ ((end ≡ None → ⊥) × SomeStopped host world)
@@ -133,12 +168,17 @@ module _ {C R : Type 0} (host : Host C R) (logs : List (List Command)) (world : 
   pub rests_with : CanDoNoMore host world → CanDoNoMore host (with_logs logs world)
   rests_with rests = λ event may. rests event (enabled_without host logs world event may)
 
-  pub out_with : IsServedOut host world → IsServedOut host (with_logs logs world)
-  out_with is =
-      out_other host world (before_each logs world.workers) (length-before_each logs world.workers)
+  pub nothing_with : NothingFollows host world → NothingFollows host (with_logs logs world)
+  nothing_with is =
+      nothing_other host world (before_each logs world.workers) (length-before_each logs world.workers)
       (λ i. same_unlogged logs world.workers i (fresh host.header)) is
 
-  pub up_to_with : (turns : ℕ) → IsServedUpTo host world turns → IsServedUpTo host (with_logs logs world) turns
-  up_to_with turns is =
-      up_to_other host world (before_each logs world.workers) (length-before_each logs world.workers)
-      (λ i. same_unlogged logs world.workers i (fresh host.header)) turns is
+  pub ends_with : EndsRound host world → EndsRound host (with_logs logs world)
+  ends_with is =
+      ends_other host world (before_each logs world.workers) (length-before_each logs world.workers)
+      (λ i. same_unlogged logs world.workers i (fresh host.header)) is
+
+  pub begins_with : BeginsRound host world → BeginsRound host (with_logs logs world)
+  begins_with is =
+      begins_other host world (before_each logs world.workers) (length-before_each logs world.workers)
+      (λ i. same_unlogged logs world.workers i (fresh host.header)) is

@@ -19,7 +19,7 @@ use Rattle.verifier_threads.specs.declared.runner.State.{State}
 use Rattle.verifier_threads.specs.declared.runner.State.TheVariants as states
 use Rattle.verifier_threads.specs.declared.world_run.WorldRun.{WorldRun}
 use Rattle.verifier_threads.specs.Serving.{Outputs, HoldsWhatIsCertified, setup_end}
-use Rattle.verifier_threads.specs.Running.{RunsBehind, RunsToEnd, IsAtPhase, IsAtClose, IsAtEnd}
+use Rattle.verifier_threads.specs.Running.{RunsBehind, RunsToEnd, rounds_before, IsAtRound, IsAtClose, IsAtEnd}
 
 -- ---- which call comes next
 
@@ -27,28 +27,29 @@ use Rattle.verifier_threads.specs.Running.{RunsBehind, RunsToEnd, IsAtPhase, IsA
 abbrev pub next_call_of : {D : Type 0} → Runner D → NextCall
 next_call_of runner = runner.next
 
--- how many phases of the script a run has not closed, if there is a phase or a close to come
+-- how many rounds of the script a run has not closed, if there is a round or a close to come: those from the world's phase on, which
+-- in a rolling host is the last
 abbrev pub left_by : {D : Type 0} → NextCall → State D → ℕ
 left_by calls.Finish state = 0
-left_by calls.Phase (states.Unserved rounds end) = 0
-left_by calls.Phase (states.Served run) = length (requests_of run.world) - (shown_world run.world).phase
+left_by calls.Round (states.Unserved rounds end) = 0
+left_by calls.Round (states.Served run) = length (requests_of run.world) - (shown_world run.world).phase
 left_by calls.Close (states.Unserved rounds end) = 0
 left_by calls.Close (states.Served run) = length (requests_of run.world) - (shown_world run.world).phase
 
--- how many phases a runner still has to close: none where it is to finish
-abbrev pub phases_left : {D : Type 0} → Runner D → ℕ
-phases_left runner = left_by runner.next runner.state
+-- how many rounds a runner still has to close: none where it is to finish
+abbrev pub rounds_left : {D : Type 0} → Runner D → ℕ
+rounds_left runner = left_by runner.next runner.state
 
 -- ---- a run of a world
 
--- A run before this call, by what is written of it. Before a phase a round is handed out for each phase and each close before it, and
--- before its close one more, that of the phase; at the end no more can be done.
+-- A run before this call, by what is written of it. Before a round of requests each such round and each close before it is handed
+-- out, and before its close that round too; at the end nothing follows.
 abbrev pub StandsBefore : NextCall → Account → {D : Type 0} → (D → DigestFunctions) → WorldRun D → Outputs → Type 0
-StandsBefore calls.Phase account functions run outputs =
-    RunsBehind account functions run (shown_world run.world).phase (shown_world run.world).phase outputs
-    × IsAtPhase (host_of (functions (digests_of run.world)) run.world) (shown_world run.world) run.end
+StandsBefore calls.Round account functions run outputs =
+    RunsBehind account functions run (rounds_before run) (rounds_before run) outputs
+    × IsAtRound (host_of (functions (digests_of run.world)) run.world) (shown_world run.world) run.end
 StandsBefore calls.Close account functions run outputs =
-    RunsBehind account functions run (suc (shown_world run.world).phase) (shown_world run.world).phase outputs
+    RunsBehind account functions run (suc (rounds_before run)) (rounds_before run) outputs
     × IsAtClose (host_of (functions (digests_of run.world)) run.world) (shown_world run.world) run.end
 StandsBefore calls.Finish account functions run outputs =
     RunsToEnd account functions run outputs

@@ -1,5 +1,5 @@
 -- How a run stands between two calls: its world, the vault, what the verifiers read, and what is written.
-use Rattle.std.specs.Prelude.{◌≡◌, ◌≢◌, ◌⊎◌, ℕ, suc, ◌+◌, ◌*◌, ◌≤◌, false, List, [], length, map, take, Option, None}
+use Rattle.std.specs.Prelude.{◌≡◌, ◌≢◌, ◌⊎◌, ℕ, suc, ◌+◌, ◌*◌, ◌≤◌, true, List, [], length, map, take, Option, None, if◌then◌else◌}
 use Rattle.std.specs.List.{AllByRecursion}
 use Rattle.fv_outside.specs.Written.{GrowsByFront}
 use Rattle.record_hash.specs.Functions.{DigestFunctions}
@@ -18,9 +18,9 @@ use Rattle.host_world.specs.Shown.{shown_world, digests_of, requests_of}
 use Rattle.shipped_host.specs.ShippedHost.{shipped_host}
 use Rattle.shipped_host.specs.Ranges.{AreInRange, HaveShortValues}
 use Rattle.host_world.specs.Behind.{with_logs}
-use Rattle.host_serving.specs.Leading.{LeadsAs, CanDoNoMore}
+use Rattle.host_serving.specs.Leading.{LeadsAs}
 use Rattle.host_serving.specs.Form.{AreInRounds}
-use Rattle.host_serving.specs.Standing.{IsServedUpTo, IsServedOut, NoneStopped, SomeStopped, IsLowest, IsAllServed}
+use Rattle.host_serving.specs.Standing.{BeginsRound, EndsRound, NothingFollows, NoneStopped, SomeStopped, IsLowest, IsAllServed}
 use Rattle.worker_threads.specs.Phase.{first_stopped}
 use Rattle.certified_epochs.specs.declared.fed_run.FedRun.{FedRun}
 use Rattle.host_rounds.specs.Feeding.{AllRead}
@@ -29,7 +29,7 @@ use Rattle.verifier_threads.specs.declared.accounts.Account.{Account}
 use Rattle.verifier_threads.specs.declared.accounts.Account.TheVariants as accounts
 use Rattle.verifier_threads.specs.declared.world_run.WorldRun.{WorldRun}
 use Rattle.verifier_threads.specs.InRounds.{Logs, logged_behind, no_logs, ArePassed}
-use Rattle.verifier_threads.specs.Serving.{Outputs, GrowsFor, HasTold, told_for}
+use Rattle.verifier_threads.specs.Serving.{Outputs, GrowsFor, HasTold, told_for, round_count}
 
 -- ---- logs that are handed out
 
@@ -62,7 +62,6 @@ ending_for (accounts.Summary load) rounds status = summary_with_end load.seed lo
 pub record IsRunning (account : Account) (functions : DigestFunctions) (settings : Settings) (script : List (List Task)) (world : machine.World Content) (rounds : RunsSoFar) (end : Option ClockEnd)
     (past : List Logs) (outputs : Outputs) : Type 0 where
   pub settings_fit : IsSettings settings
-  pub plain : settings.rolling ≡ false
   pub counters : settings.shards ≤ settings.header.end
   pub keys : AreInRange settings.header script
   pub values : HaveShortValues settings.header script
@@ -81,12 +80,23 @@ pub record Runs (account : Account) {D : Type 0} (functions : D → DigestFuncti
   pub buffers : length runner.buffers.items ≡ length (shown_world runner.world).workers
   pub counts : length runner.parcels.items ≡ length (shown_world runner.world).workers
 
--- The same behind so many phases and so many closes: all is written that is told of what the rounds up to the last close certify.
+-- how many rounds that served requests, and as many closes, the world of a run has behind it before the one that it is in
+abbrev pub rounds_before : {D : Type 0} → WorldRun D → ℕ
+rounds_before runner = if runner.world.settings.rolling then 0 else (shown_world runner.world).phase
+
+-- The same behind so many rounds that served requests and so many closes: all is written that is told of what the rounds up to the
+-- last close certify.
 pub record RunsBehind (account : Account) {D : Type 0} (functions : D → DigestFunctions) (runner : WorldRun D) (phases closes : ℕ) (outputs : Outputs) : Type 0 where
   pub past : List Logs
   pub runs : Runs account functions runner past outputs
   pub count : length past ≡ phases + closes
   pub told : HasTold account (functions (digests_of runner.world)) runner.world.settings.header (take (2 * closes) past) outputs
+
+-- The same with these rounds behind it, and each epoch that the logs certify is counted and told.
+pub record RunsTold (account : Account) {D : Type 0} (functions : D → DigestFunctions) (runner : WorldRun D) (past : List Logs) (outputs : Outputs) : Type 0 where
+  pub runs : Runs account functions runner past outputs
+  pub all : AllCounted (functions (digests_of runner.world)) runner.world.settings.header (written_logs runner.world.settings.header runs.running.logs) runner.rounds
+  pub told : HasTold account (functions (digests_of runner.world)) runner.world.settings.header past outputs
 
 -- The same behind so many closes, and each epoch that the logs certify is counted.
 pub record RunsWhole (account : Account) {D : Type 0} (functions : D → DigestFunctions) (runner : WorldRun D) (closes : ℕ) (outputs : Outputs) : Type 0 where
@@ -96,12 +106,12 @@ pub record RunsWhole (account : Account) {D : Type 0} (functions : D → DigestF
   pub count : length past ≡ closes + closes
   pub told : HasTold account (functions (digests_of runner.world)) runner.world.settings.header past outputs
 
--- The same at the end, where each phase and its close had a round of its own if no clock ended.
+-- The same at the end, where each round that served requests had its close if no clock ended.
 pub record RunsToEnd (account : Account) {D : Type 0} (functions : D → DigestFunctions) (runner : WorldRun D) (outputs : Outputs) : Type 0 where
   pub past : List Logs
   pub runs : Runs account functions runner past outputs
   pub all : AllCounted (functions (digests_of runner.world)) runner.world.settings.header (written_logs runner.world.settings.header runs.running.logs) runner.rounds
-  pub count : runner.end ≡ None → length past ≡ 2 * length (requests_of runner.world)
+  pub count : runner.end ≡ None → length past ≡ 2 * round_count runner.world.settings (requests_of runner.world)
 
 -- so it runs, whatever rounds were handed out
 abbrev pub RunsSome : Account → {D : Type 0} → (D → DigestFunctions) → WorldRun D → Outputs → Type 0
@@ -126,7 +136,7 @@ IsFedUnderWay functions runner held =
     (account : Account) × (outputs : Outputs) × (before : List FedRun) × RunsSome account functions (with_runs_of before runner) outputs
     × HaveReadRound functions before runner × (outputs.vault_after ≡ held)
 
--- so it runs behind so many phases and so many closes
+-- so it runs behind so many rounds that served requests and so many closes
 abbrev pub IsUnderWayBehind : {D : Type 0} → (D → DigestFunctions) → WorldRun D → ℕ → ℕ → Option (List ℕ) → Type 0
 IsUnderWayBehind functions runner phases closes held =
     (account : Account) × (outputs : Outputs) × RunsBehind account functions runner phases closes outputs × (outputs.vault_after ≡ held)
@@ -138,22 +148,25 @@ IsUnderWayWhole functions runner = (account : Account) × (outputs : Outputs) ×
 -- ---- where it stands
 
 module _ {C R : Type 0} (host : Host C R) (world : machine.World C) (end : Option ClockEnd) where
-  -- A phase begins, and no clock has ended.
-  pub record IsAtPhase : Type 0 where
-    pub begins : IsServedUpTo host world 0
+  -- A round begins, and no clock has ended. That of a rolling host begins behind the setup.
+  pub record IsAtRound : Type 0 where
+    pub begins : BeginsRound host world
+    pub new : host.rolling ≡ true → world ≡ machine.set_up host
     pub running : NoneStopped host world
     pub unended : end ≡ None
 
-  -- A phase is served, and its clocks tell whether one has ended; the end is that of the first worker whose did.
+  -- A round is done and each log is handed out, and the clocks tell whether one has ended; the end is that of the first worker whose
+  -- did.
   pub record IsAtClose : Type 0 where
-    pub served : IsServedOut host world
+    pub done : EndsRound host world
+    pub handed : AllByRecursion (λ worker. worker.log ≡ []) world.workers
     pub ended : ((end ≡ None) × NoneStopped host world) ⊎ ((end ≢ None) × SomeStopped host world)
     pub first : end ≡ first_stopped 0 world.workers
 
-  -- No more can be done, each log is handed out, and where no clock ended the script is served to its last phase; else the end is that
-  -- of the lowest worker of its round.
+  -- Nothing follows, each log is handed out, and where no clock ended the script is served to its last phase; else the end is that of
+  -- the lowest worker whose clock ended with it.
   pub record IsAtEnd : Type 0 where
-    pub rests : CanDoNoMore host world
+    pub rests : NothingFollows host world
     pub handed : AllByRecursion (λ worker. worker.log ≡ []) world.workers
     pub whole : end ≡ None → IsAllServed host world
     pub last : end ≡ None → suc world.phase ≡ length host.script

@@ -1,5 +1,5 @@
 -- A script that is served: the logs of its workers, the bundle of them in the vault, and the report or the summary in the sink.
-use Rattle.std.specs.Prelude.{◌≡◌, ◌⊎◌, Bool, ℕ, ◌+◌, ◌*◌, ◌<◌, ◌≤◌, List, [], ◌∷◌, ◌++◌, length, map, take, Option, Some, None, Result, Ok, Err}
+use Rattle.std.specs.Prelude.{◌≡◌, ◌⊎◌, Bool, ℕ, ◌+◌, ◌*◌, ◌<◌, ◌≤◌, List, [], ◌∷◌, ◌++◌, length, map, take, Option, Some, None, Result, Ok, Err, if◌then◌else◌}
 use Rattle.fv_outside.specs.Written.{Grows, GrowsByFront}
 use Rattle.lamport_clocks.specs.declared.header.Header.{Header}
 use Rattle.record_hash.specs.Functions.{DigestFunctions}
@@ -19,9 +19,9 @@ use Rattle.shipped_host.specs.declared.settings.Settings.{Settings}
 use Rattle.shipped_host.specs.ShippedHost.{shipped_host}
 use Rattle.host_fits.specs.Holds.{ContentsHold}
 use Rattle.run_reports.specs.Runs.{map_certified}
-use Rattle.host_serving.specs.Leading.{LeadsAs, CanDoNoMore}
+use Rattle.host_serving.specs.Leading.{LeadsAs}
 use Rattle.host_serving.specs.Form.{AreInRounds}
-use Rattle.host_serving.specs.Standing.{IsLowest, IsAllServed}
+use Rattle.host_serving.specs.Standing.{NothingFollows, IsLowest, IsAllServed}
 use Rattle.fv_outside.specs.declared.failure.Failure.{Failure}
 use Rattle.fv_outside.specs.declared.failure.Failure.TheVariants as failures
 use Rattle.bundle_frames.specs.Bundle.{header_text}
@@ -58,20 +58,25 @@ setup_end settings = record { worker = 0; at = record { epoch = settings.header.
 
 -- ---- the logs
 
+-- in how many rounds, their closes aside, a script is served: each phase in one, or in a rolling host all together in one
+abbrev pub round_count : Settings → List (List Task) → ℕ
+round_count settings script = if settings.rolling then 1 else length script
+
 module _ (functions : DigestFunctions) (settings : Settings) (script : List (List Task)) (rounds : List Logs) (logs : Logs) (end : Option ClockEnd) where
-  -- The logs of a world to which enabled events in rounds lead from the setup, and in which no more can be done. Where no clock
-  -- ended on the way the whole script is served, and the contents hold the plain map that the logs certify; else it is the first end
-  -- that they come to, and that of the lowest worker whose clock ended in its round. They were logged in these rounds: where no clock ended, those are two of each phase.
+  -- The logs of a world to which enabled events in rounds lead from the setup, and which nothing follows. Where no clock ended on the
+  -- way the whole script is served, and the contents hold the plain map that the logs certify; else it is the first end that they
+  -- come to, and that of the lowest worker whose clock ended with it. They were logged in these rounds: where no clock ended, each
+  -- that served requests and its close.
   pub record AreServed : Type 0 where
     pub world : World Content
     pub way : LeadsAs AreInRounds (shipped_host functions settings script) (set_up (shipped_host functions settings script)) world end
-    pub rests : CanDoNoMore (shipped_host functions settings script) world
+    pub rests : NothingFollows (shipped_host functions settings script) world
     pub logs_are : logs ≡ logs_of world
     pub whole : end ≡ None → IsAllServed (shipped_host functions settings script) world
     pub holds : end ≡ None → ContentsHold settings world (map_certified functions settings.header logs)
     pub lowest : IsLowest (shipped_host functions settings script) world end
     pub passed : ArePassed (shipped_host functions settings script) rounds world
-    pub count : end ≡ None → length rounds ≡ 2 * length script
+    pub count : end ≡ None → length rounds ≡ 2 * round_count settings script
 
   -- The same where the counters suffice for the setup; else nothing is logged.
   pub record AreOfRun : Type 0 where

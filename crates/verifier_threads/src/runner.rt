@@ -1,5 +1,5 @@
-//! A run of a script, call by call: its setup, each phase, each close, and its end.
-ghost use Rattle.std.specs.Prelude.{◌≡◌, ◌≢◌, ◌≤◌, ◌<◌, ℕ, false, List, Option, length, OnOk, OnErr, IfOk, Ok, Err};
+//! A run of a script, call by call: its setup, each round, each close, and its end.
+ghost use Rattle.std.specs.Prelude.{◌≡◌, ◌≢◌, ◌≤◌, ◌<◌, ℕ, List, Option, length, OnOk, OnErr, IfOk, Ok, Err};
 ghost use Rattle.fv_outside.specs.Failures.{FailsByOutput, FailsByVault};
 ghost use Rattle.fv_outside.specs.Faults.{Rose};
 ghost use Rattle.record_hash.specs.Functions.{DigestFunctions};
@@ -7,7 +7,7 @@ ghost use Rattle.script_text.specs.Text.{AreTasks};
 ghost use Rattle.script_text.specs.declared.task.Task.{Task};
 ghost use Rattle.shipped_host.specs.Settings.{IsSettings};
 ghost use Rattle.verifier_threads.specs.Serving.{Outputs, IfDone, IsServed, IsCutOff, IsCutAtEnd, IsCutInHeader, IsCutInRound};
-ghost use Rattle.verifier_threads.specs.Runners.{Stands, IsServing, IsUnserved, KeepsWhatIsCertified, TellsLines, next_call_of, phases_left};
+ghost use Rattle.verifier_threads.specs.Runners.{Stands, IsServing, IsUnserved, KeepsWhatIsCertified, TellsLines, next_call_of, rounds_left};
 
 use crate::accounts::Account;
 use crate::ending::RunEnd;
@@ -28,11 +28,11 @@ use std::thread::Threads;
 /// Which call of a runner comes next.
 #[derive(Clone, Copy, Debug, PartialEq, Eq)]
 pub enum NextCall {
-    /// `phase`: a phase begins.
-    Phase,
-    /// `close_epoch`: a phase is served, and its close comes.
+    /// `round`: a round begins.
+    Round,
+    /// `close_epoch`: a round is done, and its close comes.
     Close,
-    /// `finish`: no more can be done, and the end is to be written.
+    /// `finish`: nothing follows, and the end is to be written.
     Finish,
 }
 
@@ -45,9 +45,9 @@ pub(crate) enum State<'a, D> {
     Unserved { rounds: Rounds, end: ClockEnd },
 }
 
-/// A run of a script. It is made with the script, and then called in the order that it says: `phase` and `close_epoch` by turns, and
-/// `finish` behind the last close. The vault takes the bundle of the logs, and the sink the report or the summary; both are handed in
-/// at each call, and are the same in all.
+/// A run of a script. It is made with the script, and then called in the order that it says: `round` and `close_epoch` by turns, and
+/// `finish` behind the last close. A round serves one phase, or in a rolling host all of them. The vault takes the bundle of the logs,
+/// and the sink the report or the summary; both are handed in at each call, and are the same in all.
 ///
 /// After an error it is of no more use.
 #[derive(Drop)]
@@ -59,7 +59,7 @@ pub struct Runner<'a, D> {
 
 impl<'a, D: Digests> Runner<'a, D> {
     /// Sets the world up, and writes the header of the bundle to the vault. Where the counters don't suffice for the setup there
-    /// is no phase, and the call that comes next is `finish`.
+    /// is no round, and the call that comes next is `finish`.
     pub fn make<V: Sink>(
         alloc: Global,
         d: &'a D,
@@ -69,13 +69,12 @@ impl<'a, D: Digests> Runner<'a, D> {
         vault: &mut V,
     ) -> Result<Self, Failure>
         requires settings { IsSettings settings.now }
-        requires plain { settings.now.rolling ≡ false }
         requires tasks { AreTasks settings.now.header requests.now }
         ensures stands { (held : Option (List ℕ)) → IfOk result (λ runner. Stands account D.functions (D.functions d.now) settings.now requests.now runner
             (record { vault = V.held vault.old; vault_after = V.held vault.new; out = held; out_after = held })) }
-        ensures begins { settings.now.shards ≤ settings.now.header.end → IfOk result (λ runner. next_call_of runner ≡ NextCall.Phase) }
+        ensures begins { settings.now.shards ≤ settings.now.header.end → IfOk result (λ runner. next_call_of runner ≡ NextCall.Round) }
         ensures unserved { settings.now.header.end < settings.now.shards → IfOk result (λ runner. next_call_of runner ≡ NextCall.Finish) }
-        ensures left { IfOk result (λ runner. phases_left runner ≤ length requests.now) }
+        ensures left { IfOk result (λ runner. rounds_left runner ≤ length requests.now) }
 
         // Where it stops: at want of memory, or in the header.
         ensures cut { (held : Option (List ℕ)) → OnErr result (IsCutOff account (D.functions d.now) settings.now requests.now
@@ -95,7 +94,7 @@ impl<'a, D: Digests> Runner<'a, D> {
                 let served = WorldRun::new(alloc, world, vault)?;
                 Ok(Runner {
                     account,
-                    next: NextCall::Phase,
+                    next: NextCall::Round,
                     state: State::Served(served),
                 })
             }
@@ -148,22 +147,23 @@ impl<'a, D: Digests> Runner<'a, D> {
 }
 
 impl<'a, D: Digests + Sync> Runner<'a, D> {
-    /// A phase: its requests are served, the gate is passed before each, and what is logged goes to the vault.
-    pub fn phase<R: Threads + Wait + Sync, V: Sink, G: Gate + Sync>(
+    /// A round: its requests are served, the gate is passed before each, and what is logged goes to the vault. In a rolling host it is
+    /// the whole script, and each worker goes on to the next epoch as soon as all may.
+    pub fn round<R: Threads + Wait + Sync, V: Sink, G: Gate + Sync>(
         &mut self,
         rt: &R,
         gate: &G,
         vault: &mut V,
     ) -> Result<(), Failure>
-        requires next { next_call_of self.old ≡ NextCall.Phase }
+        requires next { next_call_of self.old ≡ NextCall.Round }
         requires serving { IsServing D.functions self.old (V.held vault.old) }
         ensures stands { (account : Account) (own : DigestFunctions) (settings : Settings) (script : List (List Task)) (outputs : Outputs)
             → Stands account D.functions own settings script self.old outputs → outputs.vault_after ≡ V.held vault.old
             → OnOk result (Stands account D.functions own settings script self.new (record outputs { vault_after = V.held vault.new })) }
         ensures next { OnOk result (next_call_of self.new ≡ NextCall.Close) }
-        ensures left { OnOk result (phases_left self.new ≡ phases_left self.old) }
+        ensures left { OnOk result (rounds_left self.new ≡ rounds_left self.old) }
 
-        // Where it stops: the vault has a front of what the phase logged.
+        // Where it stops: the vault has a front of what the round logged.
         ensures cut { (account : Account) (own : DigestFunctions) (settings : Settings) (script : List (List Task)) (outputs : Outputs)
             → Stands account D.functions own settings script self.old outputs → outputs.vault_after ≡ V.held vault.old
             → OnErr result (IsCutOff account own settings script (record outputs { vault_after = V.held vault.new })) }
@@ -177,7 +177,7 @@ impl<'a, D: Digests + Sync> Runner<'a, D> {
     {
         match &mut self.state {
             State::Served(served) => {
-                served.phase(rt, gate, vault)?;
+                served.round(rt, gate, vault)?;
                 self.next = NextCall::Close;
                 Ok(())
             }
@@ -185,8 +185,9 @@ impl<'a, D: Digests + Sync> Runner<'a, D> {
         }
     }
 
-    /// The close of a phase: the workers move on to the next epoch, what they logged goes to the vault, and the lines of the epochs
-    /// that are now certified are written. It is the last one at the script's end, and where a clock ended in the phase.
+    /// The close of a round: the workers move on to the next epoch, what they logged goes to the vault, and the lines of the epochs
+    /// that are now certified are written. It is the last one at the script's end, and where a clock ended in the round. Where one ended
+    /// in the round of a rolling host the workers do nothing more, and only the lines are written.
     pub fn close_epoch<R: Threads + Sync, V: Sink, O: Sink>(
         &mut self,
         rt: &R,
@@ -199,7 +200,7 @@ impl<'a, D: Digests + Sync> Runner<'a, D> {
             → Stands account D.functions own settings script self.old outputs → outputs.vault_after ≡ V.held vault.old → outputs.out_after ≡ O.held out.old
             → OnOk result (Stands account D.functions own settings script self.new (record outputs { vault_after = V.held vault.new; out_after = O.held out.new })) }
         ensures next { OnOk result (next_call_of self.new ≢ NextCall.Close) }
-        ensures fewer { OnOk result (phases_left self.new < phases_left self.old) }
+        ensures fewer { OnOk result (rounds_left self.new < rounds_left self.old) }
 
         // Where it stops: the vault has a front of what the close logged, or the sink failed at the lines of a report.
         ensures cut { (account : Account) (own : DigestFunctions) (settings : Settings) (script : List (List Task)) (outputs : Outputs)

@@ -1,5 +1,5 @@
 //! A script that is served, from the setup to the end of its report or its summary.
-ghost use Rattle.std.specs.Prelude.{◌≡◌, ◌≤◌, false, Err};
+ghost use Rattle.std.specs.Prelude.{◌≡◌, ◌≤◌, Err};
 ghost use Rattle.fv_outside.specs.Faults.{Rose};
 ghost use Rattle.script_text.specs.Text.{AreTasks};
 ghost use Rattle.shipped_host.specs.Settings.{IsSettings};
@@ -16,9 +16,9 @@ use std::alloc::Global;
 use std::sync::Wait;
 use std::thread::Threads;
 
-/// Serves a script to its end, or up to where a clock ends: the workers serve it phase by phase, the vault takes the bundle
-/// of their logs, and the sink what is to be written of it: the report of what these certify, with receipts or without, or the
-/// summary of a load. The gate is passed before each request.
+/// Serves a script to its end, or up to where a clock ends: the workers serve it phase by phase, or in a rolling host in one round of
+/// all phases, the vault takes the bundle of their logs, and the sink what is to be written of it: the report of what these certify,
+/// with receipts or without, or the summary of a load. The gate is passed before each request.
 ///
 /// At `Ok` all of it is written, and the answer says how it ends: where no clock ended the script is served, each of its phases is
 /// certified, and the host's contents hold the plain map that the bundle certifies. At an error the vault has a front of the bundle of
@@ -36,7 +36,6 @@ pub fn serve<R: Threads + Wait + Sync, D: Digests + Sync, V: Sink, O: Sink, G: G
     out: &mut O,
 ) -> Result<RunEnd, Failure>
     requires settings { IsSettings settings.now }
-    requires plain { settings.now.rolling ≡ false }
     requires tasks { AreTasks settings.now.header requests.now }
     ensures serves { ServesTo account (D.functions d.now) settings.now requests.now result
         (record { vault = V.held vault.old; vault_after = V.held vault.new; out = O.held out.old; out_after = O.held out.new }) }
@@ -47,10 +46,10 @@ pub fn serve<R: Threads + Wait + Sync, D: Digests + Sync, V: Sink, O: Sink, G: G
     ensures name { V.name vault.new ≡ V.name vault.old }
 {
     let mut runner = Runner::make(alloc, d, settings, requests, account, vault)?;
-    'phases: loop {
+    'rounds: loop {
         match runner.next_call() {
-            NextCall::Phase => {
-                runner.phase(rt, gate, vault)?;
+            NextCall::Round => {
+                runner.round(rt, gate, vault)?;
                 runner.close_epoch(rt, vault, out)?;
             }
             NextCall::Close | NextCall::Finish => break,

@@ -1,7 +1,7 @@
-//! A run of a script whose world is set up, phase by phase, and what becomes of the logs.
+//! A run of a script whose world is set up, round by round, and what becomes of the logs.
 ghost use Rattle.std.specs.Prelude.{◌≡◌, ◌≢◌, ◌↔◌, ◌⊎◌, ◌≤◌, ◌<◌, ℕ, suc, true, false, List, [], ◌∷◌, ◌++◌, Option, None, length, map, replicate, OnOk, OnErr, IfOk, Ok, Err};
 ghost use Rattle.std.specs.List.{AllByRecursion};
-ghost use Rattle.fv_outside.specs.Failures.{FailsByOutput, FailsByVault};
+ghost use Rattle.fv_outside.specs.Failures.{FailsByOutput, FailsByVault, FailsByWriting};
 ghost use Rattle.fv_outside.specs.Faults.{Rose};
 ghost use Rattle.certified_epochs.specs.declared.fed_run.FedRun.{FedRun};
 ghost use Rattle.certified_epochs.specs.Telling.{text_by};
@@ -13,12 +13,13 @@ ghost use Rattle.host_world.specs.Shown.{shown_world, digests_of, requests_of, s
 ghost use Rattle.shipped_host.specs.Ranges.{AreInRange, HaveShortValues};
 ghost use Rattle.host_world.specs.Behind.{AreOfOneHost, host_of};
 ghost use Rattle.host_serving.specs.Leading.{first_of};
-ghost use Rattle.host_serving.specs.Standing.{turns_of};
+ghost use Rattle.host_serving.specs.Standing.{turns_of, IsServedOut, IsRoundStopped};
+ghost use Rattle.host_rounds.specs.SoFar.{HaveRunSome};
 ghost use Rattle.verifier_threads.specs.declared.runner.State.{State};
 ghost use Rattle.verifier_threads.specs.InRounds.{Logs, IsBehindRounds};
 ghost use Rattle.verifier_threads.specs.Serving.{Outputs, IfDone, HoldsWhatIsCertified, IsServed, IsCutOff, IsCutInHeader, IsCutInRound, IsCutAtEnd, end_by, told_for};
 ghost use Rattle.verifier_threads.specs.Runners.{StandsBefore, TellsLines, left_by};
-ghost use Rattle.verifier_threads.specs.Running.{Runs, RunsSome, RunsBehind, RunsWhole, RunsToEnd, IsUnderWay, IsUnderWayBehind, IsUnderWayWhole, IsFedUnderWay, HaveReadRound, IsAtPhase, IsAtClose, IsAtEnd, all_handed_out, with_runs_of};
+ghost use Rattle.verifier_threads.specs.Running.{Runs, RunsSome, RunsTold, RunsBehind, RunsWhole, RunsToEnd, rounds_before, IsUnderWay, IsUnderWayBehind, IsUnderWayWhole, IsFedUnderWay, HaveReadRound, IsAtRound, IsAtClose, IsAtEnd, all_handed_out, with_runs_of};
 
 use crate::accounts::Account;
 use crate::ending::RunEnd;
@@ -43,7 +44,7 @@ use run_reports::{
 use std::alloc::Global;
 use std::sync::Wait;
 use std::thread::Threads;
-use worker_threads::serve_phase_at_once;
+use worker_threads::serve_round_at_once;
 
 /// A run of a script: the world, what the verifiers have come to over its logs, a buffer for the log of each worker, how many
 /// parcels each verifier took, and the first end of a clock. The vault and the sink of the report are handed in at each call.
@@ -60,7 +61,7 @@ pub(crate) struct WorldRun<'a, D> {
 }
 
 impl<'a, D: Digests> WorldRun<'a, D> {
-    /// Before the first phase: writes the header of the bundle to the vault.
+    /// Before the first round: writes the header of the bundle to the vault.
     pub(crate) fn new<V: Sink>(
         alloc: Global,
         world: World<'a, D>,
@@ -68,7 +69,6 @@ impl<'a, D: Digests> WorldRun<'a, D> {
     ) -> Result<Self, Failure>
         requires setup { shown_world world ≡ set_up (host_of (D.functions (digests_of world)) world) }
         requires settings { IsSettings (settings_of world) }
-        requires plain { (settings_of world).rolling ≡ false }
         requires counters { (settings_of world).shards ≤ (settings_of world).header.end }
         requires keys { AreInRange (settings_of world).header (requests_of world) }
         requires values { HaveShortValues (settings_of world).header (requests_of world) }
@@ -76,7 +76,7 @@ impl<'a, D: Digests> WorldRun<'a, D> {
         ensures runs { (account : Account) (held : Option (List ℕ)) → IfOk result (λ runner. RunsBehind account D.functions runner 0 0
             (record { vault = V.held vault.old; vault_after = V.held vault.new; out = held; out_after = held })) }
         ensures world { IfOk result (λ runner. runner.world ≡ world.entry) }
-        ensures begins { IfOk result (λ runner. IsAtPhase (host_of (D.functions (digests_of world.entry)) world.entry)
+        ensures begins { IfOk result (λ runner. IsAtRound (host_of (D.functions (digests_of world.entry)) world.entry)
             (shown_world world.entry) runner.end) }
         ensures cut { (account : Account) (held : Option (List ℕ)) → OnErr result (IsCutOff account (D.functions (digests_of world.entry))
             (settings_of world.entry) (requests_of world.entry) (record { vault = V.held vault.old; vault_after = V.held vault.new; out = held; out_after = held })) }
@@ -197,8 +197,9 @@ impl<'a, D: Digests> WorldRun<'a, D> {
 }
 
 impl<'a, D: Digests + Sync> WorldRun<'a, D> {
-    /// A close, the last one or another: the workers move on to the next epoch, what they logged goes to the vault, and the
-    /// lines of all epochs that are now certified are written, or of a summary nothing. A clock may end in it, and then no more can be done.
+    /// A close, the last one or another, of a round that is served out: the workers move on to the next epoch, what they logged goes
+    /// to the vault, and the lines of all epochs that are now certified are written, or of a summary nothing. A clock may end in it, and
+    /// then no more can be done.
     pub(crate) fn close_epoch<R: Threads + Sync, V: Sink, O: Sink>(
         &mut self,
         rt: &R,
@@ -207,26 +208,27 @@ impl<'a, D: Digests + Sync> WorldRun<'a, D> {
         vault: &mut V,
         out: &mut O,
     ) -> Result<(), Failure>
-        requires runs { IsUnderWayBehind D.functions self.old (suc (shown_world self.old.world).phase) (shown_world self.old.world).phase (V.held vault.old) }
-        requires served { IsAtClose (host_of (D.functions (digests_of self.old.world)) self.old.world)
+        requires runs { IsUnderWayBehind D.functions self.old (suc (rounds_before self.old)) (rounds_before self.old) (V.held vault.old) }
+        requires done { IsAtClose (host_of (D.functions (digests_of self.old.world)) self.old.world)
             (shown_world self.old.world) self.old.end }
+        requires served { IsServedOut (host_of (D.functions (digests_of self.old.world)) self.old.world) (shown_world self.old.world) }
         requires last { (last ≡ true) ↔ IsLast (host_of (D.functions (digests_of self.old.world)) self.old.world)
             (shown_world self.old.world) }
-        ensures runs { (outputs : Outputs) → RunsBehind account.now D.functions self.old (suc (shown_world self.old.world).phase) (shown_world self.old.world).phase outputs
+        ensures runs { (outputs : Outputs) → RunsBehind account.now D.functions self.old (suc (rounds_before self.old)) (rounds_before self.old) outputs
             → outputs.vault_after ≡ V.held vault.old → outputs.out_after ≡ O.held out.old
-            → OnOk result (RunsWhole account.now D.functions self.new (suc (shown_world self.old.world).phase) (record outputs { vault_after = V.held vault.new; out_after = O.held out.new })) }
+            → OnOk result (RunsWhole account.now D.functions self.new (suc (rounds_before self.old)) (record outputs { vault_after = V.held vault.new; out_after = O.held out.new })) }
         ensures ended { (last ≡ true) ⊎ (self.new.end ≢ None)
             → OnOk result (IsAtEnd (host_of (D.functions (digests_of self.new.world)) self.new.world) (shown_world self.new.world) self.new.end
             × (self.new.end ≡ None → (shown_world self.new.world).phase ≡ (shown_world self.old.world).phase)) }
         ensures kept { self.new.end ≡ None → self.old.end ≡ None }
         ensures opened { last ≡ false → self.new.end ≡ None
-            → OnOk result (IsAtPhase (host_of (D.functions (digests_of self.new.world)) self.new.world) (shown_world self.new.world) self.new.end
-            × ((shown_world self.new.world).phase ≡ suc (shown_world self.old.world).phase)) }
-        ensures cut { (outputs : Outputs) → RunsBehind account.now D.functions self.old (suc (shown_world self.old.world).phase) (shown_world self.old.world).phase outputs → outputs.vault_after ≡ V.held vault.old
+            → OnOk result (IsAtRound (host_of (D.functions (digests_of self.new.world)) self.new.world) (shown_world self.new.world) self.new.end
+            × ((shown_world self.new.world).phase ≡ suc (shown_world self.old.world).phase) × (rounds_before self.new ≡ suc (rounds_before self.old))) }
+        ensures cut { (outputs : Outputs) → RunsBehind account.now D.functions self.old (suc (rounds_before self.old)) (rounds_before self.old) outputs → outputs.vault_after ≡ V.held vault.old
             → outputs.out_after ≡ O.held out.old
             → OnErr result (IsCutOff account.now (D.functions (digests_of self.old.world)) (settings_of self.old.world) (requests_of self.old.world)
             (record outputs { vault_after = V.held vault.new; out_after = O.held out.new })) }
-        ensures cut_round { (outputs : Outputs) → RunsBehind account.now D.functions self.old (suc (shown_world self.old.world).phase) (shown_world self.old.world).phase outputs
+        ensures cut_round { (outputs : Outputs) → RunsBehind account.now D.functions self.old (suc (rounds_before self.old)) (rounds_before self.old) outputs
             → outputs.vault_after ≡ V.held vault.old → outputs.out_after ≡ O.held out.old → result ≡ Err Failure.VaultFault
             → IsCutInRound account.now (D.functions (digests_of self.old.world)) (settings_of self.old.world) (requests_of self.old.world)
             (record outputs { vault_after = V.held vault.new; out_after = O.held out.new }) }
@@ -244,9 +246,37 @@ impl<'a, D: Digests + Sync> WorldRun<'a, D> {
         let end = close_phase(&mut self.world, last)?;
         self.end = earlier_end(self.end, end);
         let settled = self.pass_to_seal(rt, last, vault)?;
+        self.write_certified(rt, account, &settled, out)
+    }
+
+    // Writes the lines of all epochs that the logs certify and that are not written yet, or of a summary nothing. The verdicts on the
+    // first of these may have been settled when the logs were taken.
+    fn write_certified<R: Threads + Sync, O: Sink>(
+        &mut self,
+        rt: &R,
+        account: &Account,
+        settled: &[Verdict],
+        out: &mut O,
+    ) -> Result<(), Failure>
+        requires runs { HaveRunSome self.old.rounds }
+        requires settled { AreVerdictsOn self.old.rounds.judged (map (λ fed. fed.run) self.old.rounds.runs) settled.now }
+        ensures runs { (outputs : Outputs) (past : List Logs) → Runs account.now D.functions self.old past outputs → outputs.out_after ≡ O.held out.old
+            → OnOk result (RunsTold account.now D.functions self.new past (record outputs { out_after = O.held out.new })) }
+        ensures world { self.new.world ≡ self.old.world }
+        ensures end { self.new.end ≡ self.old.end }
+        ensures cut { (outputs : Outputs) (past : List Logs) → Runs account.now D.functions self.old past outputs → outputs.out_after ≡ O.held out.old
+            → OnErr result (IsCutOff account.now (D.functions (digests_of self.old.world)) (settings_of self.old.world) (requests_of self.old.world)
+            (record outputs { out_after = O.held out.new })) }
+        ensures lines { result ≡ Err Failure.WriteFault → TellsLines account.now }
+        ensures failure { FailsByWriting result }
+        ensures write_fault { result ≡ Err Failure.WriteFault → Rose (O.faults out.old) (O.faults out.new) }
+        ensures never_falls { O.faults out.old ≤ O.faults out.new }
+    {
+        what_is_due_stays_due();
+        rounds_make_a_bundle();
         let telling = self.telling(account);
         let rounds = &mut self.rounds;
-        account.certify(rt, self.alloc, rounds, &settled, &telling, out)
+        account.certify(rt, self.alloc, rounds, settled, &telling, out)
     }
 
     // Hands out what all workers logged in a close: it goes to the vault, and the verifiers' runs take it, each in a thread of its
@@ -288,30 +318,30 @@ impl<'a, D: Digests + Sync> WorldRun<'a, D> {
             .seal(rt, self.alloc, d, self.buffers.as_slice(), last, vault)
     }
 
-    /// A phase: its requests are served, and the verifiers read what is logged meanwhile. Then that goes to the vault. A clock may
+    /// A round: its requests are served, and the verifiers read what is logged meanwhile. Then that goes to the vault. A clock may
     /// end in it.
-    pub(crate) fn phase<R: Threads + Wait + Sync, V: Sink, G: Gate + Sync>(
+    pub(crate) fn round<R: Threads + Wait + Sync, V: Sink, G: Gate + Sync>(
         &mut self,
         rt: &R,
         gate: &G,
         vault: &mut V,
     ) -> Result<(), Failure>
-        requires runs { IsUnderWayBehind D.functions self.old (shown_world self.old.world).phase (shown_world self.old.world).phase (V.held vault.old) }
-        requires begins { IsAtPhase (host_of (D.functions (digests_of self.old.world)) self.old.world)
+        requires runs { IsUnderWayBehind D.functions self.old (rounds_before self.old) (rounds_before self.old) (V.held vault.old) }
+        requires begins { IsAtRound (host_of (D.functions (digests_of self.old.world)) self.old.world)
             (shown_world self.old.world) self.old.end }
-        requires workers { AllByRecursion (λ turn. turn.0 < length (shown_world self.old.world).workers)
-            (turns_of (host_of (D.functions (digests_of self.old.world)) self.old.world) (shown_world self.old.world).phase) }
+        requires workers { (phase : ℕ) → AllByRecursion (λ turn. turn.0 < length (shown_world self.old.world).workers)
+            (turns_of (host_of (D.functions (digests_of self.old.world)) self.old.world) phase) }
         ensures runs { (account : Account) (outputs : Outputs)
-            → RunsBehind account D.functions self.old (shown_world self.old.world).phase (shown_world self.old.world).phase outputs → outputs.vault_after ≡ V.held vault.old
-            → OnOk result (RunsBehind account D.functions self.new (suc (shown_world self.old.world).phase) (shown_world self.old.world).phase
+            → RunsBehind account D.functions self.old (rounds_before self.old) (rounds_before self.old) outputs → outputs.vault_after ≡ V.held vault.old
+            → OnOk result (RunsBehind account D.functions self.new (suc (rounds_before self.old)) (rounds_before self.old)
             (record outputs { vault_after = V.held vault.new })) }
-        ensures served { OnOk result (IsAtClose (host_of (D.functions (digests_of self.new.world)) self.new.world)
+        ensures done { OnOk result (IsAtClose (host_of (D.functions (digests_of self.new.world)) self.new.world)
             (shown_world self.new.world) self.new.end) }
         ensures same_phase { OnOk result ((shown_world self.new.world).phase ≡ (shown_world self.old.world).phase) }
-        ensures cut { (account : Account) (outputs : Outputs) → RunsBehind account D.functions self.old (shown_world self.old.world).phase (shown_world self.old.world).phase outputs → outputs.vault_after ≡ V.held vault.old
+        ensures cut { (account : Account) (outputs : Outputs) → RunsBehind account D.functions self.old (rounds_before self.old) (rounds_before self.old) outputs → outputs.vault_after ≡ V.held vault.old
             → OnErr result (IsCutOff account (D.functions (digests_of self.old.world)) (settings_of self.old.world) (requests_of self.old.world)
             (record outputs { vault_after = V.held vault.new })) }
-        ensures cut_round { (account : Account) (outputs : Outputs) → RunsBehind account D.functions self.old (shown_world self.old.world).phase (shown_world self.old.world).phase outputs
+        ensures cut_round { (account : Account) (outputs : Outputs) → RunsBehind account D.functions self.old (rounds_before self.old) (rounds_before self.old) outputs
             → outputs.vault_after ≡ V.held vault.old
             → OnErr result (IsCutInRound account (D.functions (digests_of self.old.world)) (settings_of self.old.world) (requests_of self.old.world)
             (record outputs { vault_after = V.held vault.new })) }
@@ -325,7 +355,7 @@ impl<'a, D: Digests + Sync> WorldRun<'a, D> {
         rounds_make_a_bundle();
         let bytes = self.rounds.bytes();
         let mut runs = self.rounds.lend_runs();
-        self.end = serve_phase_at_once(
+        self.end = serve_round_at_once(
             rt,
             self.alloc,
             &mut self.world,
@@ -338,7 +368,9 @@ impl<'a, D: Digests + Sync> WorldRun<'a, D> {
         self.set_down(vault)
     }
 
-    /// A close, which is the last one at the script's end, or where a clock ended in its phase. The answer says which call comes next.
+    /// A close, which is the last one at the script's end, or where a clock ended in its round. Behind the round of a rolling host in
+    /// which one ended there is none, and the lines of all epochs that are certified are written. The answer says which call comes
+    /// next.
     pub(crate) fn close<R: Threads + Sync, V: Sink, O: Sink>(
         &mut self,
         rt: &R,
@@ -346,8 +378,8 @@ impl<'a, D: Digests + Sync> WorldRun<'a, D> {
         vault: &mut V,
         out: &mut O,
     ) -> Result<NextCall, Failure>
-        requires runs { IsUnderWayBehind D.functions self.old (suc (shown_world self.old.world).phase) (shown_world self.old.world).phase (V.held vault.old) }
-        requires served { IsAtClose (host_of (D.functions (digests_of self.old.world)) self.old.world)
+        requires runs { IsUnderWayBehind D.functions self.old (suc (rounds_before self.old)) (rounds_before self.old) (V.held vault.old) }
+        requires done { IsAtClose (host_of (D.functions (digests_of self.old.world)) self.old.world)
             (shown_world self.old.world) self.old.end }
         ensures stands { (outputs : Outputs) → StandsBefore NextCall.Close account.now D.functions self.old outputs
             → outputs.vault_after ≡ V.held vault.old → outputs.out_after ≡ O.held out.old
@@ -371,14 +403,28 @@ impl<'a, D: Digests + Sync> WorldRun<'a, D> {
         ensures never_falls { O.faults out.old ≤ O.faults out.new }
         ensures name { V.name vault.new ≡ V.name vault.old }
     {
+        if self.is_stopped() {
+            self.write_certified(rt, account, &[], out)?;
+            return Ok(NextCall::Finish);
+        }
         let last = self.is_last_close();
         self.close_epoch(rt, last, account, vault, out)?;
         Ok(call_behind(last, self.end))
     }
 
-    // Whether the close that comes is the last one: at the script's end, or where a clock ended in the phase.
+    // Whether a clock ended in the round of a rolling host, so that no close follows.
+    fn is_stopped(&self) -> bool
+        requires done { IsAtClose (host_of (D.functions (digests_of self.now.world)) self.now.world)
+            (shown_world self.now.world) self.now.end }
+        ensures stopped { result ≡ true → IsRoundStopped (host_of (D.functions (digests_of self.now.world)) self.now.world) (shown_world self.now.world) }
+        ensures served { result ≡ false → IsServedOut (host_of (D.functions (digests_of self.now.world)) self.now.world) (shown_world self.now.world) }
+    {
+        stops_round(self.world.settings().rolling, self.end)
+    }
+
+    // Whether the close that comes is the last one: at the script's end, or where a clock ended in the round.
     fn is_last_close(&self) -> bool
-        requires served { IsAtClose (host_of (D.functions (digests_of self.now.world)) self.now.world)
+        requires done { IsAtClose (host_of (D.functions (digests_of self.now.world)) self.now.world)
             (shown_world self.now.world) self.now.end }
         ensures last { (result ≡ true) ↔ IsLast (host_of (D.functions (digests_of self.now.world)) self.now.world)
             (shown_world self.now.world) }
@@ -398,7 +444,16 @@ fn earlier_end(first: Option<ClockEnd>, later: Option<ClockEnd>) -> Option<Clock
     }
 }
 
-// Whether a close is the last one: of the script's last phase, or where a clock ended in its phase.
+// Whether a round is stopped: that of a rolling host, in which a clock ended.
+fn stops_round(rolling: bool, end: Option<ClockEnd>) -> bool
+    ensures stopped { rolling ≡ true → end ≢ None → result ≡ true }
+    ensures plain { rolling ≡ false → result ≡ false }
+    ensures running { end ≡ None → result ≡ false }
+{
+    rolling && end.is_some()
+}
+
+// Whether a close is the last one: of the script's last phase, or where a clock ended in its round.
 fn closes_last(left: usize, end: Option<ClockEnd>) -> bool
     ensures at_end { left ≤ 1 → result ≡ true }
     ensures ended { end ≢ None → result ≡ true }
@@ -407,15 +462,15 @@ fn closes_last(left: usize, end: Option<ClockEnd>) -> bool
     left <= 1 || end.is_some()
 }
 
-// The call behind a close: the next phase, or where the close was the last or a clock has ended, the end.
+// The call behind a close: the next round, or where the close was the last or a clock has ended, the end.
 fn call_behind(last: bool, end: Option<ClockEnd>) -> NextCall
     ensures over { (last ≡ true) ⊎ (end ≢ None) → result ≡ NextCall.Finish }
-    ensures going { last ≡ false → end ≡ None → result ≡ NextCall.Phase }
+    ensures going { last ≡ false → end ≡ None → result ≡ NextCall.Round }
 {
     if last || end.is_some() {
         NextCall::Finish
     } else {
-        NextCall::Phase
+        NextCall::Round
     }
 }
 

@@ -12,12 +12,12 @@ use Rattle.host_world.specs.Behind.{host_of}
 use Rattle.host_world.specs.Shown.{shown_world, digests_of}
 use Rattle.host_serving.specs.Leading.{Leads, LeadsBy, LeadsAs, LeadsByFront, CanDoNoMore}
 use Rattle.host_serving.specs.Form.{AreOfClose, all_advance, events_of_shards, events_of_close}
-use Rattle.host_serving.specs.Standing.{IsServedUpTo, NoneStopped, NoneStuckBelow}
+use Rattle.host_serving.specs.Standing.{BeginsRound, NoneStopped, NoneStuckBelow}
 use Rattle.host_serving.specs.Closing.{CanAllAdvance, HaveAdvanced, EndsAdvance, EndsShards, ShardsAreClosed}
-use Rattle.host_serving.proofs.CloseLemmas.{advance_rests, advance_lowest, advance_kept, again, may_open, is_closed, closed_phase, closed_running, closed_rests, opened_served, opened_phase, opened_running}
+use Rattle.host_serving.proofs.CloseLemmas.{advance_rests, advance_lowest, advance_kept, again, may_open, is_closed, closed_phase, closed_running, closed_rests, opened_begins, opened_phase, opened_running}
 use Rattle.host_serving.proofs.LeadingLaws.{leads-by}
 use Rattle.host_serving.proofs.ClosePlanLemmas.{as_close, close-stopped, close-front, close-last, close-last_front, close-opened, close-unopened}
-use Rattle.host_serving.proofs.CloseWorldLemmas.{host_same, enabled_now, stepped_first, ended_first, by_first, front_first, on_err, on_err_then, on_ok_then, if_ok_then, ok_and_if, workers_are}
+use Rattle.host_serving.proofs.CloseWorldLemmas.{host_same, enabled_now, stepped_first, ended_first, by_first, front_first, on_err, on_err_then, on_ok_then, if_ok_then, ok_and_if, workers_are, rolling_closes}
 use Rattle.host_serving.proofs.closes.close_phase.Goals as goal
 
 pub advance_all-requires-clause-may : goal.advance_all-requires-clause-may
@@ -241,10 +241,11 @@ returns-else-last-clause-opened g c = λ answered not_last.
     let stepped : shown_world new ≡ step (host_of (g.D.Digests.functions (digests_of now)) now) (shown_world now) opens =
     subst (λ (r : Result (Option ClockEnd) _). OnOk r (shown_world new ≡ step (host_of (g.D.Digests.functions (digests_of now)) now) (shown_world now) opens)) answered c.step.ensures.stepped in
     let is = stepped_first g.D.Digests.functions old now c.close_shards.ensures.host new opens stepped in
-    subst (λ (w : World Content). IsServedUpTo host w 0 × (w.phase ≡ suc (shown_world old).phase) × NoneStopped host w) (sym is) (
-      opened_served host (shown_world old) (shown_world now) closed c.requires.served more,
-      opened_phase host (shown_world old) (shown_world now) closed c.requires.served more,
-      opened_running host (shown_world old) (shown_world now) closed c.requires.served more,
+    let end = rolling_closes (g.D.Digests.functions (digests_of old)) old c.requires.behind.0 c.requires.behind.1 in
+    subst (λ (w : World Content). BeginsRound host w × (w.phase ≡ suc (shown_world old).phase) × NoneStopped host w) (sym is) (
+      opened_begins host (shown_world old) (shown_world now) closed c.requires.served end more,
+      opened_phase host (shown_world old) (shown_world now) closed c.requires.served end more,
+      opened_running host (shown_world old) (shown_world now) closed c.requires.served end more,
     )
 
 pub returns-in_err-end-clause-on_the_way : goal.returns-in_err-end-clause-on_the_way

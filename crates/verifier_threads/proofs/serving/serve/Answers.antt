@@ -4,8 +4,8 @@ use Rattle.std.proofs.lemmas.Result.{err_from_is_err_and}
 use Rattle.verifier_threads.proofs.RunningLemmas.{stops-so, came-so, finishes-so}
 use Rattle.verifier_threads.proofs.serving.serve.Goals as goal
 
-pub phases-init : goal.phases-init
-phases-init g c =
+pub rounds-init : goal.rounds-init
+rounds-init g c =
     let settings = c.args.settings.now in
     let made = c.in_ok-runner.ensures in
     record {
@@ -19,28 +19,28 @@ phases-init g c =
       name = c.make.ensures.name;
     }
 
-pub phase-requires-clause-next : goal.phase-requires-clause-next
-phase-requires-clause-next g c κs within = sym c.next_call.ensures.value ∙ c.in-Phase.is
+pub round-requires-clause-next : goal.round-requires-clause-next
+round-requires-clause-next g c κs within = sym c.next_call.ensures.value ∙ c.in-Round.is
 
-pub phase-requires-clause-serving : goal.phase-requires-clause-serving
-phase-requires-clause-serving g c κs within = (_, _, _, _, _, c.phases.invariant.stands, refl)
+pub round-requires-clause-serving : goal.round-requires-clause-serving
+round-requires-clause-serving g c κs within = (_, _, _, _, _, c.rounds.invariant.stands, refl)
 
 pub close_epoch-requires-clause-next : goal.close_epoch-requires-clause-next
-close_epoch-requires-clause-next g c κs within = c.in_ok-phase-in-Phase.ensures.next
+close_epoch-requires-clause-next g c κs within = c.in_ok-round-in-Round.ensures.next
 
 pub close_epoch-requires-clause-serving : goal.close_epoch-requires-clause-serving
-close_epoch-requires-clause-serving g c κs within = (_, _, _, _, _, c.in_ok-phase-in-Phase.ensures.stands _ _ _ _ _ c.phases.invariant.stands refl, refl)
+close_epoch-requires-clause-serving g c κs within = (_, _, _, _, _, c.in_ok-round-in-Round.ensures.stands _ _ _ _ _ c.rounds.invariant.stands refl, refl)
 
-pub phases-preserved : goal.phases-preserved
-phases-preserved g c =
-    let inv = c.phases.invariant in
-    let behind = c.in_ok-phase-in-Phase.ensures.stands _ _ _ _ _ inv.stands refl in
+pub rounds-preserved : goal.rounds-preserved
+rounds-preserved g c =
+    let inv = c.rounds.invariant in
+    let behind = c.in_ok-round-in-Round.ensures.stands _ _ _ _ _ inv.stands refl in
     record {
-      stands = c.in_ok-close_epoch-in-Phase.ensures.stands _ _ _ _ _ behind refl refl;
-      call = c.in_ok-close_epoch-in-Phase.ensures.next;
-      vault_counts = omega (arith, inv.vault_counts, c.phase.ensures.never_falls, c.close_epoch.ensures.vault_never_falls);
+      stands = c.in_ok-close_epoch-in-Round.ensures.stands _ _ _ _ _ behind refl refl;
+      call = c.in_ok-close_epoch-in-Round.ensures.next;
+      vault_counts = omega (arith, inv.vault_counts, c.round.ensures.never_falls, c.close_epoch.ensures.vault_never_falls);
       out_counts = omega (arith, inv.out_counts, c.close_epoch.ensures.never_falls);
-      name = c.close_epoch.ensures.name ∙ c.phase.ensures.name ∙ inv.name;
+      name = c.close_epoch.ensures.name ∙ c.round.ensures.name ∙ inv.name;
     }
 
 pub returns-in_err-runner-clause-serves : goal.returns-in_err-runner-clause-serves
@@ -52,21 +52,21 @@ returns-in_err-runner-clause-serves g c =
     (λ is. c.in_err-runner.ensures.failure.source (came-so p.0 _ _ p.2 is)) (λ is. c.in_err-runner.ensures.failure.limit (came-so p.0 _ _ p.2 is))
     (c.in_err-runner.ensures.cut out) (λ is. inl (c.in_err-runner.ensures.header out)) (λ is. absurd (c.in_err-runner.ensures.failure.sink (came-so p.0 _ _ p.2 is))))
 
-pub returns-in_err-phase-in-Phase-clause-serves : goal.returns-in_err-phase-in-Phase-clause-serves
-returns-in_err-phase-in-Phase-clause-serves g c =
-    let p = err_from_is_err_and c.from_residual-in_err-phase-in-Phase.result c.from_residual-in_err-phase-in-Phase.ensures.1 in
-    let says = c.in_err-phase-in-Phase.ensures in
-    let stands = c.phases.invariant.stands in
+pub returns-in_err-round-in-Round-clause-serves : goal.returns-in_err-round-in-Round-clause-serves
+returns-in_err-round-in-Round-clause-serves g c =
+    let p = err_from_is_err_and c.from_residual-in_err-round-in-Round.result c.from_residual-in_err-round-in-Round.ensures.1 in
+    let says = c.in_err-round-in-Round.ensures in
+    let stands = c.rounds.invariant.stands in
     rw p.1
     (stops-so c.args.account (g.D.Digests.functions c.args.d.now) c.args.settings.now c.args.requests.now p.0 _
     (λ is. says.failure.source (came-so p.0 _ _ p.2 is)) (λ is. says.failure.limit (came-so p.0 _ _ p.2 is))
     (says.cut _ _ _ _ _ stands refl) (λ is. inr (says.cut_round _ _ _ _ _ stands refl)) (λ is. absurd (says.failure.sink (came-so p.0 _ _ p.2 is))))
 
-pub returns-in_err-close_epoch-in-Phase-clause-serves : goal.returns-in_err-close_epoch-in-Phase-clause-serves
-returns-in_err-close_epoch-in-Phase-clause-serves g c =
-    let p = err_from_is_err_and c.from_residual-in_err-close_epoch-in-Phase.result c.from_residual-in_err-close_epoch-in-Phase.ensures.1 in
-    let says = c.in_err-close_epoch-in-Phase.ensures in
-    let behind = c.in_ok-phase-in-Phase.ensures.stands _ _ _ _ _ c.phases.invariant.stands refl in
+pub returns-in_err-close_epoch-in-Round-clause-serves : goal.returns-in_err-close_epoch-in-Round-clause-serves
+returns-in_err-close_epoch-in-Round-clause-serves g c =
+    let p = err_from_is_err_and c.from_residual-in_err-close_epoch-in-Round.result c.from_residual-in_err-close_epoch-in-Round.ensures.1 in
+    let says = c.in_err-close_epoch-in-Round.ensures in
+    let behind = c.in_ok-round-in-Round.ensures.stands _ _ _ _ _ c.rounds.invariant.stands refl in
     rw p.1
     (stops-so c.args.account (g.D.Digests.functions c.args.d.now) c.args.settings.now c.args.requests.now p.0 _
     (λ is. says.failure.source (came-so p.0 _ _ p.2 is)) (λ is. says.failure.limit (came-so p.0 _ _ p.2 is))
@@ -75,16 +75,16 @@ returns-in_err-close_epoch-in-Phase-clause-serves g c =
 
 pub returns-clause-serves : goal.returns-clause-serves
 returns-clause-serves g c =
-    let stands = c.phases.invariant.stands in
+    let stands = c.rounds.invariant.stands in
     finishes-so c.args.account (g.D.Digests.functions c.args.d.now) c.args.settings.now c.args.requests.now c.finish.result _
     (c.finish.ensures.served _ _ _ _ _ stands refl) (c.finish.ensures.cut _ _ _ _ _ stands refl) c.finish.ensures.stop
 
-pub phases-smaller : goal.phases-smaller
-phases-smaller g c = omega (arith, c.in_ok-close_epoch-in-Phase.ensures.fewer, c.in_ok-phase-in-Phase.ensures.left)
+pub rounds-smaller : goal.rounds-smaller
+rounds-smaller g c = omega (arith, c.in_ok-close_epoch-in-Round.ensures.fewer, c.in_ok-round-in-Round.ensures.left)
 
 pub finish-requires : goal.finish-requires
 finish-requires g c =
-    let inv = c.phases.invariant in
+    let inv = c.rounds.invariant in
     record {
       next = elim c.in-Close.is [
         | inl close ↦ absurd (inv.call (sym c.next_call.ensures.value ∙ close))

@@ -1,11 +1,11 @@
 use Rattle.std.proofs.Common.{◌≡◌, ◌≤◌}
 use Rattle.verifier_threads.specs.declared.runner.NextCall.TheVariants as calls
-use Rattle.verifier_threads.specs.Runners.{Stands, next_call_of, phases_left}
+use Rattle.verifier_threads.specs.Runners.{Stands, next_call_of, rounds_left}
 use Rattle.verifier_threads.proofs.serving.serve.Given as goal
 
--- the runner stands before a phase or at the end
-abbrev pub invariant-phases : goal.invariant-phases
-invariant-phases g l = record {
+-- the runner stands before a round or at the end
+abbrev pub invariant-rounds : goal.invariant-rounds
+invariant-rounds g l = record {
   stands : Stands l.fn.account g.D.Digests.functions (g.D.Digests.functions l.d) l.settings l.requests l.runner
       (record { vault = g.V.Sink.held l.fn.vault; vault_after = g.V.Sink.held l.vault; out = g.O.Sink.held l.fn.out; out_after = g.O.Sink.held l.out });
   call : next_call_of l.runner ≡ calls.Close → ⊥;
@@ -14,5 +14,5 @@ invariant-phases g l = record {
   name : g.V.Sink.name l.vault ≡ g.V.Sink.name l.fn.vault;
 }
 
-abbrev pub decreases-phases : goal.decreases-phases
-decreases-phases g l = phases_left l.runner
+abbrev pub decreases-rounds : goal.decreases-rounds
+decreases-rounds g l = rounds_left l.runner

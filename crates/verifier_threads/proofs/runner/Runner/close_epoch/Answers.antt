@@ -22,8 +22,8 @@ close-requires-clause-runs g c κs within =
     c.requires.next c.in-Served.is serving.5 in
     (serving.0, serving.4, stands.stands.0, serving.6)
 
-pub close-requires-clause-served : goal.close-requires-clause-served
-close-requires-clause-served g c κs within =
+pub close-requires-clause-done : goal.close-requires-clause-done
+close-requires-clause-done g c κs within =
     let serving = c.requires.serving in
     let stands = stands-of g.D.Digests.functions serving.1 serving.2 serving.3 serving.0 c.args.self.now serving.4 calls.Close (states.Served c.in-Served.served)
     c.requires.next c.in-Served.is serving.5 in

@@ -1,4 +1,4 @@
-use Rattle.std.proofs.Common.{◌≡◌, ◌≤◌, ℕ, ◌-◌, Bool, if◌then◌else◌, List, length, refl, sym, ◌∙◌, ap, subst, arith, Err, inl, inr}
+use Rattle.std.proofs.Common.{◌≡◌, ◌≤◌, ℕ, ◌-◌, Bool, true, false, if◌then◌else◌, List, length, refl, sym, ◌∙◌, ap, subst, arith, Err, inl, inr}
 use Rattle.std.proofs.lemmas.Bool.{cases_lt}
 use Rattle.fv_outside.proofs.WrittenLaws.{GrowsByFront-none}
 use Rattle.record_hash.specs.Functions.{DigestFunctions}
@@ -15,10 +15,15 @@ use Rattle.shipped_host.specs.ShippedHost.{shipped_host}
 use Rattle.shipped_host.specs.Ranges.{AreInRange, HaveShortValues}
 use Rattle.host_world.specs.Behind.{host_of}
 use Rattle.verifier_threads.specs.Serving.{IsCutOff, IsCutInHeader, setup_end}
-use Rattle.verifier_threads.specs.Running.{RunsBehind, IsAtPhase}
+use Rattle.verifier_threads.specs.Running.{RunsBehind, rounds_before, IsAtRound}
 use Rattle.verifier_threads.proofs.PassingLemmas.{err_any}
 use Rattle.verifier_threads.proofs.CallLemmas.{of-these}
 use Rattle.verifier_threads.proofs.runner.Runner.make.Goals as goal
+
+-- before the first round there is none
+none_before : (b : Bool) (size : ℕ) → (if b then 0 else (if b then size - 1 else 0)) ≡ 0
+none_before true size = refl
+none_before false size = refl
 
 pub new-requires-in-Ok : goal.new-requires-in-Ok
 new-requires-in-Ok g c =
@@ -34,7 +39,6 @@ new-requires-in-Ok g c =
     record {
       setup = says.set_up ∙ ap (λ (h : Host Content Request). set_up h) (sym says.host);
       settings = subst IsSettings (sym says.numbers) c.requires.settings;
-      plain = ap (λ (s : Settings). s.rolling) says.numbers ∙ c.requires.plain;
       counters = subst (λ (s : Settings). s.shards ≤ s.header.end) (sym says.numbers) suffices;
       keys = subst (λ (s : Settings). AreInRange s.header (requests_of c.in-Ok.world)) (sym says.numbers)
           (subst (AreInRange settings.header) (sym says.asked) (c.scripts_ask_for_keys_in_range.ensures.keys settings.header c.args.requests.now c.requires.tasks));
@@ -76,9 +80,13 @@ returns-in_ok-served-in-Ok-clause-stands g c = λ held.
     let made = c.in_ok-served-in-Ok.ensures in
     let vault = g.V.Sink.held c.args.vault.now in
     let vault' = g.V.Sink.held c.new-in-Ok.new.vault in
-    let phase : (shown_world run.world).phase ≡ 0 = ap (λ (w : code.World _). (shown_world w).phase) made.world ∙ ap (λ (w : World Content). w.phase) says.set_up
-    ∙ ap (λ (rolling : Bool). if rolling then length (shipped_host (functions c.args.d.now) c.args.settings.now c.args.requests.now).script - 1 else 0)
-    c.requires.plain in
+    let size = length (shipped_host (functions c.args.d.now) c.args.settings.now c.args.requests.now).script in
+    let phase : (shown_world run.world).phase ≡ (if c.args.settings.now.rolling then size - 1 else 0) =
+    ap (λ (w : code.World _). (shown_world w).phase) made.world ∙ ap (λ (w : World Content). w.phase) says.set_up in
+    let first : rounds_before run ≡ 0 =
+    ap (λ (s : Settings). if s.rolling then 0 else (shown_world run.world).phase) (ap (λ (w : code.World _). w.settings) made.world ∙ says.numbers)
+    ∙ ap (λ (n : ℕ). if c.args.settings.now.rolling then 0 else n) phase
+    ∙ none_before c.args.settings.now.rolling size in
     record {
       account_is = refl;
       state = record {
@@ -89,8 +97,8 @@ returns-in_ok-served-in-Ok-clause-stands g c = λ held.
           tasks = c.requires.tasks;
         };
         stands = (
-          subst (λ (p : ℕ). RunsBehind c.args.account functions run p p (record { vault = vault; vault_after = vault'; out = held; out_after = held })) (sym phase) (made.runs c.args.account held),
-          subst (λ (w : code.World _). IsAtPhase (host_of (functions (digests_of w)) w) (shown_world w) run.end) (sym made.world) made.begins,
+          subst (λ (p : ℕ). RunsBehind c.args.account functions run p p (record { vault = vault; vault_after = vault'; out = held; out_after = held })) (sym first) (made.runs c.args.account held),
+          subst (λ (w : code.World _). IsAtRound (host_of (functions (digests_of w)) w) (shown_world w) run.end) (sym made.world) made.begins,
         );
       };
     }

@@ -4,7 +4,7 @@ use Rattle.script_text.specs.declared.task.Task.{Task}
 use Rattle.shipped_host.specs.ShippedHost.{turn_of}
 use Rattle.host_world.specs.Shown.{shown_world, digests_of, requests_of}
 use Rattle.host_world.specs.Behind.{host_of}
-use Rattle.verifier_threads.proofs.PhaseLemmas.{closes-last}
+use Rattle.verifier_threads.proofs.ClosingLemmas.{closes-last, at-within}
 use Rattle.verifier_threads.proofs.world_run.WorldRun.is_last_close.Goals as goal
 
 pub returns : goal.returns
@@ -15,7 +15,7 @@ returns g c =
     c.len.ensures.value ∙ ap (λ (script : List (List Task)). length script) c.requests.ensures.value in
     let phase = c.phase.ensures.value in
     record {
-      last = closes-last (host_of (g.D.Digests.functions (digests_of self.world)) self.world) (shown_world self.world) self.end (c.len.result - c.phase.result) c.closes_last.result c.requires.served
-          (omega (arith, size, asked, phase, c.requires.served.served.served.within))
+      last = closes-last (host_of (g.D.Digests.functions (digests_of self.world)) self.world) (shown_world self.world) self.end (c.len.result - c.phase.result) c.closes_last.result c.requires.done
+          (omega (arith, size, asked, phase, at-within (host_of (g.D.Digests.functions (digests_of self.world)) self.world) (shown_world self.world) c.requires.done.done))
           c.closes_last.ensures.at_end c.closes_last.ensures.ended c.closes_last.ensures.going;
     }

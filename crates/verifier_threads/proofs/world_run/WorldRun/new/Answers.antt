@@ -11,7 +11,7 @@ use Rattle.host_world.specs.Shown.{shown_world, digests_of, requests_of}
 use Rattle.host_world.specs.Behind.{host_of}
 use Rattle.host_rounds.specs.SoFar.{Keeps, lines_due}
 use Rattle.verifier_threads.specs.Serving.{GrowsFor, IsCutOff, IsCutInHeader, told_for}
-use Rattle.verifier_threads.specs.Running.{IsAtPhase}
+use Rattle.verifier_threads.specs.Running.{IsAtRound}
 use Rattle.verifier_threads.proofs.PassingLemmas.{err_any}
 use Rattle.verifier_threads.proofs.EndingLemmas.{grows-none, running-new, set_up-begins, set_up-count}
 use Rattle.verifier_threads.proofs.NothingLemmas.{empty-are}
@@ -54,7 +54,7 @@ returns-clause-runs g c = λ account held.
       runs = record {
         running =
             running-new account f world.settings (requests_of world) (shown_world world) c.in_ok-rounds.rounds (g.V.Sink.held c.args.vault.now) (g.V.Sink.held c.new.new.vault) held
-            (record { settings_fit = c.requires.settings; plain = c.requires.plain; counters = c.requires.counters; keys = c.requires.keys; values = c.requires.values; is = c.requires.setup; count = count })
+            (record { settings_fit = c.requires.settings; counters = c.requires.counters; keys = c.requires.keys; values = c.requires.values; is = c.requires.setup; count = count })
             (subst (λ (header : Header). Keeps f header (empty_logs header.verifiers) [] c.in_ok-rounds.rounds (g.V.Sink.held c.args.vault.now) (g.V.Sink.held c.new.new.vault)) header_is
             (c.in_ok-rounds.ensures.keeps f))
             c.in_ok-rounds.ensures.none;
@@ -88,5 +88,5 @@ pub returns-clause-begins : goal.returns-clause-begins
 returns-clause-begins g c =
     let world = c.args.world in
     let host = host_of (g.D.Digests.functions (digests_of world)) world in
-    subst (λ (w : World Content). IsAtPhase host w None) (sym c.requires.setup)
-    (set_up-begins host c.requires.plain (omega (arith, c.requires.some, length-map (requests_of world) (map turn_of))))
+    subst (λ (w : World Content). IsAtRound host w None) (sym c.requires.setup)
+    (set_up-begins host (omega (arith, c.requires.some, length-map (requests_of world) (map turn_of))))
