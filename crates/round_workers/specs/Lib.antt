@@ -1,0 +1,6 @@
+-- What the clauses on the workers of a round cite, in reading order.
+pub mod Rounds
+pub mod Parts
+pub mod Sharing
+pub mod Working
+pub mod Placed
