@@ -185,7 +185,11 @@ module _ (functions : DigestFunctions) (settings : Settings) (script : List (Lis
         running = can.running;
       }
 
-      -- Where some stopped, the stops stand behind the turns, up to any epoch that is not past the newest and to which all came.
+      -- It has one order so too,
+      pub one_order_to : HasOneOrder host world first (first + newest) finals lists pasts
+      one_order_to = orders_round host settings.rolling world first (first + newest) finals lists pasts steady is.level (omega arith) can_roll_to told_to
+
+      -- and where some stopped, the stops stand behind the turns, up to any epoch that is not past the newest and to which all came.
       pub ends_stopped : AreAccepted host world → IsEven host world → EndsStopped host world first (first + newest) finals lists pasts (stops_of rows)
       ends_stopped accepted even =
           (ends_rounds host settings.rolling world first (first + newest) finals lists pasts steady is.level (omega arith) can_roll_to told_to).1 (stops_of rows)

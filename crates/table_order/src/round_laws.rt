@@ -75,6 +75,13 @@ pub fn a_round_of_a_table_has_one_order()
         → settings.rolling ≡ true → AreThrough (shipped_host functions settings script) world terms rows
         → EndsWhole (shipped_host functions settings script) world (first_epoch terms) (first_epoch terms + round.newest)
         (finals_of terms rows) (lists_of rows) (pasts_of (length world.shards) round.past) }
+    ensures order_to { (functions : DigestFunctions) (settings : Settings) (script : List (List Task)) (world : World Content)
+        (terms : Terms) (after : List code.Content) (rows : List Row)
+        → IsTableOfRound functions settings script world terms rows → (round : IsRound terms after rows)
+        → settings.rolling ≡ true → (newest : ℕ) → newest ≤ round.newest
+        → ((worker : ℕ) → worker < terms.workers → (row_at rows worker).entered ≤ newest)
+        → HasOneOrder (shipped_host functions settings script) world (first_epoch terms) (first_epoch terms + newest)
+        (finals_of terms rows) (lists_of rows) (pasts_of (length world.shards) round.past) }
     ensures stopped { (functions : DigestFunctions) (settings : Settings) (script : List (List Task)) (world : World Content)
         (terms : Terms) (after : List code.Content) (rows : List Row)
         → IsTableOfRound functions settings script world terms rows → (round : IsRound terms after rows)
