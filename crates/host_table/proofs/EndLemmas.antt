@@ -25,7 +25,7 @@ pub told_rows : (hs : List Hand) → map row_of (map hands.row_of hs) ≡ map to
 told_rows [] = refl
 told_rows (hand ∷ hs) = ap (λ rows. told_by hand ∷ rows) (told_rows hs)
 
-row_at_phase : (rows : List round_rows.Row) (worker : ℕ) → row_at (map row_of rows) worker ≡ row_of (rounds.row_at rows worker)
+pub row_at_phase : (rows : List round_rows.Row) (worker : ℕ) → row_at (map row_of rows) worker ≡ row_of (rounds.row_at rows worker)
 row_at_phase [] worker = refl
 row_at_phase (row ∷ rows) zero = refl
 row_at_phase (row ∷ rows) (suc worker) = row_at_phase rows worker

@@ -1,5 +1,5 @@
-mod PlanLemmas
+pub mod PlanLemmas
 pub mod PhaseLaws
 mod CallLemmas
 mod AttemptLemmas
-mod EndLemmas
+pub mod EndLemmas

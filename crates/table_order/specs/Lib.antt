@@ -2,3 +2,4 @@
 pub mod Servings
 pub mod Phases
 pub mod Mirroring
+pub mod Rounds

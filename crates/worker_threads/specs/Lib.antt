@@ -1,6 +1,5 @@
 -- What the clauses on workers in threads cite, in reading order.
 pub mod Parts
-pub mod Serving
 pub mod Pairs
 pub mod Participants
 pub mod Phase
