@@ -1,5 +1,5 @@
-pub mod PlanLemmas
+pub mod PlanLaws
 pub mod PhaseLaws
 mod CallLemmas
 mod AttemptLemmas
-pub mod EndLemmas
+pub mod RoundLaws

@@ -1,3 +1,4 @@
--- How the rolling shipped host is shown to be steady, and its round to be one list of events, in reading order.
-mod ScanLemmas
+-- How the rolling shipped host is shown to be steady, its round to be one list of events, and nothing of it to be hot, in reading order.
+pub mod ScanLaws
 mod RoundLemmas
+pub mod VacantLaws

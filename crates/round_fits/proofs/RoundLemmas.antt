@@ -17,7 +17,7 @@ use Rattle.round_order.proofs.RoundLaws.{orders_round}
 use Rattle.round_order.proofs.EndLaws.{ends_rounds}
 use Rattle.round_fits.specs.Rounds.{IsToldFromSetup, IsOneRound}
 
-get-replicate : {A : Type 0} (count i : ℕ) (x : A) → get_or (replicate count x) i x ≡ x
+pub get-replicate : {A : Type 0} (count i : ℕ) (x : A) → get_or (replicate count x) i x ≡ x
 get-replicate zero i x = refl
 get-replicate (suc count) zero x = refl
 get-replicate (suc count) (suc i) x = get-replicate count i x

@@ -1,11 +1,12 @@
 -- The round of a rolling host, from its setup on, as its workers and its places tell it, and what it was.
-use Rattle.std.specs.Prelude.{◌≡◌, ℕ, ◌≤◌, ◌==◌, true, false, List}
+use Rattle.std.specs.Prelude.{◌≡◌, ℕ, suc, ◌≤◌, ◌==◌, true, false, List, get_or}
 use Rattle.std.specs.List.{AllByRecursion}
 use Rattle.lamport_clocks.specs.Clock.{last_epoch}
 use Rattle.host_core.specs.Host.{Host}
-use Rattle.host_core.specs.World.{epoch_of, set_up}
+use Rattle.host_core.specs.World.{World, shard_at, epoch_of, set_up}
 use Rattle.host_core.specs.WorldEvent.{run_events}
 use Rattle.host_order.specs.Close.{IsToClose}
+use Rattle.host_shard.specs.Content.{Content, vacant}
 use Rattle.round_order.specs.Turn.{Turn}
 use Rattle.round_order.specs.Told.{AreTold, HasOneOrder, IsWholeRound, EndsWhole, whole_events, RoundStop, IsStopTold, AreOfOthers, EndsStopped}
 
@@ -26,3 +27,11 @@ module _ {C R : Type 0} (host : Host C R) (top : ℕ) (finals : ℕ → ℕ) (li
         × IsToClose host (run_events host (set_up host) (whole_events (set_up host) finals top host.header.first lists))
     pub stopped : (list : List RoundStop) → AllByRecursion (IsStopTold host (set_up host) finals lists) list → AreOfOthers list
         → EndsStopped host (set_up host) host.header.first top finals lists pasts list
+
+-- the seats of a shard but the first are vacant
+abbrev pub AreOthersVacant : List Content → Type 0
+AreOthersVacant contents = (seat : ℕ) → get_or contents (suc seat) vacant ≡ vacant
+
+-- so are those of every shard: no record is hot
+abbrev pub HasNothingHot : World Content → Type 0
+HasNothingHot world = (s : ℕ) → AreOthersVacant (shard_at world s).contents

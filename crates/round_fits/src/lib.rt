@@ -5,4 +5,7 @@
 
 mod laws;
 
-pub use laws::{rolling_rounds_are_lists_of_events, the_rolling_host_is_steady};
+pub use laws::{
+    nothing_is_hot, rolling_rounds_are_lists_of_events, scans_are_what_the_host_does,
+    the_rolling_host_is_steady,
+};

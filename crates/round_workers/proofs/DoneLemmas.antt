@@ -15,7 +15,7 @@ use Rattle.host_epochs.specs.declared.told.Entry.{Entry}
 use Rattle.host_epochs.specs.declared.told.Stop.{Stop}
 use Rattle.host_epochs.specs.declared.views.Row.{Row}
 use Rattle.host_epochs.specs.Plays.{new_row, row_with_done, row_with_entry, row_with_epoch, row_with_stop, row_with_warning}
-use Rattle.round_workers.specs.Rounds.{turn_of, turns_of, BeginsAt}
+use Rattle.table_order.specs.Rounds.{turn_of, turns_of, BeginsAt}
 use Rattle.round_workers.specs.Parts.{request_at, AreDone, HasDoneUpTo, IsEnd, IsNext, IsNextOf}
 use Rattle.round_workers.proofs.TurnLemmas.{clock-turn, logged-epoch, logged-turn, on_to-below, on_to-next, on_to-own, served-turn}
 

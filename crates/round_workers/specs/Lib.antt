@@ -1,5 +1,4 @@
 -- What the clauses on the workers of a round cite, in reading order.
-pub mod Rounds
 pub mod Parts
 pub mod Sharing
 pub mod Working

@@ -10,7 +10,7 @@ use Rattle.host_epochs.specs.declared.told.Meeting.{Meeting}
 use Rattle.host_epochs.specs.declared.told.Stop.{Stop}
 use Rattle.host_epochs.specs.declared.views.Row.{Row}
 use Rattle.host_epochs.specs.Terms.{Terms, IsPlaceOf}
-use Rattle.round_workers.specs.Rounds.{turns_of, BeginsAt}
+use Rattle.table_order.specs.Rounds.{turns_of, BeginsAt}
 use Rattle.round_workers.specs.declared.turn.Turn.{Turn}
 
 -- ---- what is asked

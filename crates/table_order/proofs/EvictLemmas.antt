@@ -1,13 +1,15 @@
--- What a worker's services evict has rising stamps.
-use Rattle.std.proofs.Common.{◌≡◌, ℕ, suc, ◌<◌, ◌≤◌, Bool, List, [], ◌∷◌, ◌++◌, length, Option, Some, inr, refl, sym, ◌∙◌, ap, subst, arith}
+-- What a worker's entries evict has rising stamps.
+use Rattle.std.proofs.Common.{◌≡◌, ℕ, suc, ◌<◌, Bool, List, [], ◌∷◌, ◌++◌, length, Option, Some, None, inl, inr, refl, sym, ◌∙◌, ap, subst, arith}
 use Rattle.std.specs.List.{AllByRecursion}
 use Rattle.std.specs.Ordering.{is_lt}
 use Rattle.lamport_clocks.specs.declared.stamp.Stamp.{Stamp}
 use Rattle.lamport_clocks.specs.Reading.{Reading}
+use Rattle.lamport_clocks.specs.Stamp.{IsLater}
 use Rattle.lamport_clocks.proofs.StampLaws.{IsLater-cmp}
 use Rattle.record_text.specs.declared.element.Element.{Element}
 use Rattle.record_text.specs.declared.request.Request.{Request}
 use Rattle.merkle_records.specs.Merkle.{Digest}
+use Rattle.verifier_commands.proofs.TickLaws.{IsUpTo, up_to-trans}
 use Rattle.soundness.specs.Timed.{IsEarlier, IsRising}
 use Rattle.host_shard.specs.declared.link.Link.{Link}
 use Rattle.host_shard.specs.Content.{Content, cold, hot, vacant, pending, pending_hot}
@@ -15,16 +17,17 @@ use Rattle.host_shard.specs.Shard.{pending_shard}
 use Rattle.host_shard.specs.Shown.{shown_content}
 use Rattle.host_plan.specs.Plan.{AreLinks, clock_after, content_after}
 use Rattle.host_plan.specs.Request.{is_missed, served, served_hot}
+use Rattle.host_plan.specs.Moments.{renewing}
 use Rattle.host_laws.specs.Served.{waiting}
-use Rattle.host_table.specs.declared.told.Service.{Service}
-use Rattle.host_table.specs.Terms.{Terms, phase_epoch, IsStampOf}
-use Rattle.host_table.specs.Told as told
-use Rattle.table_order.specs.Mirroring.{evicted_in, AreEvictsOf}
-use Rattle.table_order.proofs.MirrorLemmas.{service_stamped}
+use Rattle.host_epochs.specs.declared.told.Entry.{Entry}
+use Rattle.host_epochs.specs.Scan.{IsStale, scanned}
+use Rattle.host_epochs.specs.Terms.{Terms}
+use Rattle.host_epochs.specs.Told.{GoesOn, IsAsked, IsWork, Continues, TakesUp}
+use Rattle.table_order.specs.RoundMirroring.{evicted_in}
 
 -- The element with which what a request leaves waits: the worker's, with the clock's last stamp, which is later than the one
 -- before.
-record IsEvictOf (worker : ℕ) (before later : Stamp) (content : Content) : Type 0 where
+pub record IsEvictOf (worker : ℕ) (before later : Stamp) (content : Content) : Type 0 where
   pub element : Element
   pub waits : pending content ≡ Some element
   pub own : element.verifier ≡ worker
@@ -53,83 +56,112 @@ evict_after absent digest worker (hot found) links request clock way = record {
 }
 evict_after absent digest worker vacant links request clock way = absurd way
 
--- of a service
-evict_of : (terms : Terms) (service : Service) → told.IsServed terms service
-    → IsEvictOf service.worker service.clock.at service.later.at (shown_content service.after)
-evict_of terms service served =
-    subst (λ (c : Content). IsEvictOf service.worker service.clock.at service.later.at c) (sym served.plan.content)
-    (subst (λ (r : Reading). IsEvictOf service.worker service.clock.at r.at
-    (content_after terms.absent terms.digest service.worker (shown_content service.before) served.plan.links service.request service.clock)) (sym served.plan.clock)
-    (evict_after terms.absent terms.digest service.worker (shown_content service.before) served.plan.links service.request service.clock served.plan.way))
+-- the same of what a scan leaves
+scan_evict : (worker : ℕ) (content : Content) (clock : Reading) → IsStale clock.at.epoch content
+    → IsEvictOf worker clock.at (clock_after content clock).at (scanned worker content clock)
+scan_evict worker (cold shard) clock stale = record {
+  element = pending_shard (record shard { stamp = (renewing clock shard.stamp).at; evictor = worker; touches = λ k. 0 });
+  waits = refl;
+  own = refl;
+  at = refl;
+  in_epoch = refl;
+  risen = omega arith;
+}
+scan_evict worker (hot found) clock stale = record {
+  element = pending_hot (record found { stamp = (renewing clock found.stamp).at; evictor = worker; touches = 0 });
+  waits = refl;
+  own = refl;
+  at = refl;
+  in_epoch = refl;
+  risen = omega arith;
+}
+scan_evict worker vacant clock stale = absurd stale
+
+-- of what an entry of a round leaves
+pub entry_evict : (terms : Terms) (entry : Entry) (request : Option Request) → IsWork terms entry request
+    → IsEvictOf entry.worker entry.clock.at entry.later.at (shown_content entry.after)
+entry_evict terms entry (Some request) work =
+    subst (λ (c : Content). IsEvictOf entry.worker entry.clock.at entry.later.at c) (sym work.plan.content)
+    (subst (λ (r : Reading). IsEvictOf entry.worker entry.clock.at r.at
+    (content_after terms.absent terms.digest entry.worker (shown_content entry.before) work.plan.links request entry.clock)) (sym work.plan.clock)
+    (evict_after terms.absent terms.digest entry.worker (shown_content entry.before) work.plan.links request entry.clock work.plan.way))
+entry_evict terms entry None work =
+    subst (λ (c : Content). IsEvictOf entry.worker entry.clock.at entry.later.at c) (sym work.content)
+    (subst (λ (r : Reading). IsEvictOf entry.worker entry.clock.at r.at (scanned entry.worker (shown_content entry.before) entry.clock)) (sym work.clock)
+    (scan_evict entry.worker (shown_content entry.before) entry.clock work.stale))
 
 -- ---- a list of them
 
+-- a stamp up to another is before what is later than that
+up_later : (s t u : Stamp) → IsUpTo s t → IsLater u t → IsLater u s
+up_later s t u (inl a) (inl b) = inl (omega (arith, a, b))
+up_later s t u (inl a) (inr b) = inl (omega (arith, a, b.0))
+up_later s t u (inr a) (inl b) = inl (omega (arith, a.0, b))
+up_later s t u (inr a) (inr b) = inr (a.0 ∙ b.0, omega (arith, a.1, b.1))
+
+-- a clock that goes on does not fall
+goes_up : (clock later : Reading) → GoesOn clock later → IsUpTo clock.at later.at
+goes_up clock later (inl same) =
+    let epoch : clock.at.epoch ≡ later.at.epoch = ap (λ (r : Reading). r.at.epoch) (sym same) in
+    let counter : clock.at.counter ≡ later.at.counter = ap (λ (r : Reading). r.at.counter) (sym same) in
+    inr (epoch, omega (arith, counter))
+goes_up clock later (inr turned) = inl turned.epoch
+
 module _ (terms : Terms) where
+  abbrev pub evict_of : (entry : Entry) → IsAsked terms entry → IsEvictOf entry.worker entry.clock.at entry.later.at (shown_content entry.after)
+  evict_of entry asked = entry_evict terms entry entry.request asked.work
+
+  -- what it evicts is later than its clock
+  evict_later : (entry : Entry) → IsAsked terms entry → IsLater entry.later.at entry.clock.at
+  evict_later entry asked = let evict = evict_of entry asked in inr (sym evict.in_epoch, evict.risen)
+
   -- one element, and then those of the others
-  first_evicted : (P : List Element → Type 0) (service : Service) (services : List Service) (served : told.IsServed terms service)
-      → P ((evict_of terms service served).element ∷ evicted_in services) → P (evicted_in (service ∷ services))
-  first_evicted P service services served holds =
-      subst (λ (found : Option Element). P (waiting found ++ evicted_in services)) (sym (evict_of terms service served).waits) holds
+  pub first_evicted : (P : List Element → Type 0) (entry : Entry) (entries : List Entry) (asked : IsAsked terms entry)
+      → P ((evict_of entry asked).element ∷ evicted_in entries) → P (evicted_in (entry ∷ entries))
+  first_evicted P entry entries asked holds =
+      subst (λ (found : Option Element). P (waiting found ++ evicted_in entries)) (sym (evict_of entry asked).waits) holds
 
-  -- as many as services
-  each_evicts : (services : List Service) → AllByRecursion (told.IsServed terms) services → length (evicted_in services) ≡ length services
-  each_evicts [] served = refl
-  each_evicts (service ∷ services) served =
-      first_evicted (λ elements. length elements ≡ suc (length services)) service services served.0 (ap suc (each_evicts services served.1))
+  -- as many as entries
+  pub each_evicts : (entries : List Entry) → AllByRecursion (IsAsked terms) entries → length (evicted_in entries) ≡ length entries
+  each_evicts [] asked = refl
+  each_evicts (entry ∷ entries) asked =
+      first_evicted (λ elements. length elements ≡ suc (length entries)) entry entries asked.0 (ap suc (each_evicts entries asked.1))
 
-  own_evicts : (worker : ℕ) (services : List Service) → AllByRecursion (told.IsServed terms) services → AllByRecursion (λ service. service.worker ≡ worker) services
-      → AllByRecursion (λ element. element.verifier ≡ worker) (evicted_in services)
-  own_evicts worker [] served own = tt
-  own_evicts worker (service ∷ services) served own =
-      first_evicted (AllByRecursion (λ element. element.verifier ≡ worker)) service services served.0
-      ((evict_of terms service served.0).own ∙ own.0, own_evicts worker services served.1 own.1)
-
-  stamped_evicts : terms.workers ≤ terms.header.verifiers → (services : List Service) → AllByRecursion (told.IsServed terms) services
-      → AllByRecursion (λ element. IsStampOf terms.header (phase_epoch terms) element.stamp element.verifier) (evicted_in services)
-  stamped_evicts few [] served = tt
-  stamped_evicts few (service ∷ services) served =
-      first_evicted (AllByRecursion (λ element. IsStampOf terms.header (phase_epoch terms) element.stamp element.verifier)) service services served.0
-      (service_stamped terms service few served.0 (evict_of terms service served.0).element (evict_of terms service served.0).waits, stamped_evicts few services served.1)
-
-  -- stamps of one epoch come by their counters
-  earlier : (s t : Stamp) → t.epoch ≡ s.epoch → s.counter < t.counter → IsEarlier s t
-  earlier s t same less = ap is_lt ((IsLater-cmp s t).0 (inr (sym same, less)))
+  pub own_evicts : (worker : ℕ) (entries : List Entry) → AllByRecursion (IsAsked terms) entries → AllByRecursion (λ entry. entry.worker ≡ worker) entries
+      → AllByRecursion (λ element. element.verifier ≡ worker) (evicted_in entries)
+  own_evicts worker [] asked own = tt
+  own_evicts worker (entry ∷ entries) asked own =
+      first_evicted (AllByRecursion (λ element. element.verifier ≡ worker)) entry entries asked.0
+      ((evict_of entry asked.0).own ∙ own.0, own_evicts worker entries asked.1 own.1)
 
   -- all that is evicted from a clock on is later than a stamp up to which it stands
-  later_evicts : (at : Stamp) (clock last : Reading) (services : List Service) → clock.at.epoch ≡ at.epoch → at.counter ≤ clock.at.counter
-      → told.Continues clock services last → AllByRecursion (told.IsServed terms) services
-      → AllByRecursion (λ element. IsEarlier at element.stamp) (evicted_in services)
-  later_evicts at clock last [] same up chained served = tt
-  later_evicts at clock last (service ∷ services) same up chained served =
-      let evict = evict_of terms service served.0 in
-      let began : service.clock.at.epoch ≡ at.epoch = ap (λ (r : Reading). r.at.epoch) chained.0 ∙ same in
-      let from : at.counter ≤ service.clock.at.counter = subst (λ (r : Reading). at.counter ≤ r.at.counter) (sym chained.0) up in
-      first_evicted (AllByRecursion (λ element. IsEarlier at element.stamp)) service services served.0 (
-        subst (IsEarlier at) (sym evict.at) (earlier at service.later.at (evict.in_epoch ∙ began) (omega (arith, from, evict.risen))),
-        later_evicts at service.later last services (evict.in_epoch ∙ began) (omega (arith, from, evict.risen)) chained.1 served.1,
+  later_evicts : (at : Stamp) (clock last : Reading) (entries : List Entry) → IsUpTo at clock.at → Continues clock entries last → AllByRecursion (IsAsked terms) entries
+      → AllByRecursion (λ element. IsEarlier at element.stamp) (evicted_in entries)
+  later_evicts at clock last [] up chained asked = tt
+  later_evicts at clock last (entry ∷ entries) up chained asked =
+      let evict = evict_of entry asked.0 in
+      let later = up_later at entry.clock.at entry.later.at (up_to-trans at clock.at entry.clock.at up (goes_up clock entry.clock chained.0)) (evict_later entry asked.0) in
+      first_evicted (AllByRecursion (λ element. IsEarlier at element.stamp)) entry entries asked.0 (
+        subst (IsEarlier at) (sym evict.at) (ap is_lt ((IsLater-cmp at entry.later.at).0 later)),
+        later_evicts at entry.later last entries (later_up at entry.later.at later) chained.1 asked.1,
       )
+    where
+      later_up : (s t : Stamp) → IsLater t s → IsUpTo s t
+      later_up s t (inl a) = inl a
+      later_up s t (inr a) = inr (a.0, omega (arith, a.1))
 
   -- What is evicted from a clock on rises.
-  rising_evicts : (clock last : Reading) (services : List Service) → told.Continues clock services last → AllByRecursion (told.IsServed terms) services
-      → IsRising (evicted_in services)
-  rising_evicts clock last [] chained served = tt
-  rising_evicts clock last (service ∷ services) chained served =
-      let evict = evict_of terms service served.0 in
-      first_evicted IsRising service services served.0 (
-        subst (λ (s : Stamp). AllByRecursion (λ element. IsEarlier s element.stamp) (evicted_in services)) (sym evict.at)
-            (later_evicts service.later.at service.later last services refl (omega arith) chained.1 served.1),
-        rising_evicts service.later last services chained.1 served.1,
+  rising_evicts : (clock last : Reading) (entries : List Entry) → Continues clock entries last → AllByRecursion (IsAsked terms) entries → IsRising (evicted_in entries)
+  rising_evicts clock last [] chained asked = tt
+  rising_evicts clock last (entry ∷ entries) chained asked =
+      let evict = evict_of entry asked.0 in
+      first_evicted IsRising entry entries asked.0 (
+        subst (λ (s : Stamp). AllByRecursion (λ element. IsEarlier s element.stamp) (evicted_in entries)) (sym evict.at)
+            (later_evicts entry.later.at entry.later last entries (inr (refl, omega arith)) chained.1 asked.1),
+        rising_evicts entry.later last entries chained.1 asked.1,
       )
 
-  -- What a worker's list evicts is the worker's, and rises.
-  pub list_evicts : terms.workers ≤ terms.header.verifiers → (worker : ℕ) (services : List Service) → told.IsListOf terms worker services → AreEvictsOf terms worker services
-  list_evicts few worker services list = record {
-    each = each_evicts services list.served;
-    own = own_evicts worker services list.served list.own;
-    stamped = stamped_evicts few services list.served;
-    rising = go services list.served list.chained;
-  }
-    where
-      go : (xs : List Service) → AllByRecursion (told.IsServed terms) xs → told.TakesUp xs list.last → IsRising (evicted_in xs)
-      go [] served chained = tt
-      go (service ∷ xs) served chained = rising_evicts service.clock list.last (service ∷ xs) (refl, chained) served
+  -- Behind a worker's first clock they rise.
+  pub list_rises : (last : Reading) (entries : List Entry) → TakesUp terms entries last → AllByRecursion (IsAsked terms) entries → IsRising (evicted_in entries)
+  list_rises last [] takes asked = tt
+  list_rises last (entry ∷ entries) takes asked = rising_evicts entry.clock last (entry ∷ entries) (inl refl, takes) asked

@@ -1,5 +1,5 @@
 -- A table that is made of a world's places is made of contents that mirror.
-use Rattle.std.proofs.Common.{◌≡◌, ◌⊎◌, ℕ, zero, suc, ◌+◌, ◌*◌, ◌/◌, ◌%◌, ◌^◌, ◌<◌, ◌≤◌, Bool, List, ◌∷◌, length, take, drop, get_or, inl, inr, refl, sym, ◌∙◌, ap, subst, arith}
+use Rattle.std.proofs.Common.{◌≡◌, ℕ, zero, suc, ◌+◌, ◌*◌, ◌/◌, ◌%◌, ◌^◌, ◌<◌, Bool, List, ◌∷◌, length, take, drop, get_or, refl, sym, ◌∙◌, ap, subst, arith}
 use Rattle.std.proofs.lemmas.List.{ext_get_or, get_or-drop, get_or-take, length-map, length-take, length-drop}
 use Rattle.std.proofs.Math.ListN.{get_or-map}
 use Rattle.tree_keys.specs.Path.{key_bits}
@@ -41,7 +41,7 @@ module _ (longest : ℕ) (digest : Digest) (seats : List Content) (mirrors : Sea
   hot_place k (hot found) is = one_of-all (λ r. IsBlob longest r.value) (hot_records mirrors.places) found mirrors.blobs (hot_there mirrors.places k found is)
   hot_place k vacant is = tt
 
-  seat_of_shard : (seat : ℕ) → ContentMirrors longest digest (hot_paths mirrors.places) (get_or (cold mirrors.shard ∷ mirrors.places) seat vacant)
+  pub seat_of_shard : (seat : ℕ) → ContentMirrors longest digest (hot_paths mirrors.places) (get_or (cold mirrors.shard ∷ mirrors.places) seat vacant)
   seat_of_shard zero = mirrors.mirrored
   seat_of_shard (suc k) = hot_place k (get_or mirrors.places k vacant) refl
 

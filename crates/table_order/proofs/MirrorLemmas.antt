@@ -1,35 +1,39 @@
--- What a history makes of a content that mirrors, mirrors and is stamped in the phase.
-use Rattle.std.proofs.Common.{◌≡◌, ◌⊎◌, ℕ, zero, suc, ◌+◌, ◌*◌, ◌/◌, ◌^◌, ◌<◌, ◌≤◌, Bool, List, [], ◌∷◌, length, map, take, drop, get_or, inl, inr, refl, sym, ◌∙◌, ap, subst, arith}
+-- What a history makes of a content that mirrors, mirrors and is stamped in an epoch that may be entered.
+use Rattle.std.proofs.Common.{◌≡◌, ◌⊎◌, ℕ, zero, suc, ◌+◌, ◌*◌, ◌/◌, ◌^◌, ◌<◌, ◌≤◌, Bool, List, [], ◌∷◌, length, map, take, drop, get_or, Option, Some, None, inl, inr, refl, sym, ◌∙◌, ap, subst, arith}
 use Rattle.std.proofs.lemmas.Bool.{cases_lt}
 use Rattle.std.proofs.lemmas.List.{get_or-drop, get_or-take, get_or_past, length-take}
-use Rattle.std.proofs.lemmas.Option.{none-some, same_Some}
+use Rattle.std.proofs.lemmas.Option.{same_Some}
 use Rattle.tree_keys.specs.Path.{key_bits, key_path}
 use Rattle.tree_keys.proofs.TreeLaws.{key_path-injective}
 use Rattle.lamport_clocks.specs.Reading.{Reading}
-use Rattle.lamport_clocks.specs.declared.header.Header.{Header}
+use Rattle.lamport_clocks.specs.declared.stamp.Stamp.{Stamp}
 use Rattle.record_text.specs.declared.element.Element.{Element}
 use Rattle.record_text.specs.declared.request.Request.{Request}
 use Rattle.record_text.specs.Tree.{wide_of}
 use Rattle.record_text.specs.Longest.{longest_blob, longest_of}
-use Rattle.merkle_records.specs.Merkle.{Digest}
 use Rattle.host_shard.specs.declared.content.Content as code
 use Rattle.host_shard.specs.declared.content.Content.TheVariants.{Cold, Hot, Vacant}
 use Rattle.host_shard.specs.declared.content.HotRecord.{HotRecord}
-use Rattle.host_shard.specs.declared.link.Link.{Link}
-use Rattle.host_shard.specs.Content.{hot_path, Content, cold, hot, vacant}
+use Rattle.host_shard.specs.Content.{hot_path, Content, hot}
 use Rattle.host_shard.specs.Shown.{shown, shown_content}
 use Rattle.host_shard.specs.Shard.{key_path_in, wide_in}
-use Rattle.host_plan.specs.Plan.{clock_after, content_after}
+use Rattle.host_plan.specs.Plan.{clock_after}
 use Rattle.host_laws.specs.Mirroring.{ContentMirrors, IsCold}
 use Rattle.host_laws.proofs.MirrorLaws.{plan_mirrors}
 use Rattle.protection_moves.specs.Stage.{hot_records}
 use Rattle.move_laws.specs.Stages.{IsOne}
 use Rattle.move_laws.proofs.VacantLaws.{among-member, member-one}
-use Rattle.host_table.specs.declared.told.Service.{Service}
-use Rattle.host_table.specs.Terms.{Terms, place_count, first_at, places_each, phase_epoch, IsPlaceOf, IsStampOf, IsStamped}
-use Rattle.host_table.specs.Told as told
-use Rattle.table_order.specs.Mirroring.{hot_keys_at, shard_at_making, IsOfTree, MirrorsAtMaking, AreInRange, MirrorsAt}
+use Rattle.host_epochs.specs.declared.told.Entry.{Entry}
+use Rattle.host_epochs.specs.Terms.{Terms, place_count, first_at, places_each, IsClockOf, IsPlaceOf}
+use Rattle.host_epochs.specs.Told as told
+use Rattle.host_epochs.proofs.WorkLaws.{later_is}
+use Rattle.host_table.specs.Terms as phase
+use Rattle.host_table.specs.Terms.{phase_of}
+use Rattle.table_order.specs.Mirroring.{hot_keys_at, shard_at_making, IsOfTree, MirrorsAtMaking}
+use Rattle.table_order.specs.RoundMirroring.{IsAskInRange, AreAsksInRange, IsStampIn, IsStampedIn, MirrorsIn}
 use Rattle.table_order.proofs.PastLemmas.{IsStill, still, owns_still, cold_still, still_after}
+use Rattle.table_order.proofs.RoundPastLemmas.{not_less, still_scanned, scanned_mirrors}
+use Rattle.table_order.proofs.EvictLemmas.{IsEvictOf, entry_evict}
 
 -- ---- hot keys
 
@@ -43,8 +47,8 @@ hot_in (Hot first ∷ contents) found (inr is) = let rest = hot_in contents foun
 hot_in (Vacant ∷ contents) found is = let rest = hot_in contents found is in (suc rest.0, omega (arith, rest.1), rest.2)
 
 -- of those of a place's shard
-hot_of_shard : (terms : Terms) (place : ℕ) (found : HotRecord) → IsOne (hot_records (shard_at_making terms place)) found
-    → (other : ℕ) × (other / places_each ≡ place / places_each) × (first_at terms other ≡ Hot found)
+hot_of_shard : (terms : phase.Terms) (place : ℕ) (found : HotRecord) → IsOne (hot_records (shard_at_making terms place)) found
+    → (other : ℕ) × (other / places_each ≡ place / places_each) × (phase.first_at terms other ≡ Hot found)
 hot_of_shard terms place found is = (start + here.0, omega (arith, few), there)
   where
     start : ℕ
@@ -70,21 +74,21 @@ no_hot : (shard : _) (found : HotRecord) → Cold shard ≡ Hot found → ⊥
 no_hot shard found is = cc
 
 -- a key that a place serves is none of its shard's hot keys, where it has the shard
-pub cold_at : (terms : Terms) (place key : ℕ) → MirrorsAtMaking terms → key < 2 ^ key_bits (wide_of terms.header) → IsPlaceOf terms place key
-    → IsCold (hot_keys_at terms place) (shown_content (first_at terms place)) key
-cold_at terms place key made small at = go (first_at terms place) refl
+cold_at : (terms : phase.Terms) (place key : ℕ) → MirrorsAtMaking terms → key < 2 ^ key_bits (wide_of terms.header) → phase.IsPlaceOf terms place key
+    → IsCold (hot_keys_at terms place) (shown_content (phase.first_at terms place)) key
+cold_at terms place key made small at = go (phase.first_at terms place) refl
   where
     no_vacant : (found : HotRecord) → Vacant ≡ Hot found → ⊥
     no_vacant found is = cc
 
-    hot_tree : (other : ℕ) (found : HotRecord) → first_at terms other ≡ Hot found → IsOfTree (wide_of terms.header) (hot found)
-    hot_tree other found is = within (cases_lt other (place_count terms))
+    hot_tree : (other : ℕ) (found : HotRecord) → phase.first_at terms other ≡ Hot found → IsOfTree (wide_of terms.header) (hot found)
+    hot_tree other found is = within (cases_lt other (phase.place_count terms))
       where
-        within : (other < place_count terms) ⊎ (place_count terms ≤ other) → IsOfTree (wide_of terms.header) (hot found)
+        within : (other < phase.place_count terms) ⊎ (phase.place_count terms ≤ other) → IsOfTree (wide_of terms.header) (hot found)
         within (inl there) = subst (λ (c : code.Content). IsOfTree (wide_of terms.header) (shown_content c)) is (made.of_tree other there)
         within (inr past) = absurd (no_vacant found (sym (get_or_past terms.contents other Vacant past) ∙ is))
 
-    go : (content : code.Content) → first_at terms place ≡ content → IsCold (hot_keys_at terms place) (shown_content content) key
+    go : (content : code.Content) → phase.first_at terms place ≡ content → IsCold (hot_keys_at terms place) (shown_content content) key
     go (Cold shard) is = λ among.
         let path = key_path_in (shown shard) key in
         let found = member-one hot_path (hot_records (shard_at_making terms place)) path (among-member (hot_keys_at terms place) path among) in
@@ -92,80 +96,97 @@ cold_at terms place key made small at = go (first_at terms place) refl
         let tree = subst (λ (c : code.Content). IsOfTree (wide_of terms.header) (shown_content c)) is (made.of_tree place at.there) in
         let same = same_key (wide_of terms.header) (wide_in (shown shard)) key found.0 tree small (hot_tree other.0 found.0 other.2) found.2 in
         let here : other.0 ≡ place = at.cold other.0 found.0 other.1 other.2 (sym same) in
-        no_hot shard found.0 (sym is ∙ ap (first_at terms) (sym here) ∙ other.2)
+        no_hot shard found.0 (sym is ∙ ap (phase.first_at terms) (sym here) ∙ other.2)
     go (Hot found) is = tt
     go Vacant is = tt
 
 -- ---- stamps
 
--- what comes of a request is stamped by its worker, in the clock's epoch, with the clock's last counter
-after_stamped : (absent : Bool) (header : Header) (epoch : ℕ) (digest : Digest) (worker : ℕ) (content : Content) (links : List Link) (request : Request) (clock : Reading)
-    → worker < header.verifiers → clock.at.epoch ≡ epoch → (clock_after content clock).at.counter ≤ header.end
-    → IsStamped header epoch (content_after absent digest worker content links request clock)
-after_stamped absent header epoch digest worker (cold shard) links request clock known in_epoch within element is =
-    subst (λ (e : Element). IsStampOf header epoch e.stamp e.verifier) (same_Some _ element is)
-    (record { verifier = known; epoch_is = in_epoch; counter = within })
-after_stamped absent header epoch digest worker (hot found) links request clock known in_epoch within element is =
-    subst (λ (e : Element). IsStampOf header epoch e.stamp e.verifier) (same_Some _ element is)
-    (record { verifier = known; epoch_is = in_epoch; counter = within })
-after_stamped absent header epoch digest worker vacant links request clock known in_epoch within element is = absurd (none-some element is)
+-- an element by a verifier of the bundle, of the clock's epoch and with its last counter
+element_stamped : (terms : Terms) (worker : ℕ) (before last : Reading) (element : Element) → worker < terms.header.verifiers → IsClockOf terms before
+    → last.at.epoch ≡ before.at.epoch → last.at.counter ≤ before.end → element.stamp ≡ last.at → element.verifier ≡ worker → IsStampIn terms element.stamp element.verifier
+element_stamped terms worker before last element known clock same within at own =
+    subst (λ (e : Stamp × ℕ). IsStampIn terms e.0 e.1) (λ k. (sym at k, sym own k)) (record {
+      verifier = known;
+      from = let from = clock.from in omega (arith, same, from);
+      to = let to = clock.to in omega (arith, same, to);
+      counter = let end = clock.end in omega (arith, within, end);
+    })
 
--- so is what a service leaves
-pub service_stamped : (terms : Terms) (service : Service) → terms.workers ≤ terms.header.verifiers → told.IsServed terms service
-    → IsStamped terms.header (phase_epoch terms) (shown_content service.after)
-service_stamped terms service few served =
-    subst (IsStamped terms.header (phase_epoch terms)) (sym served.plan.content)
-    (after_stamped terms.absent terms.header (phase_epoch terms) terms.digest service.worker (shown_content service.before) served.plan.links service.request service.clock
-    (omega (arith, served.by, few)) served.clock.epoch (go (cases_lt service.clock.end (clock_after (shown_content service.before) service.clock).at.counter)))
+-- The element that an entry leaves is stamped by its worker, in its clock's epoch, with its last counter.
+pub entry_stamped : (terms : Terms) (entry : Entry) → terms.workers ≤ terms.header.verifiers → told.IsAsked terms entry → IsStampedIn terms (shown_content entry.after)
+entry_stamped terms entry few asked element waits =
+    element_stamped terms entry.worker entry.clock entry.later element (omega (arith, asked.by, few)) asked.clock evict.in_epoch
+    (subst (λ (r : Reading). r.at.counter ≤ entry.clock.end) (sym (later_is terms entry entry.request asked.work))
+    (not_less entry.clock.end (clock_after (shown_content entry.before) entry.clock).at.counter asked.within))
+    (ap (λ (e : Element). e.stamp) (sym same) ∙ evict.at) (ap (λ (e : Element). e.verifier) (sym same) ∙ evict.own)
   where
-    go : (service.clock.end < (clock_after (shown_content service.before) service.clock).at.counter)
-        ⊎ ((clock_after (shown_content service.before) service.clock).at.counter ≤ service.clock.end)
-        → (clock_after (shown_content service.before) service.clock).at.counter ≤ terms.header.end
-    go (inl past) = absurd (served.within past)
-    go (inr less) = omega (arith, less, served.clock.end)
+    evict : IsEvictOf entry.worker entry.clock.at entry.later.at (shown_content entry.after)
+    evict = entry_evict terms entry entry.request asked.work
+
+    same : evict.element ≡ element
+    same = same_Some evict.element element (sym evict.waits ∙ waits)
 
 -- ---- histories
 
-module _ (terms : Terms) (made : MirrorsAtMaking terms) (place : ℕ) (there : place < place_count terms) where
+-- each entry takes up the content that the one before it left, as it is asked
+abbrev pub Follows : Terms → ℕ → code.Content → List Entry → code.Content → Type 0
+Follows terms place x [] y = told.IsSame x y
+Follows terms place x (entry ∷ entries) y =
+    (entry.place ≡ place) × told.IsSame x entry.before × told.IsAsked terms entry × Follows terms place entry.after entries y
+
+pub leads_follow : (terms : Terms) (place : ℕ) (x : code.Content) (entries : List Entry) (y : code.Content) → told.Leads terms place x entries y → Follows terms place x entries y
+leads_follow terms place x [] y leads = leads
+leads_follow terms place x (entry ∷ entries) y leads = (leads.0, leads.1, leads.2.asked, leads_follow terms place entry.after entries y leads.3)
+
+module _ (terms : Terms) (made : MirrorsAtMaking (phase_of terms)) (place : ℕ) (there : place < place_count terms) where
   abbrev first : Content
   first = shown_content (first_at terms place)
 
-  led_from : (x y : code.Content) (services : List Service) → IsStill first (shown_content x) → MirrorsAt terms place x
-      → told.Leads terms place x services y → AreInRange terms services → MirrorsAt terms place y
-  led_from x y [] still_there fits leads small = record {
-    mirrors = subst (ContentMirrors (longest_of terms.header) terms.digest (hot_keys_at terms place)) (sym leads) fits.mirrors;
-    stamped = subst (IsStamped terms.header (phase_epoch terms)) (sym leads) fits.stamped;
-  }
-  led_from x y (service ∷ services) still_there fits leads small =
-      led_from service.after y services still_behind (record {
-        mirrors = mirrors_behind;
-        stamped = service_stamped terms service made.making.few leads.2;
-      }) leads.3 small.1
+  abbrev Mirrored : Content → Type 0
+  Mirrored content = ContentMirrors (longest_of terms.header) terms.digest (hot_keys_at (phase_of terms) place) content
+
+  -- it is still of the same shard or key, and mirrors
+  abbrev IsStillMirrored : Content → Type 0
+  IsStillMirrored content = IsStill first content × Mirrored content
+
+  behind_entry : (entry : Entry) (request : Option Request) → entry.place ≡ place → told.IsWork terms entry request → IsAskInRange terms.header request
+      → IsStillMirrored (shown_content entry.before) → IsStillMirrored (shown_content entry.after)
+  behind_entry entry None at scan small before = (
+    subst (IsStill first) (sym scan.content) (still_scanned entry.worker first (shown_content entry.before) entry.clock before.0),
+    subst Mirrored (sym scan.content)
+        (scanned_mirrors (longest_of terms.header) terms.digest (hot_keys_at (phase_of terms) place) entry.worker (shown_content entry.before) entry.clock before.1),
+  )
+  behind_entry entry (Some request) at service small before = (
+    subst (IsStill first) (sym service.plan.content)
+        (still_after terms.absent terms.digest entry.worker first (shown_content entry.before) service.plan.links request entry.clock before.0),
+    plan_mirrors terms.absent (longest_of terms.header) terms.digest entry.worker (hot_keys_at (phase_of terms) place) (shown_content entry.before) (shown_content entry.after) request
+        entry.clock entry.later entry.plan made.digests small.1 before.1
+        (owns_still (longest_of terms.header) longest_blob terms.digest (hot_keys_at (phase_of terms) place) first (shown_content entry.before) request.key before.0 before.1 is_at.owns)
+        (cold_still (hot_keys_at (phase_of terms) place) first (shown_content entry.before) request.key before.0 (cold_at (phase_of terms) place request.key made small.0 is_at))
+        service.plan,
+  )
     where
-      before : Content
-      before = shown_content service.before
+      is_at : IsPlaceOf terms place request.key
+      is_at = subst (λ (n : ℕ). IsPlaceOf terms n request.key) at service.at
 
-      at : IsPlaceOf terms place service.request.key
-      at = subst (λ (n : ℕ). IsPlaceOf terms n service.request.key) leads.0 leads.2.at
-
-      still_before : IsStill first before
-      still_before = subst (IsStill first) (sym leads.1) still_there
-
-      mirrors_before : ContentMirrors (longest_of terms.header) terms.digest (hot_keys_at terms place) before
-      mirrors_before = subst (ContentMirrors (longest_of terms.header) terms.digest (hot_keys_at terms place)) (sym leads.1) fits.mirrors
-
-      still_behind : IsStill first (shown_content service.after)
-      still_behind = subst (IsStill first) (sym leads.2.plan.content)
-          (still_after terms.absent terms.digest service.worker first before leads.2.plan.links service.request service.clock still_before)
-
-      mirrors_behind : ContentMirrors (longest_of terms.header) terms.digest (hot_keys_at terms place) (shown_content service.after)
-      mirrors_behind = plan_mirrors terms.absent (longest_of terms.header) terms.digest service.worker (hot_keys_at terms place) before (shown_content service.after) service.request
-          service.clock service.later service.plan made.digests small.0.1 mirrors_before
-          (owns_still (longest_of terms.header) longest_blob terms.digest (hot_keys_at terms place) first before service.request.key still_before mirrors_before at.owns)
-          (cold_still (hot_keys_at terms place) first before service.request.key still_before (cold_at terms place service.request.key made small.0.0 at))
-          leads.2.plan
+  led_from : (x y : code.Content) (entries : List Entry) → IsStillMirrored (shown_content x) → IsStampedIn terms (shown_content x)
+      → Follows terms place x entries y → AreAsksInRange terms entries → MirrorsIn terms place y
+  led_from x y [] is stamped follows small = record {
+    mirrors = subst Mirrored (sym follows) is.1;
+    stamped = subst (IsStampedIn terms) (sym follows) stamped;
+  }
+  led_from x y (entry ∷ entries) is stamped follows small =
+      led_from entry.after y entries
+      (behind_entry entry entry.request follows.0 follows.2.work small.0 (subst IsStillMirrored (sym follows.1) is))
+      (entry_stamped terms entry made.making.few follows.2) follows.3 small.1
 
   -- What a place's history makes of its first content mirrors, as that does.
-  pub led : (y : code.Content) (services : List Service) → told.Leads terms place (first_at terms place) services y → AreInRange terms services → MirrorsAt terms place y
-  led y services leads small = led_from (first_at terms place) y services (still first)
-      (record { mirrors = made.mirrors place there; stamped = made.making.stamped place there }) leads small
+  pub led : (y : code.Content) (entries : List Entry) → Follows terms place (first_at terms place) entries y → AreAsksInRange terms entries → MirrorsIn terms place y
+  led y entries follows small = led_from (first_at terms place) y entries (still first, made.mirrors place there) first_stamped follows small
+    where
+      first_stamped : IsStampedIn terms first
+      first_stamped element waits =
+          let is = made.making.stamped place there element waits in
+          let epoch = is.epoch_is in
+          record { verifier = is.verifier; from = omega (arith, epoch); to = omega (arith, epoch); counter = is.counter }

@@ -52,7 +52,7 @@ use Rattle.worker_threads.specs.Phase.{numbered, AreAsked, IsPlaceFor, IsServedA
 use Rattle.worker_threads.specs.Participants.{AreToServe, HaveServed}
 use Rattle.worker_threads.proofs.FilledLemmas.{filled_again, filled_count}
 use Rattle.worker_threads.proofs.PlainLemmas.{has_done_plain}
-use Rattle.worker_threads.proofs.RoundLemmas.{round_phase, row_at_phase}
+use Rattle.host_table.proofs.RoundLaws.{round_phase, row_at_phase}
 
 -- ---- what is asked
 

@@ -25,7 +25,7 @@ use Rattle.host_table.specs.declared.told.Stop.{Stop}
 use Rattle.host_table.specs.declared.views.Row.{Row}
 use Rattle.host_table.specs.Services.{end_at, end_of, request_in, row_of, service_of, services_of, stop_of}
 use Rattle.table_order.specs.Phases.{first_clock}
-use Rattle.round_workers.specs.Rounds.{turns_of, BeginsAt}
+use Rattle.table_order.specs.Rounds.{turns_of, BeginsAt}
 use Rattle.round_workers.specs.Parts as parts
 use Rattle.worker_threads.specs.Parts.{commands_of, last_clock, AreDone, HasDone}
 use Rattle.worker_threads.specs.Phase.{numbered}

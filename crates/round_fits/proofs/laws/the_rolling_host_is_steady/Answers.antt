@@ -1,4 +1,4 @@
-use Rattle.round_fits.proofs.ScanLemmas.{is_steady}
+use Rattle.round_fits.proofs.ScanLaws.{is_steady}
 use Rattle.round_fits.proofs.laws.the_rolling_host_is_steady.Goals as goal
 
 pub returns : goal.returns

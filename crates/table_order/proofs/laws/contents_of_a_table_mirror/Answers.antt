@@ -1,5 +1,4 @@
-use Rattle.table_order.proofs.MirrorLemmas.{led}
-use Rattle.table_order.proofs.KeptLemmas.{home_mirrors, hand_mirrors, desk_evicts}
+use Rattle.table_order.proofs.PhaseMirrorLemmas.{led, home_mirrors, hand_mirrors, desk_evicts}
 use Rattle.table_order.proofs.laws.contents_of_a_table_mirror.Goals as goal
 
 pub returns : goal.returns

@@ -4,7 +4,7 @@ use Rattle.host_epochs.specs.Table as rounds
 use Rattle.host_table.specs.declared.views.Row.{Row}
 use Rattle.host_table.specs.Phase.{IsPhase}
 use Rattle.host_table.specs.Table.{terms}
-use Rattle.host_table.proofs.EndLemmas.{round_phase, told_rows}
+use Rattle.host_table.proofs.RoundLaws.{round_phase, told_rows}
 use Rattle.host_table.proofs.records.Records.close.Goals as goal
 
 pub returns : goal.returns

@@ -15,12 +15,13 @@ use Rattle.host_core.specs.Deeds.{pending_of}
 use Rattle.host_shard.specs.declared.content.HotRecord.{HotRecord}
 use Rattle.host_shard.specs.Shard.{Shard, pending_shard}
 use Rattle.host_shard.specs.Content.{Content, cold, hot, vacant}
-use Rattle.host_plan.specs.Moments.{taking, renewing}
+use Rattle.host_plan.specs.Moments.{taking, giving, renewing}
+use Rattle.host_plan.specs.Visit.{between}
 use Rattle.protection_moves.specs.Stage.{Stage, hot_records, is_touched, by_key, touched_in, untouched_in, vacancies}
-use Rattle.protection_moves.specs.Renewing.{renewed_places, renewing_each}
-use Rattle.protection_moves.specs.Transfer.{demotes, promotes, transfers_of, clock_needed}
-use Rattle.protection_moves.specs.Descent.{Descent}
-use Rattle.protection_moves.specs.Move.{begun, handed_out, moved}
+use Rattle.protection_moves.specs.Renewing.{renewed_places, renewing_each, renewing_commands}
+use Rattle.protection_moves.specs.Transfer.{Transfer, demotes, promotes, transfers_of, clock_by_each, clock_needed}
+use Rattle.protection_moves.specs.Descent.{Descent, commands_by_each}
+use Rattle.protection_moves.specs.Move.{begun, handed_out, moved, move_commands}
 use Rattle.shipped_host.specs.declared.settings.Settings.{Settings}
 use Rattle.shipped_host.specs.Moving.{descents_for, descents_of, done_with, seats_of}
 use Rattle.shipped_host.specs.Promotable.{promotable_in}
@@ -29,7 +30,7 @@ use Rattle.host_order.specs.Steady as plain
 use Rattle.round_order.specs.Steady.{HasOne, MovesOn, scanned_done, IsSteady}
 
 -- what is done where there is room
-some_of : {X : Type 0} (b : Bool) (x y : X) → ◌≡◌ {A = Option X} (if b then None else Some x) (Some y) → x ≡ y
+pub some_of : {X : Type 0} (b : Bool) (x y : X) → ◌≡◌ {A = Option X} (if b then None else Some x) (Some y) → x ≡ y
 some_of true x y is = absurd (none-some y is)
 some_of false x y is = same_Some x y is
 
@@ -89,6 +90,24 @@ module _ (functions : DigestFunctions) (settings : Settings) (script : List (Lis
 
     moved_is : moved functions.digest i stage (descents_of functions.digest i stage promotable) ≡ record { shard = scanned; places = others; clock = renewing clock shard.stamp }
     moved_is = ap (λ (descents : List Descent). moved functions.digest i stage descents) no_descents ∙ ap (handed_out i) begun_is
+
+    needed_is : clock_needed stage promotable ≡ renewing clock shard.stamp
+    needed_is =
+        ap (λ (touched : List HotRecord). giving (clock_by_each (taking (renewing_each clock touched) shard.stamp) (transfers_of stage promotable))) none_touched
+        ∙ ap (λ (transfers : List Transfer). giving (clock_by_each (taking clock shard.stamp) transfers)) no_transfers
+
+    commands_are : move_commands functions.digest i stage (descents_of functions.digest i stage promotable) ≡ between (pending_shard shard) (renewing clock shard.stamp).at []
+    commands_are =
+        ap (λ (touched : List HotRecord). renewing_commands clock touched
+        ++ between (pending_shard shard) (moved functions.digest i stage (descents_of functions.digest i stage promotable)).clock.at
+        (commands_by_each functions.digest i (begun i stage) (descents_of functions.digest i stage promotable))) none_touched
+        ∙ (λ k. between (pending_shard shard) (moved_is k).clock.at (commands_by_each functions.digest i (begun i stage) (no_descents k)))
+
+    -- The move takes the shard's element in and hands it out again, where the counters do not end.
+    pub cold_move : (s : ℕ) → host.move i clock s (cold shard ∷ others)
+        ≡ (if nat_lt clock.end (renewing clock shard.stamp).at.counter then None
+        else Some (scanned_done others (record { commands = between (pending_shard shard) (renewing clock shard.stamp).at []; after = cold scanned; clock = renewing clock shard.stamp })))
+    cold_move s = λ k. if nat_lt clock.end (needed_is k).at.counter then None else Some (record { commands = commands_are k; after = seats_of (moved_is k); clock = (moved_is k).clock })
 
     module _ (s : ℕ) (done : Done Content) (is : host.move i clock s (cold shard ∷ others) ≡ Some (scanned_done others done)) where
       done_is : done_with functions.digest i stage (descents_of functions.digest i stage promotable) ≡ scanned_done others done
