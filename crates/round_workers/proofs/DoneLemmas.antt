@@ -75,9 +75,9 @@ module _ (first more : ℕ) (asked : List (ℕ × Request)) (row : Row) (start n
           from ∙ on_to-own final start.clock now.clock (has.clock ∙ ap (λ (entries : List Entry). on_to final (clock_behind start.clock (turns_of entries))) none') here
               ∙ ap (λ (c : Reading). on_to c.at.epoch start.clock) (sym from),
           (let below = on_to-below final (clock_behind start.clock (turns_of row.list)) (ap (λ (c : Reading). c.at.epoch) (sym has.clock) ∙ here) in
-          let same : start.clock.at.epoch ≡ (clock_behind start.clock (turns_of row.list)).at.epoch =
-          ap (λ (entries : List Entry). (clock_behind start.clock (turns_of entries)).at.epoch) (sym none') in
-          omega (arith, below, same, at)),
+              let same : start.clock.at.epoch ≡ (clock_behind start.clock (turns_of row.list)).at.epoch =
+              ap (λ (entries : List Entry). (clock_behind start.clock (turns_of entries)).at.epoch) (sym none') in
+              omega (arith, below, same, at)),
         )) has.begins;
         log =
             log ∙ ap (λ (commands : List Command). commands ++ entry.plan.commands) has.log

@@ -4,7 +4,6 @@ mod TurnLemmas
 mod DoneLemmas
 mod ColdLemmas
 mod HandLemmas
-mod PlanLemmas
 mod WorkLemmas
 mod SendLemmas
 mod PartLemmas

@@ -144,7 +144,6 @@ pub holds_ok : {X E P : Type 0} (answer : Result X E) → P → OnOk answer P
 holds_ok (Ok x) holds = holds
 holds_ok (Err e) holds = tt
 
-
 pub ok_then : {X E P Q : Type 0} (answer : Result X E) → (P → Q) → OnOk answer P → OnOk answer Q
 ok_then (Ok x) then holds = then holds
 ok_then (Err e) then holds = tt

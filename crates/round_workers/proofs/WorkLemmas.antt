@@ -20,7 +20,7 @@ use Rattle.host_epochs.specs.Scan.{scan_commands}
 use Rattle.host_epochs.specs.Terms.{Terms, IsClockOf, IsPlaceOf, Waits, first_epoch}
 use Rattle.host_epochs.specs.Told.{IsClockBehind, IsDone, IsWork}
 use Rattle.round_workers.specs.Sharing.{MayGoOn}
-use Rattle.round_workers.proofs.PlanLemmas.{plan_one}
+use Rattle.host_table.proofs.PlanLaws.{plan_one}
 
 -- In a later epoch than that of the making a clock is behind its first.
 pub clock_later : (terms : Terms) (clock : Reading) (entered : ℕ) → IsClockOf terms clock → clock.at.epoch ≡ first_epoch terms + entered

@@ -26,10 +26,7 @@ use std::sync::Wait;
 impl WorkerThread {
     /// Enters the next epoch and logs that, where it may be entered: the answer says so. It may where what the worker holds is of that
     /// epoch.
-    pub(crate) fn enter<D: Digests>(
-        &mut self,
-        shared: &SharedRound<'_, D>,
-    ) -> Result<bool, Memory>
+    pub(crate) fn enter<D: Digests>(&mut self, shared: &SharedRound<'_, D>) -> Result<bool, Memory>
         requires seated { IsSeated (table shared.now.epochs.now) self.old.hand }
         requires going { IsRunning (terms D.functions shared.now.epochs.now) self.old }
         requires sends { IsSending self.old }

@@ -25,4 +25,3 @@ mod worker_thread;
 pub use shared_round::SharedRound;
 pub use turn::Turn;
 pub use worker_thread::WorkerThread;
-

@@ -170,11 +170,22 @@ impl WorkerThread {
         let number = self.hand.worker();
         let clock = &mut self.worker.clock;
         a_blob_has_at_most_255_bytes(&request.value);
-        match plan(shared.alloc, shared.d, &mut content, request, number, clock, shared.absent) {
+        match plan(
+            shared.alloc,
+            shared.d,
+            &mut content,
+            request,
+            number,
+            clock,
+            shared.absent,
+        ) {
             Ok(plan) => {
-                shared
-                    .epochs
-                    .give(&mut self.hand, place, content, Some((before, Some(request))));
+                shared.epochs.give(
+                    &mut self.hand,
+                    place,
+                    content,
+                    Some((before, Some(request))),
+                );
                 self.worker.log.push(plan.commands);
                 self.worker.served += 1;
                 Ok(true)

@@ -12,7 +12,6 @@ mod LeadLemmas
 mod SeatLemmas
 mod MakingLemmas
 mod TableLemmas
-mod RoundLemmas
 mod PlainLemmas
 mod ThreadLemmas
 mod SendLemmas
