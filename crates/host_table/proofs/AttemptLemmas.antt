@@ -15,7 +15,7 @@ use Rattle.host_table.specs.declared.told.Stop.{Stop}
 use Rattle.host_table.specs.Calls.{IsAfter, clock_at}
 use Rattle.host_table.specs.Terms.{Terms, IsClockOf}
 use Rattle.host_table.specs.Told.{Continues, TakesUp}
-use Rattle.host_table.proofs.PlanLemmas.{plan_one}
+use Rattle.host_table.proofs.PlanLaws.{plan_one}
 
 pub after_then : (a b c : Hand) (es fs : List Service) (ls ms : List Loss) (s t : Option Stop) → IsAfter a b es ls s → IsAfter b c fs ms t → IsAfter a c (es ++ fs) (ls ++ ms) t
 after_then a b c es fs ls ms s t one two = record {

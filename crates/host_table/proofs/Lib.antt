@@ -1,4 +1,4 @@
-mod PlanLemmas
+pub mod PlanLaws
 pub mod PhaseLaws
 mod CallLemmas
 mod AttemptLemmas

@@ -1,24 +1,22 @@
 -- What a round with no further epoch tells, a phase tells.
-use Rattle.std.proofs.Common.{◌≡◌, ℕ, zero, suc, ◌<◌, List, [], ◌∷◌, ◌++◌, map, length, get_or, refl, sym, ap, ◌∙◌, subst, Some, arith, IsPermutation}
+use Rattle.std.proofs.Common.{◌≡◌, ℕ, zero, suc, List, [], ◌∷◌, ◌++◌, map, refl, sym, ap, ◌∙◌, subst, IsPermutation}
 use Rattle.std.specs.List.{flat_map}
-use Rattle.std.proofs.lemmas.List.{length-map, map-append, get_or-map}
+use Rattle.std.proofs.lemmas.List.{length-map, map-append}
 use Rattle.std.proofs.lemmas.List.Sorted.{IsPermutation-map}
 use Rattle.host_shard.specs.declared.content.Content.{Content}
 use Rattle.host_epochs.specs.declared.hand.Hand.{Hand}
-use Rattle.host_epochs.specs.declared.told.Entry.{Entry}
 use Rattle.host_epochs.specs.declared.views.Row as round_rows
 use Rattle.host_epochs.specs.Hands as hands
 use Rattle.host_epochs.specs.Round as rounds
 use Rattle.host_epochs.specs.Terms as epochs
 use Rattle.host_epochs.specs.Told as told
 use Rattle.host_table.specs.declared.told.Service.{Service}
-use Rattle.host_table.specs.declared.told.Stop.{Stop}
 use Rattle.host_table.specs.declared.views.Row.{Row}
 use Rattle.host_table.specs.Calls.{told_by}
 use Rattle.host_table.specs.Phase.{IsPhase, row_at}
-use Rattle.host_table.specs.Services.{service_of, services_of, stop_of, row_of}
-use Rattle.host_table.specs.Terms.{phase_of, place_count}
-use Rattle.host_table.specs.Told.{IsListOf, IsStop, joined_from}
+use Rattle.host_table.specs.Services.{service_of, services_of, row_of}
+use Rattle.host_table.specs.Terms.{phase_of}
+use Rattle.host_table.specs.Told.{IsListOf, IsStop}
 use Rattle.host_table.proofs.PhaseLaws.{joined_phase, leads_phase, list_phase, stop_phase}
 
 pub told_rows : (hs : List Hand) → map row_of (map hands.row_of hs) ≡ map told_by hs

@@ -1,4 +1,4 @@
-//! What a world's places have, and its workers, lent to a phase at a table and taken back.
+//! What a world's places have, and its workers, lent to a round at a table and taken back, and the epochs that were noted there.
 ghost use Rattle.std.specs.Prelude.{◌≡◌, ◌+◌, [], ◌++◌, length, map, replicate, IfOk, OnOk, OnErr};
 ghost use Rattle.host_shard.specs.Content.{vacant};
 ghost use Rattle.host_shard.specs.Shown.{shown_content};
@@ -112,5 +112,17 @@ impl<'a, D> World<'a, D> {
         ensures host { AreOfOneHost self.old self.new }
     {
         self.workers = workers;
+    }
+
+    /// In a round of a rolling host, that the newest epoch came to this one, and that each worker noted that its shards are of the other.
+    pub fn note_epochs(&mut self, newest: u32, scanned: u32)
+        ensures noted { shown_world self.new ≡ record (shown_world self.old) {
+          newest = newest;
+          scanned = replicate (length (shown_world self.old).scanned) scanned;
+        } }
+        ensures host { AreOfOneHost self.old self.new }
+    {
+        self.newest = newest;
+        self.scanned.fill(scanned);
     }
 }

@@ -52,9 +52,9 @@ pub fn scans_are_what_the_host_does()
         settings.hot ≡ None → pending_of host others ≡ []
         → host.move worker clock s (cold shard ∷ others) ≡ (if nat_lt clock.end later.at.counter then None
         else Some (scanned_done others (record {
-            commands = between (pending_shard shard) later.at [];
-            after = cold (record shard { stamp = later.at; evictor = worker; touches = λ k. 0 });
-            clock = later;
+          commands = between (pending_shard shard) later.at [];
+          after = cold (record shard { stamp = later.at; evictor = worker; touches = λ k. 0 });
+          clock = later;
         }))) }
 {}
 

@@ -11,10 +11,10 @@ use Rattle.host_core.specs.World.{Place, Worker, Seats, World, unmoved, worker_a
 use Rattle.host_core.specs.WorldEvent.{WorldEvent, IsPlace, run_events}
 use Rattle.round_order.specs.Turn.{Turn, same_place, is_at, is_by, on_to, served_more, IsPlaceChain, IsWorkerChain, content_behind, clock_behind, served_behind, logged, content_at}
 use Rattle.round_order.specs.Steady.{IsSteady}
-use Rattle.round_order.specs.Told.{IsTaken, climb, done_events, round_events}
+use Rattle.round_order.specs.Told.{IsTaken, IsRaised, climb, done_events, round_events}
 use Rattle.round_order.proofs.GoingLaws.{aim, aim-within, aim-past, gone_on, on_to-there}
 use Rattle.round_order.proofs.WayLemmas.{Way, way-then}
-use Rattle.round_order.proofs.ClimbLemmas.{IsUp, Climbs, climbs_up}
+use Rattle.round_order.proofs.ClimbLemmas.{IsUp, Climbs, climbs_up, raised-then}
 use Rattle.round_order.proofs.TurnLaws.{IsIdle, IsNextTurn, turned_worker, after_turn, turn_way, own_worker_is, other_worker_is, count_is, shards_count_is, own_content_is, other_content_is, seats_count_is, place_back, running_is, idle_after, owners_stay, taken_after}
 use Rattle.round_order.proofs.ReadyLemmas.{RisesIn, AreIn, rises-all, IsMoving, chain-rises, Ready, reached, content_same, shown_same, part_behind, ready_on}
 
@@ -393,6 +393,36 @@ module _ {C R : Type 0} (host : Host C R) (scans : Bool) (steady : IsSteady host
         leads = climb_leads world epoch (turn ∷ turns) ready to from within all middle climbed.climbs climbed.up rest.later
             (turn_leads middle turn turns on rest.later rest.leads);
       }
+
+  -- The newest epoch comes to the top by them.
+  pub replay_raised : (n : ℕ) (turns : List (Turn C R)) (world : World C) (epoch : ℕ) (many : n ≡ length world.workers) (ready : Ready host scans top finals world epoch turns)
+      → IsRaised host world (replay n turns world epoch many ready).later epoch top
+  unfolding replay none_leads
+  replay_raised n [] world epoch many ready =
+      let is : epoch + (top - epoch) ≡ top = omega (arith, ready.up.within) in
+      (climbs_up host top finals (top - epoch) world epoch top n is many ready.up (omega arith)
+      (reached host scans top finals world epoch [] ready top ready.up.within (omega arith) tt)).raised
+  replay_raised n (turn ∷ turns) world epoch many ready =
+      let to : ℕ = turn.clock.at.epoch in
+      let from : epoch ≤ to = ready.rising.0 in
+      let within : to ≤ top = last_within world epoch turn turns ready in
+      let rising : RisesIn to (turn ∷ turns) = (omega arith, ready.rising.1) in
+      let all : AreIn to (turn ∷ turns) = rises-all to to (turn ∷ turns) (omega arith) rising in
+      let is : epoch + (to - epoch) ≡ to = omega (arith, from) in
+      let climbed = climbs_up host top finals (to - epoch) world epoch to n is many ready.up within
+      (reached host scans top finals world epoch (turn ∷ turns) ready to from within all) in
+      let middle : World C = climbed.later in
+      let on : Ready host scans top finals middle to (turn ∷ turns) =
+      ready_on host scans top finals world epoch (turn ∷ turns) ready to from within all middle climbed.climbs climbed.up rising in
+      let after : World C = after_turn host middle turn in
+      let gone = many ∙ sym climbed.climbs.count ∙ sym (count middle turn turns on) in
+      let rest = replay_raised n turns after to gone (rest_ready middle turn turns on) in
+      raised-then host top finals world middle (replay n turns after to gone (rest_ready middle turn turns on)).later epoch to top from within climbed.climbs.count climbed.raised
+      (record {
+        still = rest.still;
+        newest = rest.newest;
+        marks = λ more i there. rest.marks more i (omega (arith, there, count middle turn turns on));
+      })
 
   -- Where all of them are of one epoch, each finds its worker's clock and its place's content.
   pub found : (turns : List (Turn C R)) (world : World C) (one_epoch : ℕ) → Ready host scans top finals world one_epoch turns

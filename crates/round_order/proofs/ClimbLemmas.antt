@@ -5,11 +5,11 @@ use Rattle.std.proofs.lemmas.Bool.{cases_lt, cond-true, cond-false, lt-ltb, le-l
 use Rattle.record_text.specs.declared.element.Element.{Element}
 use Rattle.log_codec.specs.declared.command.Command.TheVariants.{NextEpoch}
 use Rattle.host_core.specs.Host.{Host}
-use Rattle.host_core.specs.World.{Worker, World, fresh, worker_at, shard_at}
+use Rattle.host_core.specs.World.{Worker, World, fresh, worker_at, shard_at, scanned_at}
 use Rattle.host_core.specs.WorldEvent.{WorldEvent, raises, enters, step, logging, next_clock, MayRaise, MayEnter}
 use Rattle.host_core.specs.Deeds.{pending_of}
 use Rattle.stamp_order.proofs.InOrderLaws.{every-weaker}
-use Rattle.round_order.specs.Told.{CanRoll, finishes_from, enters_from, step_up, climb}
+use Rattle.round_order.specs.Told.{CanRoll, IsRaised, finishes_from, enters_from, step_up, climb}
 use Rattle.round_order.proofs.GoingLaws.{aim, aim-within, aim-past, gone_on, gone_on-there, gone_on-one, gone_on-then, on_to-epoch}
 use Rattle.round_order.proofs.NoteLemmas.{note, note-length, note-at, CanNote, marked, is_rolling, finishes_way}
 use Rattle.round_order.proofs.WayLemmas.{Way, way-none, way-then, way-cons, get-at, set-at, get_or-past}
@@ -201,6 +201,13 @@ module _ {C R : Type 0} (host : Host C R) (top : ℕ) (finals : ℕ → ℕ) whe
     pub stepped_marks : length stepped.scanned ≡ length world.scanned
     stepped_marks = note-length epoch 0 (length world.workers) world.scanned
 
+    pub stepped_raised : IsRaised host world stepped epoch (suc epoch)
+    stepped_raised = record {
+      still = λ same. absurd (omega (arith, same));
+      newest = λ more. refl;
+      marks = λ more i there. ap suc (note-at epoch 0 (length world.workers) world.scanned i host.header.first (omega arith) (omega (arith, there)) (omega (arith, can.marks)));
+    }
+
     pub stepped_up : IsUp stepped (suc epoch)
     stepped_up = record {
       going = up.going;
@@ -242,11 +249,31 @@ module _ {C R : Type 0} (host : Host C R) (top : ℕ) (finals : ℕ → ℕ) whe
     pub others : (i : ℕ) → length world.workers ≤ i → worker_at host later i ≡ worker_at host world i
 
   -- these events lead there
-  pub record Climbed (world : World C) (epoch : ℕ) (events : List (WorldEvent R)) : Type 0 where
+  pub record Climbed (world : World C) (from epoch : ℕ) (events : List (WorldEvent R)) : Type 0 where
     pub later : World C
     pub way : Way host world events later
     pub climbs : Climbs world later epoch
     pub up : IsUp later epoch
+    pub raised : IsRaised host world later from epoch
+
+  -- where the newest epoch came to one and then to another, it came to the other
+  pub raised-then : (world middle later : World C) (from to last : ℕ) → from ≤ to → to ≤ last → length middle.workers ≡ length world.workers
+      → IsRaised host world middle from to → IsRaised host middle later to last → IsRaised host world later from last
+  raised-then world middle later from to last least most count first second = record {
+    still = λ same. let one = first.still (omega (arith, same, least, most)) in let two = second.still (omega (arith, same, least, most)) in (two.0 ∙ one.0, two.1 ∙ one.1);
+    newest = λ less. newest less (cases_lt to last);
+    marks = λ less i there. mark less i there (cases_lt to last);
+  }
+    where
+      newest : from < last → (to < last) ⊎ (last ≤ to) → later.newest ≡ last
+      newest less (inl more) = second.newest more
+      newest less (inr past) = (second.still (omega (arith, most, past))).0 ∙ first.newest (omega (arith, less, past)) ∙ omega (arith, most, past)
+
+      mark : from < last → (i : ℕ) → i < length world.workers → (to < last) ⊎ (last ≤ to) → suc (scanned_at host later i) ≡ last
+      mark less i there (inl more) = second.marks more i (omega (arith, there, count))
+      mark less i there (inr past) =
+          ap (λ (marks : List ℕ). suc (get_or marks i host.header.first)) (second.still (omega (arith, most, past))).1
+          ∙ first.marks (omega (arith, less, past)) i there ∙ omega (arith, most, past)
 
   aim-rises : (low high final : ℕ) → low ≤ high → aim low final ≤ aim high final
   aim-rises low high final within = go (cases_lt final low) (cases_lt final high)
@@ -258,7 +285,7 @@ module _ {C R : Type 0} (host : Host C R) (top : ℕ) (finals : ℕ → ℕ) whe
 
   -- From an epoch to a later one.
   pub climbs_up : (count : ℕ) (world : World C) (epoch to n : ℕ) → epoch + count ≡ to → n ≡ length world.workers → IsUp world epoch → to ≤ top → HaveReached world to
-      → Climbed world to (climb finals n epoch count)
+      → Climbed world epoch to (climb finals n epoch count)
   climbs_up zero world epoch to n is many up within reached =
       let same : epoch ≡ to = omega (arith, is) in
       record {
@@ -274,6 +301,11 @@ module _ {C R : Type 0} (host : Host C R) (top : ℕ) (finals : ℕ → ℕ) whe
           others = λ i past. refl;
         };
         up = subst (IsUp world) same up;
+        raised = record {
+          still = λ same'. (refl, refl);
+          newest = λ more. absurd (omega (arith, more, same));
+          marks = λ more i there. absurd (omega (arith, more, same));
+        };
       }
   climbs_up (suc count) world epoch to n is many up within reached =
       let less : epoch < top = omega (arith, is, within) in
@@ -281,7 +313,7 @@ module _ {C R : Type 0} (host : Host C R) (top : ℕ) (finals : ℕ → ℕ) whe
       every-weaker (λ (element : Element). to ≤ suc element.stamp.epoch) (λ (element : Element). suc epoch ≤ suc element.stamp.epoch)
       (λ element above. omega (arith, above, is)) (pending_of host (shard_at world s).contents) (reached s there) in
       let middle : World C = stepped world epoch up less near in
-      let rest : Climbed middle to (climb finals n (suc epoch) count) =
+      let rest : Climbed middle (suc epoch) to (climb finals n (suc epoch) count) =
       climbs_up count middle (suc epoch) to n (omega (arith, is)) (many ∙ sym (stepped_count world epoch up less near)) (stepped_up world epoch up less near) within reached in
       record {
         later = rest.later;
@@ -301,4 +333,6 @@ module _ {C R : Type 0} (host : Host C R) (top : ℕ) (finals : ℕ → ℕ) whe
           others = λ i past. rest.climbs.others i (omega (arith, past, stepped_count world epoch up less near)) ∙ stepped_others world epoch up less near i past;
         };
         up = rest.up;
+        raised = raised-then world middle rest.later epoch (suc epoch) to (omega arith) (omega (arith, is)) (stepped_count world epoch up less near)
+            (stepped_raised world epoch up less near) rest.raised;
       }

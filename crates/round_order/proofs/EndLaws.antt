@@ -15,13 +15,13 @@ use Rattle.host_core.specs.WorldEvent as machine
 use Rattle.host_core.specs.Deeds.{pending_of}
 use Rattle.round_order.specs.Turn.{Turn, in_one_order}
 use Rattle.round_order.specs.Steady.{IsSteady}
-use Rattle.round_order.specs.Told.{IsLevel, CanRoll, AreTold, joined, finishes_from, round_events, EndsWith, final_clock, IsWholeRound, whole_events, EndsWhole, RoundStop, IsInTheWay, IsStopTold, AreOfOthers, stop_events, stops_by, stopped_events, EndsStopped, EndsRounds}
+use Rattle.round_order.specs.Told.{IsLevel, CanRoll, AreTold, IsRaised, joined, finishes_from, round_events, EndsWith, final_clock, IsWholeRound, whole_events, EndsWhole, RoundStop, IsInTheWay, IsStopTold, AreOfOthers, stop_events, stops_by, stopped_events, EndsStopped, EndsRounds}
 use Rattle.round_order.proofs.GoingLaws.{aim-past}
 use Rattle.round_order.proofs.WayLemmas.{Way, way-none, way-then, way-cons}
 use Rattle.round_order.proofs.NoteLemmas.{note, note-length, note-at, CanNote, marked, finishes_way}
 use Rattle.round_order.proofs.ReadyLemmas.{every-content}
 use Rattle.round_order.proofs.ChainLaws.{Led}
-use Rattle.round_order.proofs.RoundLaws.{turns, round_led, ends_told}
+use Rattle.round_order.proofs.RoundLaws.{turns, round_led, round_raised, ends_told}
 
 -- a worker but for whether it is stopped
 abbrev unflagged : Worker → Worker
@@ -140,6 +140,13 @@ module _ {C R : Type 0} (host : Host C R) where
       way-cons host world (stopped_one world stop.worker) (stopped_all world (stop ∷ list)) (machine.stops stop.worker stop.found) (stop_events list)
       (may_stop later world stop like can.0 running.0) refl
       (stops_way later list (stopped_one world stop.worker) (like-one later world stop.worker like) can.1 (still_running world stop.worker list others.0 running.1) others.1)
+
+  -- stops leave the newest epoch and the notes
+  raised-stopped : (before : World C) (epoch top : ℕ) (list : List RoundStop) (world : World C) → IsRaised host before world epoch top
+      → IsRaised host before (stopped_all world list) epoch top
+  raised-stopped before epoch top [] world raised = raised
+  raised-stopped before epoch top (stop ∷ list) world raised =
+      raised-stopped before epoch top list (stopped_one world stop.worker) (record { still = raised.still; newest = raised.newest; marks = raised.marks })
 
   or-true : (b : Bool) → (b || true) ≡ true
   or-true true = refl
@@ -293,12 +300,15 @@ module _ {C R : Type 0} (host : Host C R) (scans : Bool) (steady : IsSteady host
         (λ stop is. led.leads.stopped stop.worker ∙ is.running) list stops_told) others)
 
     pub ends_stopped : EndsStopped host world epoch top finals lists pasts list
+    unfolding led
     ends_stopped = record {
       enabled = halt_way.enabled;
       ends = subst (λ (w : World C). EndsWith host world w top finals lists pasts) (sym halt_way.is)
           (ends-like host world top finals lists pasts later halted (like-all host later list later like-self) ends);
       stopped = λ i there. subst (λ (w : World C). (worker_at host w i).stopped ≡ ((worker_at host world i).stopped || stops_by i list)) (sym halt_way.is)
           (stopped_is host list later i (omega (arith, there, led.leads.count)) ∙ ap (λ (b : Bool). b || stops_by i list) (led.leads.stopped i));
+      raised = subst (λ (w : World C). IsRaised host world w epoch top) (sym halt_way.is)
+          (raised-stopped host world epoch top list later (round_raised host scans steady world epoch top finals level lists pasts told within roll));
     }
 
 -- What is told of a round ends so.

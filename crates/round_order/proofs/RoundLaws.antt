@@ -4,8 +4,8 @@ use Rattle.host_core.specs.Host.{Host}
 use Rattle.host_core.specs.World.{World, worker_at}
 use Rattle.round_order.specs.Turn.{Turn, is_by, on_to, content_behind, clock_behind, served_behind, logged, content_at, in_one_order}
 use Rattle.round_order.specs.Steady.{IsSteady}
-use Rattle.round_order.specs.Told.{IsLevel, CanRoll, AreTold, joined, list_of, round_events, EndsWith, HasOneOrder, OrdersRound}
-use Rattle.round_order.proofs.ChainLaws.{LeadsTo, Led, replay}
+use Rattle.round_order.specs.Told.{IsLevel, CanRoll, AreTold, IsRaised, joined, list_of, round_events, EndsWith, HasOneOrder, OrdersRound}
+use Rattle.round_order.proofs.ChainLaws.{LeadsTo, Led, replay, replay_raised}
 use Rattle.round_order.proofs.ReadyLemmas.{Ready}
 use Rattle.round_order.proofs.OrderLemmas.{worker_part, place_part, order_ready}
 
@@ -21,6 +21,11 @@ module _ {C R : Type 0} (host : Host C R) (scans : Bool) (steady : IsSteady host
       → Led host scans steady top finals world turns (round_events finals (length world.workers) top epoch turns)
   round_led within roll =
       replay host scans steady top finals (length world.workers) turns world epoch refl (order_ready host scans steady world epoch top finals level lists pasts told within roll)
+
+  pub round_raised : (within : epoch ≤ top) (roll : epoch < top → CanRoll host world epoch top) → IsRaised host world (round_led within roll).later epoch top
+  unfolding round_led
+  round_raised within roll =
+      replay_raised host scans steady top finals (length world.workers) turns world epoch refl (order_ready host scans steady world epoch top finals level lists pasts told within roll)
 
   -- Where the turns lead to is as it is told.
   pub ends_told : (later : World C) → LeadsTo host scans steady top finals world later turns → EndsWith host world later top finals lists pasts
@@ -48,6 +53,7 @@ module _ {C R : Type 0} (host : Host C R) (scans : Bool) (steady : IsSteady host
         enabled = led.way.enabled;
         ends = subst (λ (later : World C). EndsWith host world later top finals lists pasts) (sym led.way.is) (ends_told led.later led.leads);
         stopped = λ i. ap (λ (later : World C). (worker_at host later i).stopped) led.way.is ∙ led.leads.stopped i;
+        raised = subst (λ (later : World C). IsRaised host world later epoch top) (sym led.way.is) (round_raised within roll);
       }
 
 -- What is told of a round has one order.

@@ -6,7 +6,7 @@ use Rattle.std.specs.List.Sorted.{IsPermutation}
 use Rattle.lamport_clocks.specs.Clock.{last_epoch}
 use Rattle.lamport_clocks.specs.Reading.{Reading}
 use Rattle.host_core.specs.Host.{Host, asked}
-use Rattle.host_core.specs.World.{Place, World, worker_at, shard_at, epoch_of}
+use Rattle.host_core.specs.World.{Place, World, worker_at, shard_at, scanned_at, epoch_of}
 use Rattle.host_core.specs.WorldEvent.{WorldEvent, takes, serves, gives, raises, enters, finishes, stops, IsPhaseOver, IsRoundOver, IsPlace, AreUpTo, AreEnabled, run_events, AreFrom}
 use Rattle.host_core.specs.WorldEvent as machine
 use Rattle.host_core.specs.Deeds.{pending_of}
@@ -145,8 +145,7 @@ round_events finals workers top epoch (turn ∷ turns) =
 
 -- ---- where they lead
 
--- The later world has the last contents and the last clocks, each worker has logged its commands and the epochs that it went on by,
--- and the newest epoch is the top.
+-- The later world has the last contents and the last clocks, and each worker has logged its commands and the epochs that it went on by.
 pub record EndsWith {C R : Type 0} (host : Host C R) (world later : World C) (top : ℕ) (finals : ℕ → ℕ) (lists : List (List (Turn C R)))
     (pasts : List (List (List (Turn C R)))) : Type 0 where
   pub contents : (place : Place) → content_at host later place ≡ content_behind (content_at host world place) (past_of pasts place)
@@ -160,6 +159,12 @@ pub record EndsWith {C R : Type 0} (host : Host C R) (world later : World C) (to
   pub counts : (length later.workers ≡ length world.workers) × (length later.shards ≡ length world.shards) × (length later.scanned ≡ length world.scanned)
   pub phase : (later.phase ≡ world.phase) × (later.closing ≡ false) × (later.over ≡ false)
 
+-- From this epoch on the newest came to the top, and each worker noted that its shards are of the epoch before that; or none went on.
+pub record IsRaised {C R : Type 0} (host : Host C R) (world later : World C) (epoch top : ℕ) : Type 0 where
+  pub still : epoch ≡ top → (later.newest ≡ world.newest) × (later.scanned ≡ world.scanned)
+  pub newest : epoch < top → later.newest ≡ top
+  pub marks : epoch < top → (i : ℕ) → i < length world.workers → suc (scanned_at host later i) ≡ top
+
 -- What is told of a round was one list of enabled events, which ends where all is as it is told and stops no worker.
 pub record HasOneOrder {C R : Type 0} (host : Host C R) (world : World C) (epoch top : ℕ) (finals : ℕ → ℕ) (lists : List (List (Turn C R)))
     (pasts : List (List (List (Turn C R)))) : Type 0 where
@@ -167,6 +172,7 @@ pub record HasOneOrder {C R : Type 0} (host : Host C R) (world : World C) (epoch
   pub ends : EndsWith host world (run_events host world (round_events finals (length world.workers) top epoch (in_one_order (joined lists)))) top finals lists pasts
   pub stopped : (i : ℕ) → (worker_at host (run_events host world (round_events finals (length world.workers) top epoch (in_one_order (joined lists)))) i).stopped
       ≡ (worker_at host world i).stopped
+  pub raised : IsRaised host world (run_events host world (round_events finals (length world.workers) top epoch (in_one_order (joined lists)))) epoch top
 
 -- It is so wherever the workers' lists and the places' pasts are of a world that is level.
 abbrev pub OrdersRound : {C R : Type 0} → Host C R → Type 0
@@ -257,6 +263,7 @@ pub record EndsStopped {C R : Type 0} (host : Host C R) (world : World C) (epoch
   pub ends : EndsWith host world (run_events host world (stopped_events world finals top epoch lists list)) top finals lists pasts
   pub stopped : (i : ℕ) → i < length world.workers
       → (worker_at host (run_events host world (stopped_events world finals top epoch lists list)) i).stopped ≡ ((worker_at host world i).stopped || stops_by i list)
+  pub raised : IsRaised host world (run_events host world (stopped_events world finals top epoch lists list)) epoch top
 
 -- It is so of whatever is told.
 abbrev pub EndsRounds : {C R : Type 0} → Host C R → Type 0

@@ -102,8 +102,7 @@ module _ (scheme' : Scheme) (header : Header) (number : ℕ) where
   comes_behind index state command (Ok done) rest more is further =
       let ticks = ticks_step (rules_under scheme' header number) state command done is in
       let comes = further done.1 in
-      let last = (rest done.1).clock.at in
-      (
+      let last = (rest done.1).clock.at in (
         up_to-trans state.clock.at done.1.clock.at last (ticks-up_to state.clock done.1.clock done.0 ticks) comes.0,
         every-append (IsStampedUpTo last) (evicted_by done.0) (evicted_among (more done.1))
             (every-weaker (IsStampedUpTo done.1.clock.at) (IsStampedUpTo last) (λ element up. up_to-trans element.stamp done.1.clock.at last up comes.0)
@@ -171,8 +170,8 @@ pending_come host world accepted even =
         → (n < length world.workers) × ((state_from (path_machinery_of (scheme host) host.header n) (opening n host.header) (get_or (logs_of world) i [])).clock.at ≡ stand_of host world n)
     stands i n there is = subst (λ (m : ℕ). (m < length world.workers)
         × ((state_from (path_machinery_of (scheme host) host.header m) (opening m host.header) (get_or (logs_of world) i [])).clock.at ≡ stand_of host world m)) (sym is) (
-      there,
-      ap (λ (log : List Command). (state_from (path_machinery_of (scheme host) host.header i) (opening i host.header) log).clock.at)
-          (get_or-map (λ (w : Worker). w.log) world.workers i (fresh host.header))
-      ∙ ap (λ (state : State). state.clock.at) (accepted i there).1,
-    )
+          there,
+          ap (λ (log : List Command). (state_from (path_machinery_of (scheme host) host.header i) (opening i host.header) log).clock.at)
+              (get_or-map (λ (w : Worker). w.log) world.workers i (fresh host.header))
+              ∙ ap (λ (state : State). state.clock.at) (accepted i there).1,
+        )

@@ -178,11 +178,14 @@ module _ (functions : DigestFunctions) (settings : Settings) (script : List (Lis
     level_good : (elements : List Element) → AllByRecursion (HasComeUp (length world.workers) (stand_of host world)) elements
         → AllByRecursion (λ (element : Element). element.stamp.epoch ≡ epoch) elements → AllByRecursion (IsGood epoch) elements
     level_good [] come same = tt
-    level_good (element ∷ elements) come same = (record {
-      verifier = omega (arith, come.0.0, standing.workers);
-      epoch_is = same.0;
-      counter = low come.0.1;
-    }, level_good elements come.1 same.1)
+    level_good (element ∷ elements) come same = (
+      record {
+        verifier = omega (arith, come.0.0, standing.workers);
+        epoch_is = same.0;
+        counter = low come.0.1;
+      },
+      level_good elements come.1 same.1,
+    )
       where
         clock : IsClock host (worker_at host world element.verifier).clock
         clock = standing.clocks element.verifier come.0.0

@@ -44,7 +44,7 @@ pub of_mode : (functions : DigestFunctions) (settings : Settings) (script : List
     → IsStanding (PlacesMirror functions settings) (shipped_host functions settings script) world
     → (settings.rolling ≡ false → IsInPhase (shipped_host functions settings script) world)
     → ((events : List (WorldEvent Request)) → let host = shipped_host functions settings script in
-        settings.hot ≡ None → AreEnabled host (set_up host) events → HasNothingHot (run_events host (set_up host) events))
+    settings.hot ≡ None → AreEnabled host (set_up host) events → HasNothingHot (run_events host (set_up host) events))
     → IsOfMode settings world terms
 of_mode functions settings script world terms rows is standing in_phase hot = record {
   cold_only = is.behind.settings_fit.cold;
@@ -218,8 +218,12 @@ module _ (functions : DigestFunctions) (settings : Settings) (script : List (Lis
       (shown_content (get_or after number Vacant)) (round.epochs number there)))
     where
       few : place.seat < 5
-      few = omega (arith, at.1, five_seats functions settings script world standing (phase_of terms)
-          (plain_made functions settings script world terms is.made) place.shard at.0)
+      few = omega (
+        arith,
+        at.1,
+        five_seats functions settings script world standing (phase_of terms)
+            (plain_made functions settings script world terms is.made) place.shard at.0,
+      )
 
       number : ℕ
       number = number_of round.past place

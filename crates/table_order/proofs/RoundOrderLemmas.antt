@@ -1,17 +1,19 @@
 -- What a table with epochs tells of a round of the shipped host was one list of events, and how it ended.
-use Rattle.std.proofs.Common.{◌≡◌, ℕ, ◌+◌, ◌<◌, ◌≤◌, Bool, true, false, List, ◌++◌, length, get_or, slice_get, None, refl, sym, ◌∙◌, ap, subst, arith}
+use Rattle.std.proofs.Common.{◌≡◌, ℕ, suc, ◌+◌, ◌<◌, ◌≤◌, Bool, true, false, List, ◌++◌, length, get_or, slice_get, None, refl, sym, ◌∙◌, ap, subst, arith}
 use Rattle.record_hash.specs.Functions.{DigestFunctions}
+use Rattle.record_text.specs.declared.element.Element.{Element}
 use Rattle.record_text.specs.declared.request.Request.{Request}
 use Rattle.script_text.specs.declared.task.Task.{Task}
+use Rattle.stamp_order.proofs.InOrderLaws.{every-weaker}
 use Rattle.host_core.specs.Core.{AreAccepted, IsEven, IsStanding}
 use Rattle.host_core.specs.Host.{Host, asked}
 use Rattle.host_core.specs.World.{World, worker_at, set_up}
 use Rattle.host_core.specs.WorldEvent.{WorldEvent, AreEnabled, run_events}
 use Rattle.host_core.proofs.EventLaws.{enabled-append, run-append}
 use Rattle.host_order.specs.Steady as plain
-use Rattle.round_order.specs.Turn.{Turn, served_behind, content_at, in_one_order}
+use Rattle.round_order.specs.Turn.{Turn, content_behind, served_behind, content_at, in_one_order}
 use Rattle.round_order.specs.Steady.{IsSteady}
-use Rattle.round_order.specs.Told.{joined, round_events, CanRoll, AreTold, HasOneOrder, IsWholeRound, EndsWhole, EndsStopped}
+use Rattle.round_order.specs.Told.{joined, past_of, round_events, CanRoll, AreTold, HasOneOrder, IsWholeRound, EndsWhole, EndsStopped}
 use Rattle.round_order.proofs.RoundLaws.{orders_round}
 use Rattle.round_order.proofs.EndLaws.{ends_rounds}
 use Rattle.host_shard.specs.declared.content.Content as code
@@ -19,7 +21,7 @@ use Rattle.host_shard.specs.declared.content.Content.TheVariants.{Vacant}
 use Rattle.host_shard.specs.Content.{Content}
 use Rattle.host_shard.specs.Shown.{shown_content}
 use Rattle.host_epochs.specs.declared.views.Row.{Row}
-use Rattle.host_epochs.specs.Round.{IsRound}
+use Rattle.host_epochs.specs.Round.{IsRound, row_at}
 use Rattle.host_epochs.specs.Terms.{Terms, place_count, first_epoch}
 use Rattle.shipped_host.specs.declared.settings.Settings.{Settings}
 use Rattle.shipped_host.specs.ShippedHost.{shipped_host}
@@ -154,8 +156,41 @@ module _ (functions : DigestFunctions) (settings : Settings) (script : List (Lis
     pub ends_whole : AreThrough host world terms rows → EndsWhole host world first top finals lists pasts
     ends_whole through = (ends_rounds host settings.rolling world first top finals lists pasts steady is.level up can_roll told).0 (is_whole through)
 
-    -- Where some stopped, the stops stand behind the turns.
-    pub ends_stopped : AreAccepted host world → IsEven host world → EndsStopped host world first top finals lists pasts (stops_of rows)
-    ends_stopped accepted even =
-        (ends_rounds host settings.rolling world first top finals lists pasts steady is.level up can_roll told).1 (stops_of rows)
-        (stops_told functions settings script world terms after rows is round standing mode accepted even rolling) (stops_apart 0 rows)
+    module _ (newest : ℕ) (least : newest ≤ round.newest) (all : (worker : ℕ) → worker < terms.workers → (row_at rows worker).entered ≤ newest) where
+      told_to : AreTold host settings.rolling world (first + newest) finals lists pasts
+      told_to = record {
+        taken = told.taken;
+        same = told.same;
+        own_worker = told.own_worker;
+        own_place = told.own_place;
+        workers = told.workers;
+        places = told.places;
+        final = λ i there.
+            let final = told.final i there in
+            let entered = all i (known functions settings script world terms after rows is round standing mode i there) in
+            (final.0, omega (arith, entered), omega (arith, final.2, least));
+        ends = λ place at.
+            every-weaker (λ (element : Element). top ≤ suc element.stamp.epoch) (λ (element : Element). first + newest ≤ suc element.stamp.epoch)
+            (λ element above. omega (arith, above, least)) (host.pending (content_behind (content_at host world place) (past_of pasts place))) (told.ends place at);
+      }
+
+      can_roll_to : first < first + newest → CanRoll host world first (first + newest)
+      can_roll_to less = let can = can_roll (omega (arith, less, least)) in record {
+        rolling = can.rolling;
+        newest = can.newest;
+        within = omega (arith, can.within, least);
+        last = omega (arith, can.last, least);
+        marks = can.marks;
+        some = can.some;
+        running = can.running;
+      }
+
+      -- It has one order so too,
+      pub one_order_to : HasOneOrder host world first (first + newest) finals lists pasts
+      one_order_to = orders_round host settings.rolling world first (first + newest) finals lists pasts steady is.level (omega arith) can_roll_to told_to
+
+      -- and where some stopped, the stops stand behind the turns, up to any epoch that is not past the newest and to which all came.
+      pub ends_stopped : AreAccepted host world → IsEven host world → EndsStopped host world first (first + newest) finals lists pasts (stops_of rows)
+      ends_stopped accepted even =
+          (ends_rounds host settings.rolling world first (first + newest) finals lists pasts steady is.level (omega arith) can_roll_to told_to).1 (stops_of rows)
+          (stops_told functions settings script world terms after rows is round standing mode accepted even rolling) (stops_apart 0 rows)

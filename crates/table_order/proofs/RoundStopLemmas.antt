@@ -186,8 +186,7 @@ module _ (functions : DigestFunctions) (settings : Settings) (script : List (Lis
       let evict = entry_evict terms entry entry.request done.asked.work in
       let same : evict.element ≡ element = same_Some evict.element element (sym evict.waits ∙ waits) in
       let own : element.verifier ≡ entry.worker = ap (λ (e : Element). e.verifier) (sym same) ∙ evict.own in
-      let at : element.stamp ≡ entry.later.at = ap (λ (e : Element). e.stamp) (sym same) ∙ evict.at in
-      (
+      let at : element.stamp ≡ entry.later.at = ap (λ (e : Element). e.stamp) (sym same) ∙ evict.at in (
         subst (λ (n : ℕ). n < length world.workers) (sym own) come.0,
         subst (λ (n : ℕ). IsUpTo element.stamp (final n).at) (sym own) (subst (λ (s : Stamp). IsUpTo s (final entry.worker).at) (sym at) come.1),
       )

@@ -1,6 +1,6 @@
 //! Why what a table with epochs tells of a round was one list of events, and why what a level world lends can be made such a table.
 //! These functions do nothing: their contracts are the laws.
-ghost use Rattle.std.specs.Prelude.{◌≡◌, ◌+◌, ℕ, ◌<◌, true, List, length, map, get_or, is_some};
+ghost use Rattle.std.specs.Prelude.{◌≡◌, ◌+◌, ℕ, ◌<◌, ◌≤◌, true, List, length, map, get_or, is_some};
 ghost use Rattle.record_hash.specs.Functions.{DigestFunctions};
 ghost use Rattle.merkle_records.specs.Merkle.{GivesDigests};
 ghost use Rattle.script_text.specs.declared.task.Task.{Task};
@@ -47,7 +47,7 @@ pub fn tables_tell_of_a_round()
 /// What a table with epochs tells of a round was one list of events: the turns by the stamps of their evicts, and between them the
 /// epochs that the workers went on by. They were enabled, and the world that they lead to stands behind the setup and has the
 /// contents that the table gives. Where all workers of a rolling host are through with the last epoch and served all that is asked,
-/// the round is over behind them; and where some stopped, the stops may stand there.
+/// the round is over behind them; and where some stopped, the stops may stand there, also where none had gone on to the newest epoch.
 pub fn a_round_of_a_table_has_one_order()
     ensures order { (functions : DigestFunctions) (settings : Settings) (script : List (List Task)) (world : World Content)
         (terms : Terms) (after : List code.Content) (rows : List Row)
@@ -59,7 +59,7 @@ pub fn a_round_of_a_table_has_one_order()
         → IsTableOfRound functions settings script world terms rows → (round : IsRound terms after rows)
         → let host = shipped_host functions settings script in
         let events = round_events (finals_of terms rows) (length world.workers) (first_epoch terms + round.newest) (first_epoch terms)
-            (in_one_order (joined (lists_of rows))) in
+        (in_one_order (joined (lists_of rows))) in
         IsBehindSetup functions settings script (run_events host world events) }
     ensures contents { (functions : DigestFunctions) (settings : Settings) (script : List (List Task)) (world : World Content)
         (terms : Terms) (after : List code.Content) (rows : List Row)
@@ -67,7 +67,7 @@ pub fn a_round_of_a_table_has_one_order()
         → (place : ℕ) → place < place_count terms
         → let host = shipped_host functions settings script in
         let events = round_events (finals_of terms rows) (length world.workers) (first_epoch terms + round.newest) (first_epoch terms)
-            (in_one_order (joined (lists_of rows))) in
+        (in_one_order (joined (lists_of rows))) in
         content_at host (run_events host world events) (place_of place) ≡ shown_content (get_or after place Vacant) }
     ensures whole { (functions : DigestFunctions) (settings : Settings) (script : List (List Task)) (world : World Content)
         (terms : Terms) (after : List code.Content) (rows : List Row)
@@ -75,11 +75,19 @@ pub fn a_round_of_a_table_has_one_order()
         → settings.rolling ≡ true → AreThrough (shipped_host functions settings script) world terms rows
         → EndsWhole (shipped_host functions settings script) world (first_epoch terms) (first_epoch terms + round.newest)
         (finals_of terms rows) (lists_of rows) (pasts_of (length world.shards) round.past) }
+    ensures order_to { (functions : DigestFunctions) (settings : Settings) (script : List (List Task)) (world : World Content)
+        (terms : Terms) (after : List code.Content) (rows : List Row)
+        → IsTableOfRound functions settings script world terms rows → (round : IsRound terms after rows)
+        → settings.rolling ≡ true → (newest : ℕ) → newest ≤ round.newest
+        → ((worker : ℕ) → worker < terms.workers → (row_at rows worker).entered ≤ newest)
+        → HasOneOrder (shipped_host functions settings script) world (first_epoch terms) (first_epoch terms + newest)
+        (finals_of terms rows) (lists_of rows) (pasts_of (length world.shards) round.past) }
     ensures stopped { (functions : DigestFunctions) (settings : Settings) (script : List (List Task)) (world : World Content)
         (terms : Terms) (after : List code.Content) (rows : List Row)
         → IsTableOfRound functions settings script world terms rows → (round : IsRound terms after rows)
-        → settings.rolling ≡ true
-        → EndsStopped (shipped_host functions settings script) world (first_epoch terms) (first_epoch terms + round.newest)
+        → settings.rolling ≡ true → (newest : ℕ) → newest ≤ round.newest
+        → ((worker : ℕ) → worker < terms.workers → (row_at rows worker).entered ≤ newest)
+        → EndsStopped (shipped_host functions settings script) world (first_epoch terms) (first_epoch terms + newest)
         (finals_of terms rows) (lists_of rows) (pasts_of (length world.shards) round.past) (stops_of rows) }
 {
     worlds_are_as_promised();

@@ -17,6 +17,7 @@ use Rattle.host_serving.specs.Standing.{turns_of, asked_by}
 use Rattle.host_serving.proofs.TurnLaws.{slice_get-behind, asked-around}
 use Rattle.table_order.specs.Phases.{AreNext}
 use Rattle.worker_threads.specs.Parts.{asked_of, AreDone}
+use Rattle.worker_threads.specs.Phase.{numbered}
 
 -- what is found in the front of a list
 slice_get-front : {X : Type 0} (xs ys : List X) (k : ℕ) (x : X) → slice_get xs k ≡ Some x → slice_get (xs ++ ys) k ≡ Some x
@@ -29,21 +30,17 @@ slice_get-map f [] k x is = absurd (none-some x is)
 slice_get-map f (first ∷ xs) zero x is = ap (λ y. Some (f y)) (same_Some first x is)
 slice_get-map f (first ∷ xs) (suc k) x is = slice_get-map f xs k x is
 
--- a request with the phase's number
-abbrev numbered : ℕ → Request → ℕ × Request
-numbered phase request = (phase, request)
-
 -- what a phase asks of a worker, with the phase's number
-asked_pairs : (i phase : ℕ) (tasks : List Task) → asked_in i phase (map turn_of tasks) ≡ map (numbered phase) (asked_of i tasks)
+asked_pairs : (i phase : ℕ) (tasks : List Task) → asked_in i phase (map turn_of tasks) ≡ numbered phase (asked_of i tasks)
 asked_pairs i phase [] = refl
 asked_pairs i phase (task ∷ tasks) = go (task.worker == i) (asked_pairs i phase tasks)
   where
     more : List (ℕ × Request)
     more = filter (λ turn. turn.0 == i) (map turn_of tasks)
 
-    go : (b : Bool) → map (λ (turn : ℕ × Request). numbered phase turn.1) more ≡ map (numbered phase) (asked_of i tasks)
-        → map (λ (turn : ℕ × Request). numbered phase turn.1) (if b then turn_of task ∷ more else more)
-        ≡ map (numbered phase) (if b then task.request ∷ asked_of i tasks else asked_of i tasks)
+    go : (b : Bool) → map (λ (turn : ℕ × Request). (phase, turn.1)) more ≡ numbered phase (asked_of i tasks)
+        → map (λ (turn : ℕ × Request). (phase, turn.1)) (if b then turn_of task ∷ more else more)
+        ≡ numbered phase (if b then task.request ∷ asked_of i tasks else asked_of i tasks)
     go true rest = ap (λ (asks : List (ℕ × Request)). (phase, task.request) ∷ asks) rest
     go false rest = rest
 
@@ -68,7 +65,7 @@ module _ (functions : DigestFunctions) (settings : Settings) (script : List (Lis
   phase_turns : turns_of host phase ≡ map turn_of tasks
   phase_turns = get_or-map (λ (some : List Task). map turn_of some) script phase []
 
-  inside : asked_in i phase (turns_of host phase) ≡ map (numbered phase) (asked_of i tasks)
+  pub inside : asked_in i phase (turns_of host phase) ≡ numbered phase (asked_of i tasks)
   inside = ap (λ (turns : List (ℕ × Request)). asked_in i phase turns) phase_turns ∙ asked_pairs i phase tasks
 
   -- what is asked in the phase stands behind what was asked before
@@ -81,7 +78,7 @@ module _ (functions : DigestFunctions) (settings : Settings) (script : List (Lis
       ap (λ (asks : List (ℕ × Request)). slice_get asks (asked_by host i phase 0 + k)) (asked-around i 0 phase phase host.script (omega arith) there_still)
       ∙ slice_get-behind front (within ++ more) k (asked_by host i phase 0 + k) (omega arith)
       ∙ slice_get-front within more k (phase, request)
-      (ap (λ (asks : List (ℕ × Request)). slice_get asks k) inside ∙ slice_get-map (numbered phase) (asked_of i tasks) k request is)
+      (ap (λ (asks : List (ℕ × Request)). slice_get asks k) inside ∙ slice_get-map (λ (asks : Request). (phase, asks)) (asked_of i tasks) k request is)
 
   -- In the whole phase that much is asked.
   pub asked_count : asked_by host i phase (length (turns_of host phase)) ≡ asked_by host i phase 0 + length (asked_of i tasks)
@@ -90,7 +87,7 @@ module _ (functions : DigestFunctions) (settings : Settings) (script : List (Lis
       let all : take (length turns) turns ≡ turns = take_all (length turns) turns (omega arith) in
       let many : length (asked_in i phase (take (length turns) turns)) ≡ length (asked_of i tasks) =
       ap (λ (some : List (ℕ × Request)). length (asked_in i phase some)) all ∙ ap (λ (asks : List (ℕ × Request)). length asks) inside
-      ∙ length-map (asked_of i tasks) (numbered phase) in
+      ∙ length-map (asked_of i tasks) (λ (asks : Request). (phase, asks)) in
       omega (arith, many)
 
   -- from some request on, what is left to be asked

@@ -1,5 +1,5 @@
 -- What the code reads and writes of a phase, in the machine's words.
-use Rattle.std.proofs.Common.{◌≡◌, ℕ, zero, suc, ◌^◌, ◌<◌, ◌==◌, Bool, true, false, List, [], ◌∷◌, ◌++◌, map, replicate, length, get_or, Option, None, Result, Ok, if◌then◌else◌, sym, ◌∙◌, ap, subst, All, arith}
+use Rattle.std.proofs.Common.{◌≡◌, ℕ, zero, suc, ◌^◌, ◌<◌, ◌≤◌, ◌==◌, Bool, true, false, List, [], ◌∷◌, ◌++◌, map, replicate, length, get_or, Option, None, Result, Ok, if◌then◌else◌, refl, sym, ◌∙◌, ap, subst, All, arith}
 use Rattle.std.specs.List.{AllByRecursion}
 use Rattle.std.proofs.Math.ListN.{get_or-map as get_or-mapped}
 use Rattle.std.proofs.lemmas.List.{get_or-map, length-map, length-replicate}
@@ -21,9 +21,15 @@ use Rattle.host_shard.specs.declared.content.Content as content
 use Rattle.host_shard.specs.Content.{Content, vacant}
 use Rattle.host_shard.specs.Shown.{shown_content}
 use Rattle.host_epochs.specs.declared.hand.Hand.{Hand}
-use Rattle.host_table.specs.Calls.{AreAll, IsNew, told_by}
-use Rattle.host_table.specs.Phase.{IsPhase, row_at}
-use Rattle.host_table.specs.Terms.{Terms, IsClockOf, IsPlaceOf}
+use Rattle.host_epochs.specs.Calls.{AreAll, IsNew}
+use Rattle.host_epochs.specs.Hands as hands
+use Rattle.host_epochs.specs.Round as rounds
+use Rattle.host_epochs.specs.Terms as epochs
+use Rattle.host_table.specs.declared.views.Row.{Row}
+use Rattle.host_table.specs.Phase.{row_at}
+use Rattle.host_table.specs.Services.{row_of}
+use Rattle.host_table.specs.Terms.{IsClockOf, IsPlaceOf, phase_of}
+use Rattle.host_table.proofs.PhaseLaws.{clock_back}
 use Rattle.host_world.specs.declared.fault.ClockEnd.{ClockEnd}
 use Rattle.shipped_host.specs.declared.settings.Settings.{Settings}
 use Rattle.host_world.specs.declared.worker.Worker as code
@@ -38,11 +44,15 @@ use Rattle.host_serving.specs.Leading.{Leads}
 use Rattle.host_serving.specs.Standing.{turns_of, IsServedUpTo, NoneStopped}
 use Rattle.host_serving.proofs.LeadingLaws.{leads-with}
 use Rattle.table_order.specs.Phases.{AreTermsOf}
-use Rattle.worker_threads.specs.declared.turns.Turn.{Turn}
-use Rattle.worker_threads.specs.Parts.{asked_in, asked_of, HasDone, HaveTurns}
-use Rattle.worker_threads.specs.Phase.{AreAsked, IsPlaceFor, IsServedAtOnce}
+use Rattle.round_workers.specs.declared.turn.Turn.{Turn}
+use Rattle.round_workers.specs.Parts.{asked_in, HaveTurns}
+use Rattle.round_workers.specs.Parts as parts
+use Rattle.worker_threads.specs.Parts.{asked_of, HasDone}
+use Rattle.worker_threads.specs.Phase.{numbered, AreAsked, IsPlaceFor, IsServedAtOnce}
 use Rattle.worker_threads.specs.Participants.{AreToServe, HaveServed}
 use Rattle.worker_threads.proofs.FilledLemmas.{filled_again, filled_count}
+use Rattle.worker_threads.proofs.PlainLemmas.{has_done_plain}
+use Rattle.host_table.proofs.RoundLaws.{round_phase, row_at_phase}
 
 -- ---- what is asked
 
@@ -57,11 +67,18 @@ asked_below limit i (task ∷ tasks) all = go (task.worker == i) (asked_below li
     go true rest = (all.0, rest)
     go false rest = rest
 
-turn_below : (limit : ℕ) (turns : List Turn) (k : ℕ) (d : Turn) → AllByRecursion (λ (request : Request). request.key < limit) (asked_in turns)
-    → k < length turns → (get_or turns k d).task.request.key < limit
-turn_below limit [] k d all there = absurd (omega (arith, there))
-turn_below limit (turn ∷ turns) zero d all there = all.0
-turn_below limit (turn ∷ turns) (suc k) d all there = turn_below limit turns k d all.1 (omega (arith, there))
+-- what is so of all that is asked is so of each turn
+turn_has : (P : ℕ × Request → Type 0) (turns : List Turn) (k : ℕ) (d : Turn) → AllByRecursion P (asked_in turns) → k < length turns
+    → P ((get_or turns k d).phase, (get_or turns k d).task.request)
+turn_has P [] k d all there = absurd (omega (arith, there))
+turn_has P (turn ∷ turns) zero d all there = all.0
+turn_has P (turn ∷ turns) (suc k) d all there = turn_has P turns k d all.1 (omega (arith, there))
+
+-- what is asked of a phase is of that, with keys in range
+numbered_below : (limit phase : ℕ) (requests : List Request) → AllByRecursion (λ (request : Request). request.key < limit) requests
+    → AllByRecursion (λ (turn : ℕ × Request). (turn.0 ≡ phase) × (turn.1.key < limit)) (numbered phase requests)
+numbered_below limit phase [] all = tt
+numbered_below limit phase (request ∷ requests) all = ((refl, all.0), numbered_below limit phase requests all.1)
 
 keys_in : (header : Header) (script : List (List Task)) (phase : ℕ) → AreInRange header script
     → AllByRecursion (λ (t : Task). t.request.key < 2 ^ key_bits (wide_of header)) (get_or script phase [])
@@ -88,21 +105,25 @@ workers_in functions settings script phase count all =
     go [] below = tt
     go (task ∷ tasks) below = (below.0, go tasks below.1)
 
--- The places of the turns are those of their keys.
-pub have_turns : (host : Host Content Request) (world : World Content) (script : List (List Task)) (terms : Terms) (turns : List (List Turn))
-    → AreInRange host.header script → length turns ≡ terms.workers → AreAsked host world (get_or script world.phase []) turns
-    → ((place : ℕ) (request : Request) → request.key < 2 ^ key_bits (wide_of host.header) → IsPlaceFor host world request place → IsPlaceOf terms place request.key)
+-- The places of the turns are those of their keys, and their phase is one of the round.
+pub have_turns : (host : Host Content Request) (world : World Content) (script : List (List Task)) (phase : ℕ) (terms : epochs.Terms) (turns : List (List Turn))
+    → AreInRange host.header script → length turns ≡ terms.workers → phase ≤ terms.more → AreAsked host world phase (get_or script world.phase []) turns
+    → ((place : ℕ) (request : Request) → request.key < 2 ^ key_bits (wide_of host.header) → IsPlaceFor host world request place → IsPlaceOf (phase_of terms) place request.key)
     → HaveTurns terms turns
-have_turns host world script terms turns keys many are owned = record {
+have_turns host world script phase terms turns keys many within are owned = record {
   many = many;
-  places = λ i d there.
+  places = λ i d there k turn below.
       let own = get_or turns i d in
       let asked = are i d there in
-      let small = asked_below (2 ^ key_bits (wide_of host.header)) i (get_or script world.phase []) (keys_in host.header script world.phase keys) in
-      λ k turn within. owned (get_or own k turn).place (get_or own k turn).task.request
-      (turn_below (2 ^ key_bits (wide_of host.header)) own k turn
-      (subst (AllByRecursion (λ (request : Request). request.key < 2 ^ key_bits (wide_of host.header))) (sym asked.requests) small) within)
-      (asked.places k turn within);
+      let limit = 2 ^ key_bits (wide_of host.header) in
+      let small = asked_below limit i (get_or script world.phase []) (keys_in host.header script world.phase keys) in
+      let has = turn_has (λ (t : ℕ × Request). (t.0 ≡ phase) × (t.1.key < limit)) own k turn
+      (subst (AllByRecursion (λ (t : ℕ × Request). (t.0 ≡ phase) × (t.1.key < limit))) (sym asked.requests)
+      (numbered_below limit phase (asked_of i (get_or script world.phase [])) small)) below in
+      record {
+        at = owned (get_or own k turn).place (get_or own k turn).task.request has.1 (asked.places k turn below);
+        phase = subst (λ (n : ℕ). n ≤ terms.more) (sym has.0) within;
+      };
 }
 
 -- ---- a world that lends
@@ -156,48 +177,60 @@ some_of (worker ∷ workers) i there = worker
 -- ---- ready to serve
 
 -- The workers are to serve, where their clocks are of the table.
-pub to_serve : (host : Host Content Request) (world : World Content) (terms : Terms) (table : TableId) (workers : List code.Worker) (hands : List Hand) (number : ℕ)
-    → map shown_worker workers ≡ world.workers → terms.workers ≡ number → length world.workers ≡ number → AreAll table number hands → All IsNew hands → NoneStopped host world
-    → ((i : ℕ) → i < length world.workers → IsClockOf terms (worker_at host world i).clock) → AreToServe terms table workers hands
-to_serve host world terms table workers hands number same told count all new running clocks = record {
-  all = subst (λ (n : ℕ). AreAll table n hands) (sym told) all;
+pub to_serve : (host : Host Content Request) (world : World Content) (terms : epochs.Terms) (table : TableId) (workers : List code.Worker) (hs : List Hand) (number : ℕ)
+    → terms.more ≡ 0 → map shown_worker workers ≡ world.workers → terms.workers ≡ number → length world.workers ≡ number → AreAll table number hs → All IsNew hs
+    → NoneStopped host world → ((i : ℕ) → i < length world.workers → IsClockOf (phase_of terms) (worker_at host world i).clock) → AreToServe terms table workers hs
+to_serve host world terms table workers hs number one same told count all new running clocks = record {
+  all = subst (λ (n : ℕ). AreAll table n hs) (sym told) all;
   count = shown_count workers world.workers same ∙ count ∙ sym told;
   new = new;
   running = shown_all (λ w. w.stopped ≡ false) workers world.workers (fresh host.header) same running;
-  clocks = shown_all (λ w. IsClockOf terms w.clock) workers world.workers (fresh host.header) same clocks;
+  clocks = shown_all (λ w. epochs.IsClockOf terms w.clock) workers world.workers (fresh host.header) same
+      (λ i there. clock_back terms one (worker_at host world i).clock (clocks i there));
+  epochs = shown_all (λ w. w.clock.at.epoch ≡ epochs.first_epoch terms) workers world.workers (fresh host.header) same (λ i there. (clocks i there).epoch);
 }
 
 -- ---- served
 
 -- What was served at the table is a phase served at once.
-pub served_at_once : (functions : DigestFunctions) (settings : Settings) (script : List (List Task)) (world later : World Content) (terms : Terms) (table : TableId)
-    (after : List content.Content) (workers new : List code.Worker) (hands : List Hand) (turns : List (List Turn))
-    → IsServedUpTo (shipped_host functions settings script) world 0 → NoneStopped (shipped_host functions settings script) world
-    → AreTermsOf (shipped_host functions settings script) settings.absent world terms → IsPhase terms after (map told_by hands)
+pub served_at_once : (functions : DigestFunctions) (settings : Settings) (script : List (List Task)) (world later : World Content) (terms : epochs.Terms) (table : TableId)
+    (after : List content.Content) (workers new : List code.Worker) (hs : List Hand) (turns : List (List Turn)) → terms.more ≡ 0
+    → IsServedUpTo (shipped_host functions settings script) world world.phase 0 → NoneStopped (shipped_host functions settings script) world
+    → AreTermsOf (shipped_host functions settings script) settings.absent world (phase_of terms)
+    → ((i : ℕ) → i < length world.workers → IsClockOf (phase_of terms) (worker_at (shipped_host functions settings script) world i).clock)
+    → rounds.IsRound terms after (map hands.row_of hs)
     → map shown_worker workers ≡ world.workers → length turns ≡ length workers
-    → AreAsked (shipped_host functions settings script) world (get_or script world.phase []) turns → HaveServed terms table turns workers new hands
+    → AreAsked (shipped_host functions settings script) world 0 (get_or script world.phase []) turns → HaveServed terms table turns workers new hs
     → later ≡ record world { shards = filled world.shards (map shown_content after); workers = map shown_worker new }
-    → IsServedAtOnce (shipped_host functions settings script) settings.absent (get_or script world.phase []) world later terms after (map told_by hands)
-served_at_once functions settings script world later terms table after workers new hands turns begins running made closed same many are served is =
+    → IsServedAtOnce (shipped_host functions settings script) settings.absent (get_or script world.phase []) world later (phase_of terms) after
+    (map row_of (map hands.row_of hs))
+served_at_once functions settings script world later terms table after workers new hs turns one begins running made clocks closed same many are served is =
     let host = shipped_host functions settings script in
+    let rows = map hands.row_of hs in
     let new_are : map shown_worker new ≡ later.workers = sym (ap (λ (w : World Content). w.workers) is) in
     let count = shown_count workers world.workers same in
     record {
       begins = begins;
       running = running;
       made = made;
-      closed = closed;
+      closed = round_phase terms one after rows closed;
       count = sym (shown_count new later.workers new_are) ∙ served.count ∙ count;
       parts = λ i there.
           let within : i < length workers = omega (arith, there, count) in
           let some = some_of workers i within in
           let tasks = get_or script world.phase [] in
-          subst (λ (w : Worker). HasDone (asked_of i tasks) (row_at (map told_by hands) i) (worker_at host world i) w)
-          (sym (shown_at new later.workers new_are i some (fresh settings.header) (omega (arith, within, served.count))))
-          (subst (λ (w : Worker). HasDone (asked_of i tasks) (row_at (map told_by hands) i) w (shown_worker (get_or new i some)))
-          (sym (shown_at workers world.workers same i some (fresh settings.header) within))
-          (subst (λ (asks : List Request). HasDone asks (row_at (map told_by hands) i) (shown_worker (get_or workers i some)) (shown_worker (get_or new i some)))
-          (are i [] (omega (arith, within, many))).requests (served.parts i some within)));
+          let old_is = shown_at workers world.workers same i some (fresh settings.header) within in
+          let new_is = shown_at new later.workers new_are i some (fresh settings.header) (omega (arith, within, served.count)) in
+          let known : i < terms.workers = (let told = made.workers in omega (arith, there, told)) in
+          let part = subst (λ (asks : List (ℕ × Request)). parts.HasDone (epochs.first_epoch terms) terms.more asks (rounds.row_at rows i)
+          (shown_worker (get_or workers i some)) (shown_worker (get_or new i some)))
+          (are i [] (omega (arith, within, many))).requests (served.parts i some within) in
+          let here : (shown_worker (get_or workers i some)).clock.at.epoch ≡ epochs.first_epoch terms = ap (λ (w : Worker). w.clock.at.epoch) (sym old_is) ∙ (clocks i there).epoch in
+          subst (λ (w : Worker). HasDone (asked_of i tasks) (row_at (map row_of rows) i) (worker_at host world i) w) (sym new_is)
+          (subst (λ (w : Worker). HasDone (asked_of i tasks) (row_at (map row_of rows) i) w (shown_worker (get_or new i some))) (sym old_is)
+          (subst (λ (row : Row). HasDone (asked_of i tasks) row (shown_worker (get_or workers i some)) (shown_worker (get_or new i some))) (sym (row_at_phase rows i))
+          (has_done_plain terms one i (asked_of i tasks) (rounds.row_at rows i) (shown_worker (get_or workers i some)) (shown_worker (get_or new i some))
+          (closed.own i known) here part)));
       is = is ∙ ap (λ (ws : List Worker). record world { shards = filled world.shards (map shown_content after); workers = ws }) new_are;
     }
 

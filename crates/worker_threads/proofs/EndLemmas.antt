@@ -1,4 +1,4 @@
--- The first end of a clock among turns: there is none where no worker is stopped behind them, and a turn behind which its worker
+-- The first end of a clock among the events of a round: there is none where no worker is stopped behind them, and a turn behind which its worker
 -- is stopped is where its clock ended.
 use Rattle.std.proofs.Common.{◌≡◌, ℕ, zero, suc, ◌<◌, Bool, true, false, List, [], ◌∷◌, ◌++◌, length, get_or, set, Option, Some, None, is_none, if◌then◌else◌, refl, sym, ◌∙◌, ap, true≢false, arith}
 use Rattle.std.specs.List.{AllByRecursion}
@@ -6,14 +6,15 @@ use Rattle.std.proofs.lemmas.Option.{none-some}
 use Rattle.std.proofs.lemmas.List.{get_or-set_same}
 use Rattle.host_core.specs.Host.{Host, Done}
 use Rattle.host_core.specs.World.{Place, Worker, Seats, World, fresh, worker_at, shard_at}
-use Rattle.host_core.specs.WorldEvent.{WorldEvent, takes, serves, gives, AreEnabled, step, run_events, after_serve, logging, having_served}
+use Rattle.log_codec.specs.declared.command.Command.TheVariants.{NextEpoch}
+use Rattle.host_core.specs.WorldEvent.{WorldEvent, takes, serves, gives, raises, enters, scans, finishes, AreEnabled, step, run_events, after_serve, after_scan, logging, having_served, having_scanned, next_clock}
 use Rattle.host_world.specs.declared.fault.ClockEnd.{ClockEnd}
 use Rattle.host_world.specs.Ending.{end_at, end_of}
 use Rattle.host_world.proofs.FrontLaws.{length-step}
 use Rattle.host_serving.specs.Leading.{first_of, first_end}
 use Rattle.host_serving.specs.Turn.{turn_at}
 use Rattle.host_serving.proofs.LeadingLaws.{first_end-append}
-use Rattle.worker_threads.proofs.ShapeLemmas.{IsOfTurn}
+use Rattle.worker_threads.proofs.ShapeLemmas.{IsOfRound}
 
 -- ---- a flag of one worker
 
@@ -40,7 +41,15 @@ module _ {C R : Type 0} (host : Host C R) where
       flag-set world.workers j i (having_served (logging (worker_at host world j) done.commands done.clock) place) (fresh host.header) true is
       (flag-own world i j true is)
 
-  step-stays : (world : World C) (event : WorldEvent R) (i : ℕ) → IsOfTurn event → (worker_at host world i).stopped ≡ true
+  scan-stays : (world : World C) (j i : ℕ) (place : Place) (shard : Seats C) (what : Option (Done (List C))) → (worker_at host world i).stopped ≡ true
+      → (worker_at host (after_scan world j (worker_at host world j) place shard what) i).stopped ≡ true
+  scan-stays world j i place shard None is =
+      flag-set world.workers j i (record (worker_at host world j) { stopped = true }) (fresh host.header) true is (λ same. refl)
+  scan-stays world j i place shard (Some done) is =
+      flag-set world.workers j i (having_scanned (logging (worker_at host world j) done.commands done.clock) place) (fresh host.header) true is
+      (flag-own world i j true is)
+
+  step-stays : (world : World C) (event : WorldEvent R) (i : ℕ) → IsOfRound event → (worker_at host world i).stopped ≡ true
       → (worker_at host (step host world event) i).stopped ≡ true
   step-stays world (takes j place) i turn is =
       flag-set world.workers j i (record (worker_at host world j) { holds = Some (record { place = place; used = false }) }) (fresh host.header) true is
@@ -48,9 +57,15 @@ module _ {C R : Type 0} (host : Host C R) where
   step-stays world (serves j place request) i turn is = serve-stays world j i place (shard_at world place.shard) _ is
   step-stays world (gives j place) i turn is =
       flag-set world.workers j i (record (worker_at host world j) { holds = None }) (fresh host.header) true is (flag-own world i j true is)
+  step-stays world (raises j) i turn is = is
+  step-stays world (enters j) i turn is =
+      flag-set world.workers j i (logging (worker_at host world j) (NextEpoch ∷ []) (next_clock (worker_at host world j).clock)) (fresh host.header) true is
+      (flag-own world i j true is)
+  step-stays world (scans j place) i turn is = scan-stays world j i place (shard_at world place.shard) _ is
+  step-stays world (finishes j) i turn is = is
   step-stays world event i turn is = absurd turn
 
-  run-stays : (world : World C) (events : List (WorldEvent R)) (i : ℕ) → AllByRecursion IsOfTurn events → (worker_at host world i).stopped ≡ true
+  run-stays : (world : World C) (events : List (WorldEvent R)) (i : ℕ) → AllByRecursion IsOfRound events → (worker_at host world i).stopped ≡ true
       → (worker_at host (run_events host world events) i).stopped ≡ true
   run-stays world [] i turns is = is
   run-stays world (event ∷ events) i turns is = run-stays (step host world event) events i turns.1 (step-stays world event i turns.0 is)
@@ -64,15 +79,22 @@ module _ {C R : Type 0} (host : Host C R) where
       ap (λ (o : Option (Done C)). (worker_at host (after_serve world i (worker_at host world i) place shard o) i).stopped) is
       ∙ ap (λ (w : Worker). w.stopped) (get_or-set_same world.workers i (record (worker_at host world i) { stopped = true }) (fresh host.header) there)
 
-  -- the end of a serve, by what is done
-  serve-end : (what : Option (Done C)) (done : Done C) (end : ClockEnd) → what ≡ Some done → ◌≡◌ {A = Option ClockEnd} (if is_none what then Some end else None) None
-  serve-end what done end is = ap (λ (o : Option (Done C)). if is_none o then Some end else None) is
+  -- so does a scan
+  scan-stops : (world : World C) (i : ℕ) (place : Place) (shard : Seats C) (what : Option (Done (List C))) → i < length world.workers → what ≡ None
+      → (worker_at host (after_scan world i (worker_at host world i) place shard what) i).stopped ≡ true
+  scan-stops world i place shard what there is =
+      ap (λ (o : Option (Done (List C))). (worker_at host (after_scan world i (worker_at host world i) place shard o) i).stopped) is
+      ∙ ap (λ (w : Worker). w.stopped) (get_or-set_same world.workers i (record (worker_at host world i) { stopped = true }) (fresh host.header) there)
+
+  -- the end of a serve, or of a scan, by what is done
+  serve-end : {X : Type 0} (what : Option X) (done : X) (end : ClockEnd) → what ≡ Some done → ◌≡◌ {A = Option ClockEnd} (if is_none what then Some end else None) None
+  serve-end {X} what done end is = ap (λ (o : Option X). if is_none o then Some end else None) is
 
   abbrev NoneStopped : World C → Type 0
   NoneStopped world = (i : ℕ) → i < length world.workers → (worker_at host world i).stopped ≡ false
 
   -- Where no worker is stopped behind turns, no clock ended in them.
-  pub unended : (world : World C) (events : List (WorldEvent R)) → AllByRecursion IsOfTurn events → AreEnabled host world events
+  pub unended : (world : World C) (events : List (WorldEvent R)) → AllByRecursion IsOfRound events → AreEnabled host world events
       → ((i : ℕ) → i < length world.workers → (worker_at host (run_events host world events) i).stopped ≡ false)
       → first_end host world events ≡ None
   unended world [] turns enabled running = refl
@@ -81,7 +103,7 @@ module _ {C R : Type 0} (host : Host C R) where
       ∙ unended (step host world event) events turns.1 enabled.1
       (λ i there. running i (omega (arith, there, length-step host world event)))
     where
-      one : (event : WorldEvent R) → IsOfTurn event → AreEnabled host world (event ∷ events)
+      one : (event : WorldEvent R) → IsOfRound event → AreEnabled host world (event ∷ events)
           → ((i : ℕ) → i < length world.workers → (worker_at host (run_events host world (event ∷ events)) i).stopped ≡ false)
           → end_of host world event ≡ None
       one (takes i place) turn may running = refl
@@ -95,6 +117,18 @@ module _ {C R : Type 0} (host : Host C R) where
               absurd (true≢false (sym (run-stays (step host world (serves i place request)) events i turns.1 stopped) ∙ running i there))
           go (Some done) is = serve-end _ done (end_at host world i) is
       one (gives i place) turn may running = refl
+      one (raises i) turn may running = refl
+      one (enters i) turn may running = refl
+      one (scans i place) turn may running = go _ refl
+        where
+          go : (what : Option (Done (List C))) → host.move i (worker_at host world i).clock place.shard (shard_at world place.shard).contents ≡ what
+              → end_of host world (scans i place) ≡ None
+          go None is =
+              let there = may.0.rolling.serving.there in
+              let stopped = scan-stops world i place (shard_at world place.shard) _ there is in
+              absurd (true≢false (sym (run-stays (step host world (scans i place)) events i turns.1 stopped) ∙ running i there))
+          go (Some done) is = serve-end _ done (end_at host world i) is
+      one (finishes i) turn may running = refl
       one other turn may running = absurd turn
 
   -- ---- where a turn's worker is stopped behind it, its clock ended

@@ -36,7 +36,8 @@ use Rattle.table_order.specs.Servings.{lists_of, stops_of}
 use Rattle.worker_threads.specs.Phase.{first_stopped, IsServedAtOnce}
 use Rattle.worker_threads.proofs.EndLemmas.{unended, turn_ended, ended_behind}
 use Rattle.worker_threads.proofs.FilledLemmas.{HaveFive}
-use Rattle.worker_threads.proofs.ShapeLemmas.{replay-turns, run-workers}
+use Rattle.stamp_order.proofs.InOrderLaws.{every-weaker}
+use Rattle.worker_threads.proofs.ShapeLemmas.{IsOfTurn, IsOfRound, of_round, replay-turns, run-workers}
 use Rattle.worker_threads.proofs.StopLemmas.{NoneFirst, SomeFirst, first_stop, rising_from}
 use Rattle.worker_threads.proofs.WorldLemmas.{rows_are, of_world, clock_left, world_same}
 
@@ -104,7 +105,7 @@ module _ (functions : DigestFunctions) (settings : Settings) (script : List (Lis
   none_ended : first_end host before turns ≡ None
   none_ended =
       let count = length-before_each logs world.workers in
-      unended host before turns (replay-turns (in_one_order (joined lists))) quiet.0 (λ i there. running_middle i (omega (arith, there, count)))
+      unended host before turns (every-weaker IsOfTurn IsOfRound of_round turns (replay-turns (in_one_order (joined lists)))) quiet.0 (λ i there. running_middle i (omega (arith, there, count)))
 
   -- ---- the first stop
 

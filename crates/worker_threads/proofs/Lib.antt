@@ -1,6 +1,5 @@
--- How the phases of workers in threads are proved, in reading order: one worker, what the script asks, what turns do to a world,
--- the law of a phase, and the code.
-mod ServingLemmas
+-- How the phases of workers in threads are proved, in reading order: what the script asks, what turns do to a world, the law of a phase,
+-- a round that is one, and the code.
 mod TurnLemmas
 mod AskedLemmas
 mod ShapeLemmas
@@ -13,6 +12,7 @@ mod LeadLemmas
 mod SeatLemmas
 mod MakingLemmas
 mod TableLemmas
+mod PlainLemmas
 mod ThreadLemmas
 mod SendLemmas
 mod FeedLemmas

@@ -12,7 +12,7 @@ use Rattle.verifier_feeds.specs.contracts.inbox.Inbox as Inbox
 use Rattle.verifier_feeds.proofs.inbox.Inbox.TheSendSync as inbox
 use Rattle.verifier_feeds.specs.contracts.outbox.Outbox as Outbox
 use Rattle.verifier_feeds.proofs.outbox.Outbox.TheSendSync as outbox
-use Rattle.worker_threads.specs.contracts.worker_thread.WorkerThread as WorkerThread
+use Rattle.round_workers.specs.contracts.worker_thread.WorkerThread as WorkerThread
 use Rattle.worker_threads.specs.contracts.worker_pair.WorkerPair as WorkerPair
 
 log-send : IsSend WorkerLog.the_row
@@ -24,7 +24,7 @@ worker-send = search (log-send, sendable, crosses) depth 40
 thread-send : IsSend WorkerThread.the_row
 thread-send =
     declared_send WorkerThread.the_type
-    (worker-send, (as_row_send Hand.the_field hand.the_field_send, (as_row_send Outbox.the_field outbox.the_field_send, (search sendable, tt))))
+    (worker-send, (as_row_send Hand.the_field hand.the_field_send, (as_row_send Outbox.the_field outbox.the_field_send, (search sendable, (search sendable, tt)))))
 
 pub pair-send : IsSend WorkerPair.the_row
 pair-send = declared_send WorkerPair.the_type (thread-send, (as_row_send Inbox.the_field inbox.the_field_send, tt))

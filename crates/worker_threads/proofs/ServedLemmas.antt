@@ -72,7 +72,7 @@ module _ (functions : DigestFunctions) (settings : Settings) (script : List (Lis
                 omega (arith, part.served, all, count, first),
           )
 
-      up_to : IsServedUpTo host later (length (turns_of host world.phase))
+      up_to : IsServedUpTo host later later.phase (length (turns_of host world.phase))
       up_to = record {
         going = ap (λ (w : World Content). w.over) is.is ∙ is.begins.going;
         phase = ap (λ (w : World Content). w.closing) is.is ∙ is.begins.phase;

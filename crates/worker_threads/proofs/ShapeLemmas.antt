@@ -5,7 +5,7 @@ use Rattle.std.proofs.lemmas.List.{length-set}
 use Rattle.stamp_order.proofs.InOrderLaws.{every-append}
 use Rattle.host_core.specs.Host.{Host, Done}
 use Rattle.host_core.specs.World.{Place, Worker, Seats, World, unmoved, worker_at, shard_at}
-use Rattle.host_core.specs.WorldEvent.{WorldEvent, takes, serves, gives, step, run_events, after_serve}
+use Rattle.host_core.specs.WorldEvent.{WorldEvent, takes, serves, gives, raises, enters, scans, finishes, step, run_events, after_serve}
 use Rattle.host_order.specs.Serving.{Serving, in_one_order, replay}
 use Rattle.host_order.specs.Told.{Stop, joined, replay_stops, phase_events}
 use Rattle.host_world.proofs.FrontLaws.{length-step}
@@ -63,6 +63,23 @@ IsOfTurn (takes i place) = Unit {0}
 IsOfTurn (serves i place request) = Unit {0}
 IsOfTurn (gives i place) = Unit {0}
 IsOfTurn event = ⊥
+
+-- or one of a round but for the stops
+abbrev pub IsOfRound : {R : Type 0} → WorldEvent R → Type 0
+IsOfRound (takes i place) = Unit {0}
+IsOfRound (serves i place request) = Unit {0}
+IsOfRound (gives i place) = Unit {0}
+IsOfRound (raises i) = Unit {0}
+IsOfRound (enters i) = Unit {0}
+IsOfRound (scans i place) = Unit {0}
+IsOfRound (finishes i) = Unit {0}
+IsOfRound event = ⊥
+
+pub of_round : {R : Type 0} (event : WorldEvent R) → IsOfTurn event → IsOfRound event
+of_round (takes i place) is = tt
+of_round (serves i place request) is = tt
+of_round (gives i place) is = tt
+of_round event is = absurd is
 
 stops-turns : {R : Type 0} (stops : List (Stop R)) → AllByRecursion IsOfTurn (replay_stops stops)
 stops-turns [] = tt

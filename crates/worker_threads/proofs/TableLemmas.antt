@@ -27,7 +27,7 @@ use Rattle.worker_threads.proofs.ServedLemmas.{within_script, served_before}
 
 -- A world whose phase begins is at rest.
 pub at_rest : (functions : DigestFunctions) (settings : Settings) (script : List (List Task)) (logs : List (List Command)) (world : World Content)
-    → IsServedUpTo (shipped_host functions settings script) world 0
+    → IsServedUpTo (shipped_host functions settings script) world world.phase 0
     → IsInPhase (shipped_host functions settings script) (with_logs logs world)
     → IsAtRest (shipped_host functions settings script) (with_logs logs world)
 at_rest functions settings script logs world begins epochs = record {

@@ -12,16 +12,18 @@ use Rattle.certified_epochs.specs.declared.fed_run.FedRun.{FedRun}
 use Rattle.host_rounds.specs.Feeding.{Reads}
 use Rattle.atomic_table.specs.Seated.{TableId}
 use Rattle.host_epochs.specs.declared.hand.Hand.{Hand}
-use Rattle.host_table.specs.declared.views.Row.{Row}
-use Rattle.host_table.specs.Calls.{IsNew, told_by}
-use Rattle.host_table.specs.Hands.{worker_of, IsFree}
-use Rattle.host_table.specs.Phase.{new_row, row_at}
-use Rattle.host_table.specs.Terms.{Terms, IsClockOf}
+use Rattle.host_epochs.specs.declared.views.Row.{Row}
+use Rattle.host_epochs.specs.Calls.{IsNew}
+use Rattle.host_epochs.specs.Hands.{row_of, worker_of, IsFree}
+use Rattle.host_epochs.specs.Plays.{new_row}
+use Rattle.host_epochs.specs.Round.{row_at}
+use Rattle.host_epochs.specs.Terms.{Terms, IsClockOf, first_epoch}
 use Rattle.host_world.specs.declared.worker.Worker.{Worker}
 use Rattle.host_world.specs.Workers.{shown_worker, writer_in}
-use Rattle.worker_threads.specs.declared.turns.Turn.{Turn}
+use Rattle.round_workers.specs.declared.turn.Turn.{Turn}
+use Rattle.round_workers.specs.Parts.{asked_in, HasDone}
+use Rattle.round_workers.specs.Working.{IsThrough}
 use Rattle.worker_threads.specs.declared.worker_pair.WorkerPair.{WorkerPair}
-use Rattle.worker_threads.specs.Parts.{asked_in, HasDone, IsThrough}
 use Rattle.worker_threads.specs.Pairs.{HasFed, IsPairReady, IsOpened, parcels_in, run_in}
 use Rattle.worker_threads.specs.Participants.{worker_in, hand_in, AreToServe, HaveAll, HaveServed, HaveReadLogs}
 
@@ -115,8 +117,11 @@ module _ (terms : Terms) (table : TableId) (threads : List WorkerPair) (workers 
             ready = record {
               free = subst (IsFree table) (hand_at i d) (All-get_or (IsFree table) hands i d.thread.hand in_hands ready.all.free);
               new = subst IsNew (hand_at i d) (All-get_or IsNew hands i d.thread.hand in_hands ready.new);
+              begun = feed.begun;
               running = subst (λ (w : Worker). w.stopped ≡ false) (worker_at i d) (All-get_or (λ w. w.stopped ≡ false) workers i d.thread.worker in_workers ready.running);
               clock = subst (λ (w : Worker). IsClockOf terms w.clock) (worker_at i d) (All-get_or (λ w. IsClockOf terms w.clock) workers i d.thread.worker in_workers ready.clocks);
+              epoch = subst (λ (w : Worker). w.clock.at.epoch ≡ first_epoch terms) (worker_at i d)
+                  (All-get_or (λ w. w.clock.at.epoch ≡ first_epoch terms) workers i d.thread.worker in_workers ready.epochs);
               empty = feed.empty;
               place = feed.place;
               number = let at = number_at ready i d there in let count = ready.count in omega (arith, in_workers, at, count);
@@ -134,7 +139,7 @@ module _ (terms : Terms) (table : TableId) (threads : List WorkerPair) (workers 
 
   module _ (later : List WorkerPair) (new : List Worker) (left : List Hand) (turns : List (List Turn)) (new_are : new ≡ map worker_in later) (left_are : left ≡ map hand_in later)
       (none : All HaveAll later) (many : length later ≡ length threads)
-      (through : (i : ℕ) (d : WorkerPair) → i < length threads → IsThrough table turns (get_or threads i d).thread (get_or later i d).thread) (ready : AreToServe terms table workers hands) where
+      (through : (i : ℕ) (d : WorkerPair) → i < length threads → IsThrough terms table turns (get_or threads i d).thread (get_or later i d).thread) (ready : AreToServe terms table workers hands) where
     new_at : (i : ℕ) (d : WorkerPair) → get_or new i d.thread.worker ≡ (get_or later i d).thread.worker
     new_at i d = ap (λ (ws : List Worker). get_or ws i d.thread.worker) new_are ∙ get_or-map worker_in later i d
 
@@ -176,20 +181,20 @@ module _ (terms : Terms) (table : TableId) (threads : List WorkerPair) (workers 
             ∙ sym (lists.get_or-map writer_in workers i d.thread.worker w in_workers)
 
     parts : (i : ℕ) (e : Worker) → i < length workers
-        → HasDone (asked_in (get_or turns i [])) (row_at (map told_by left) i) (shown_worker (get_or workers i e)) (shown_worker (get_or new i e))
+        → HasDone (first_epoch terms) terms.more (asked_in (get_or turns i [])) (row_at (map row_of left) i) (shown_worker (get_or workers i e)) (shown_worker (get_or new i e))
     parts i e within =
         let counts = threads_are in
         let there : i < length threads = omega (arith, within, counts.0) in
         let d = first_of threads i there in
         let old_is : get_or workers i e ≡ (get_or threads i d).thread.worker = get_or_default workers i e d.thread.worker within ∙ worker_at i d in
         let new_is : get_or new i e ≡ (get_or later i d).thread.worker = get_or_default new i e d.thread.worker (omega (arith, there, new_count)) ∙ new_at i d in
-        let row : row_at (map told_by left) i ≡ told_by (get_or later i d).thread.hand =
-        lists.get_or-map told_by left i d.thread.hand new_row (omega (arith, there, left_count)) ∙ ap told_by (left_at i d) in
+        let row : row_at (map row_of left) i ≡ row_of (get_or later i d).thread.hand =
+        lists.get_or-map row_of left i d.thread.hand new_row (omega (arith, there, left_count)) ∙ ap row_of (left_at i d) in
         let done = (through i d there).part (All-get_or HaveAll later i d (omega (arith, there, many)) none).worker in
-        subst (λ (w : Worker). HasDone (asked_in (get_or turns i [])) (row_at (map told_by left) i) (shown_worker w) (shown_worker (get_or new i e))) (sym old_is)
-        (subst (λ (w : Worker). HasDone (asked_in (get_or turns i [])) (row_at (map told_by left) i) (shown_worker (get_or threads i d).thread.worker) (shown_worker w)) (sym new_is)
-        (subst (λ (r : Row). HasDone (asked_in (get_or turns i [])) r (shown_worker (get_or threads i d).thread.worker) (shown_worker (get_or later i d).thread.worker)) (sym row)
-        (subst (λ (n : ℕ). HasDone (asked_in (get_or turns n [])) (told_by (get_or later i d).thread.hand) (shown_worker (get_or threads i d).thread.worker)
+        subst (λ (w : Worker). HasDone (first_epoch terms) terms.more (asked_in (get_or turns i [])) (row_at (map row_of left) i) (shown_worker w) (shown_worker (get_or new i e))) (sym old_is)
+        (subst (λ (w : Worker). HasDone (first_epoch terms) terms.more (asked_in (get_or turns i [])) (row_at (map row_of left) i) (shown_worker (get_or threads i d).thread.worker) (shown_worker w)) (sym new_is)
+        (subst (λ (r : Row). HasDone (first_epoch terms) terms.more (asked_in (get_or turns i [])) r (shown_worker (get_or threads i d).thread.worker) (shown_worker (get_or later i d).thread.worker)) (sym row)
+        (subst (λ (n : ℕ). HasDone (first_epoch terms) terms.more (asked_in (get_or turns n [])) (row_of (get_or later i d).thread.hand) (shown_worker (get_or threads i d).thread.worker)
         (shown_worker (get_or later i d).thread.worker)) (number_at ready i d there) done)))
 
     -- They have served.
@@ -207,7 +212,7 @@ module _ (terms : Terms) (table : TableId) (threads : List WorkerPair) (workers 
   pub served_well : {X E : Type 0} (r : Result X E) (new_in : X → List Worker) (left_in : X → List Hand) (turns : List (List Turn)) (later seen : List WorkerPair)
       → seen ≡ later → IfOk r (λ x. new_in x ≡ map worker_in seen) → IfOk r (λ x. left_in x ≡ map hand_in seen)
       → OnOk r (All HaveAll seen) → length later ≡ length threads
-      → ((i : ℕ) (d : WorkerPair) → i < length threads → IsThrough table turns (get_or threads i d).thread (get_or later i d).thread) → AreToServe terms table workers hands
+      → ((i : ℕ) (d : WorkerPair) → i < length threads → IsThrough terms table turns (get_or threads i d).thread (get_or later i d).thread) → AreToServe terms table workers hands
       → IfOk r (λ x. HaveServed terms table turns workers (new_in x) (left_in x))
   served_well (Ok x) new_in left_in turns later seen same new_are left_are none many through ready =
       have_served later (new_in x) (left_in x) turns (new_are ∙ ap (map worker_in) same) (left_are ∙ ap (map hand_in) same)

@@ -9,9 +9,9 @@ use Rattle.script_text.specs.declared.task.Task.{Task}
 use Rattle.host_core.specs.Host.{Host}
 use Rattle.host_core.specs.World.{World}
 use Rattle.host_shard.specs.Content.{Content}
-use Rattle.worker_threads.specs.declared.turns.Turn.{Turn}
+use Rattle.round_workers.specs.declared.turn.Turn.{Turn}
 use Rattle.worker_threads.specs.Parts.{asked_of}
-use Rattle.worker_threads.specs.Phase.{AreAsked, IsAsked, IsPlaceFor}
+use Rattle.worker_threads.specs.Phase.{numbered, AreAsked, IsAsked, IsPlaceFor}
 
 -- ---- tasks, one after another
 
@@ -47,24 +47,24 @@ at_task P before after all task are holds = go before (subst (AllByRecursion P) 
 
 module _ (host : Host Content Request) (world : World Content) where
   -- No turns are what no task asks.
-  pub none-asked : (turns : List (List Turn)) → All (λ own. own ≡ []) turns → AreAsked host world [] turns
-  none-asked turns none i d there =
+  pub none-asked : (phase : ℕ) (turns : List (List Turn)) → All (λ own. own ≡ []) turns → AreAsked host world phase [] turns
+  none-asked phase turns none i d there =
       subst (IsAsked host world []) (sym (All-get_or (λ own. own ≡ []) turns i d there none))
       (record { requests = refl; places = All-nil (λ turn. IsPlaceFor host world turn.task.request turn.place) })
 
   -- What is asked of one worker has its turn more.
-  one-more : (asked : List Request) (turns : List Turn) (turn : Turn) → IsPlaceFor host world turn.task.request turn.place
-      → IsAsked host world asked turns → IsAsked host world (asked ++ turn.task.request ∷ []) (turns ++ turn ∷ [])
+  one-more : (asked : List (ℕ × Request)) (turns : List Turn) (turn : Turn) → IsPlaceFor host world turn.task.request turn.place
+      → IsAsked host world asked turns → IsAsked host world (asked ++ (turn.phase, turn.task.request) ∷ []) (turns ++ turn ∷ [])
   one-more asked turns turn place so_far = record {
     requests =
-        map_push (λ (t : Turn). t.task.request) turns turn
-        ∙ ap (λ (requests : List Request). requests ++ turn.task.request ∷ []) so_far.requests;
+        map_push (λ (t : Turn). (t.phase, t.task.request)) turns turn
+        ∙ ap (λ (requests : List (ℕ × Request)). requests ++ (turn.phase, turn.task.request) ∷ []) so_far.requests;
     places = All-push (λ turn. IsPlaceFor host world turn.task.request turn.place) turns turn so_far.places place;
   }
 
   -- One task more is asked of its worker, at a place of its own, and nothing more of the others.
   pub turn-asked : (tasks : List Task) (turns : List (List Turn)) (turn : Turn) → turn.task.worker < length turns → IsPlaceFor host world turn.task.request turn.place
-      → AreAsked host world tasks turns → AreAsked host world (tasks ++ turn.task ∷ []) (set turns turn.task.worker (get_or turns turn.task.worker [] ++ turn ∷ []))
+      → AreAsked host world turn.phase tasks turns → AreAsked host world turn.phase (tasks ++ turn.task ∷ []) (set turns turn.task.worker (get_or turns turn.task.worker [] ++ turn ∷ []))
   turn-asked tasks turns turn within place so_far i d in_set = go (cases_eq turn.task.worker i)
     where
       after : List (List Turn)
@@ -73,22 +73,24 @@ module _ (host : Host Content Request) (world : World Content) where
       inside : i < length turns
       inside = let many = length-set turns turn.task.worker (get_or turns turn.task.worker [] ++ turn ∷ []) in omega (arith, in_set, many)
 
-      go : (turn.task.worker ≡ i) ⊎ (turn.task.worker ≢ i) → IsAsked host world (asked_of i (tasks ++ turn.task ∷ [])) (get_or after i d)
+      go : (turn.task.worker ≡ i) ⊎ (turn.task.worker ≢ i) → IsAsked host world (numbered turn.phase (asked_of i (tasks ++ turn.task ∷ []))) (get_or after i d)
       go (inl own) =
           let at : get_or after i d ≡ get_or turns i [] ++ turn ∷ [] =
           ap (λ (j : ℕ). get_or (set turns j (get_or turns j [] ++ turn ∷ [])) i d) own ∙ get_or-set_same turns i (get_or turns i [] ++ turn ∷ []) d inside in
-          subst (λ (requests : List Request). IsAsked host world requests (get_or after i d)) (sym (asked-own i tasks turn.task own))
-          (subst (IsAsked host world (asked_of i tasks ++ turn.task.request ∷ [])) (sym at)
-          (one-more (asked_of i tasks) (get_or turns i []) turn place (so_far i [] inside)))
+          let asks : numbered turn.phase (asked_of i (tasks ++ turn.task ∷ [])) ≡ numbered turn.phase (asked_of i tasks) ++ (turn.phase, turn.task.request) ∷ [] =
+          ap (numbered turn.phase) (asked-own i tasks turn.task own) ∙ map_push (λ (request : Request). (turn.phase, request)) (asked_of i tasks) turn.task.request in
+          subst (λ (requests : List (ℕ × Request)). IsAsked host world requests (get_or after i d)) (sym asks)
+          (subst (IsAsked host world (numbered turn.phase (asked_of i tasks) ++ (turn.phase, turn.task.request) ∷ [])) (sym at)
+          (one-more (numbered turn.phase (asked_of i tasks)) (get_or turns i []) turn place (so_far i [] inside)))
       go (inr other) =
           let at : get_or after i d ≡ get_or turns i d = get_or-set_other turns turn.task.worker i (get_or turns turn.task.worker [] ++ turn ∷ []) d (λ same. other (sym same)) in
-          subst (λ (requests : List Request). IsAsked host world requests (get_or after i d)) (sym (asked-other i tasks turn.task other))
-          (subst (IsAsked host world (asked_of i tasks)) (sym at) (so_far i d inside))
+          subst (λ (requests : List Request). IsAsked host world (numbered turn.phase requests) (get_or after i d)) (sym (asked-other i tasks turn.task other))
+          (subst (IsAsked host world (numbered turn.phase (asked_of i tasks))) (sym at) (so_far i d inside))
 
   -- The same of the lists as they stand beside one another in the code.
   pub turn-pushed : {V : Type 0} (items : V → List Turn) (tasks : List Task) (turns : List V) (own pushed : V) (w : ℕ) (turn : Turn) → w ≡ turn.task.worker
       → turn.task.worker < length turns → own ≡ get_or turns w own → items pushed ≡ items own ++ turn ∷ [] → IsPlaceFor host world turn.task.request turn.place
-      → AreAsked host world tasks (map items turns) → AreAsked host world (tasks ++ turn.task ∷ []) (map items (set turns w pushed))
+      → AreAsked host world turn.phase tasks (map items turns) → AreAsked host world turn.phase (tasks ++ turn.task ∷ []) (map items (set turns w pushed))
   turn-pushed {V} items tasks turns own pushed w turn number within at more place so_far =
       let mapped : get_or (map items turns) turn.task.worker [] ≡ items own =
       get_or-map items turns turn.task.worker own [] within ∙ ap (λ (j : ℕ). items (get_or turns j own)) (sym number) ∙ ap items (sym at) in
@@ -96,5 +98,5 @@ module _ (host : Host Content Request) (world : World Content) where
       ap (λ (j : ℕ). map items (set turns j pushed)) number
       ∙ map-set items turns turn.task.worker pushed
       ∙ ap (set (map items turns) turn.task.worker) (more ∙ ap (λ (ts : List Turn). ts ++ turn ∷ []) (sym mapped)) in
-      subst (AreAsked host world (tasks ++ turn.task ∷ [])) (sym now)
+      subst (AreAsked host world turn.phase (tasks ++ turn.task ∷ [])) (sym now)
       (turn-asked tasks (map items turns) turn (omega (arith, within, length-map turns items)) place so_far)

@@ -1,4 +1,4 @@
--- A worker and its verifier beside it, before a phase and behind it.
+-- A worker and its verifier beside it, before a round and behind it.
 use Rattle.std.specs.Prelude.{◌≡◌, ℕ, false, []}
 use Rattle.record_hash.specs.Functions.{DigestFunctions}
 use Rattle.worker_log.specs.Logged.{text_of}
@@ -6,13 +6,13 @@ use Rattle.atomic_table.specs.Seated.{TableId}
 use Rattle.certified_epochs.specs.declared.fed_run.FedRun.{FedRun}
 use Rattle.host_rounds.specs.Feeding.{Reads}
 use Rattle.log_rings.specs.Lanes.{received_by}
-use Rattle.host_table.specs.Table.{table, terms}
-use Rattle.host_table.specs.Terms.{Terms}
+use Rattle.host_epochs.specs.Table.{table, terms}
+use Rattle.host_epochs.specs.Terms.{Terms}
 use Rattle.verifier_feeds.specs.Feeds.{sent_bytes, AreEndsOfOne, HasRoom, KeepsPlace, is_wanting, parcels_of, run_of}
-use Rattle.worker_threads.specs.declared.shared_phase.SharedPhase.{SharedPhase}
+use Rattle.round_workers.specs.declared.shared_round.SharedRound.{SharedRound}
+use Rattle.round_workers.specs.Sharing.{IsSharedRound}
+use Rattle.round_workers.specs.Working.{IsReady}
 use Rattle.worker_threads.specs.declared.worker_pair.WorkerPair.{WorkerPair}
-use Rattle.worker_threads.specs.Parts.{IsReady}
-use Rattle.worker_threads.specs.Serving.{IsSharedPhase}
 
 -- the run of the verifier
 abbrev pub run_in : WorkerPair → FedRun
@@ -22,15 +22,16 @@ run_in pair = run_of pair.inbox
 abbrev pub parcels_in : WorkerPair → ℕ
 parcels_in pair = parcels_of pair.inbox
 
--- A pair whose feed is open: nothing was sent, and nothing has come out.
+-- A pair whose feed is open: nothing was sent, nothing has come out, and the worker entered no epoch.
 pub record IsOpened (pair : WorkerPair) : Type 0 where
   pub empty : sent_bytes pair.thread.outbox ≡ []
+  pub begun : pair.thread.entered ≡ 0
   pub place : KeepsPlace pair.thread.outbox
   pub ends : AreEndsOfOne pair.thread.outbox pair.inbox
   pub fresh : received_by pair.inbox.receiver ≡ []
   pub room : HasRoom pair.inbox
 
--- A pair before the phase: the worker is ready, and nothing has come through the lane to the verifier.
+-- A pair before the round: the worker is ready, and nothing has come through the lane to the verifier.
 pub record IsPairReady (terms : Terms) (table : TableId) (pair : WorkerPair) : Type 0 where
   pub ready : IsReady terms table pair.thread
   pub ends : AreEndsOfOne pair.thread.outbox pair.inbox
@@ -43,7 +44,7 @@ HasFed functions old new =
     new.thread.wanting ≡ false → is_wanting new.inbox ≡ false
     → Reads functions (text_of new.thread.worker.log) (run_in old) (run_in new)
 
--- what a pair asks of its phase
-pub record CanMeet {D : Type 0} (functions : D → DigestFunctions) (shared : SharedPhase D) (pair : WorkerPair) : Type 0 where
-  pub shared_is : IsSharedPhase functions shared
-  pub ready : IsPairReady (terms functions shared.records.now) (table shared.records.now) pair
+-- what a pair asks of its round
+pub record CanMeet {D : Type 0} (functions : D → DigestFunctions) (shared : SharedRound D) (pair : WorkerPair) : Type 0 where
+  pub shared_is : IsSharedRound functions shared
+  pub ready : IsPairReady (terms functions shared.epochs.now) (table shared.epochs.now) pair

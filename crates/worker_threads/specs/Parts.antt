@@ -1,25 +1,16 @@
--- A worker's part of a phase at a table: what it is asked, where that is served, and what it did of it.
-use Rattle.std.specs.Prelude.{◌≡◌, ℕ, ◌+◌, ◌<◌, ◌==◌, false, true, is_some, All, List, [], ◌∷◌, ◌++◌, length, map, get_or, Option, Some, None, if◌then◌else◌}
+-- What a phase asks of a worker, and what the worker did of it: it goes on to no further epoch there.
+use Rattle.std.specs.Prelude.{◌≡◌, ℕ, ◌+◌, ◌==◌, is_some, List, [], ◌∷◌, ◌++◌, length, Option, Some, None, if◌then◌else◌}
 use Rattle.std.specs.List.{flat_map}
 use Rattle.std.specs.Option.{ForSome}
 use Rattle.lamport_clocks.specs.Reading.{Reading}
 use Rattle.record_text.specs.declared.request.Request.{Request}
 use Rattle.log_codec.specs.declared.command.Command.{Command}
-use Rattle.worker_log.specs.Logged.{text_of}
-use Rattle.atomic_table.specs.Seated.{TableId}
 use Rattle.script_text.specs.declared.task.Task.{Task}
 use Rattle.host_core.specs.World.{Worker}
 use Rattle.host_table.specs.declared.told.Service.{Service}
 use Rattle.host_table.specs.declared.told.Stop.{Stop}
 use Rattle.host_table.specs.declared.views.Row.{Row}
-use Rattle.host_table.specs.Calls.{IsNew, told_by}
-use Rattle.host_table.specs.Hands.{worker_of, IsFree}
-use Rattle.host_table.specs.Terms.{Terms, IsClockOf, IsPlaceOf}
-use Rattle.host_world.specs.Workers.{shown_worker, writer_in}
 use Rattle.table_order.specs.Phases.{first_clock}
-use Rattle.verifier_feeds.specs.Feeds.{sent_bytes, HasSentFrontOf, KeepsPlace, SameOutbox}
-use Rattle.worker_threads.specs.declared.turns.Turn.{Turn}
-use Rattle.worker_threads.specs.declared.worker_thread.WorkerThread.{WorkerThread}
 
 -- ---- what is asked
 
@@ -27,19 +18,6 @@ use Rattle.worker_threads.specs.declared.worker_thread.WorkerThread.{WorkerThrea
 abbrev pub asked_of : ℕ → List Task → List Request
 asked_of i [] = []
 asked_of i (task ∷ tasks) = if task.worker == i then task.request ∷ asked_of i tasks else asked_of i tasks
-
--- what a worker's turns ask of it, in order
-abbrev pub asked_in : List Turn → List Request
-asked_in turns = map (λ turn. turn.task.request) turns
-
--- each turn has its key's place at a table
-abbrev pub HavePlaces : Terms → List Turn → Type 0
-HavePlaces terms turns = All (λ turn. IsPlaceOf terms turn.place turn.task.request.key) turns
-
--- The turns of each worker at a table, each at its key's place.
-pub record HaveTurns (terms : Terms) (turns : List (List Turn)) : Type 0 where
-  pub many : length turns ≡ terms.workers
-  pub places : All (HavePlaces terms) turns
 
 -- ---- what is done
 
@@ -69,29 +47,3 @@ pub record HasDone (asked : List Request) (row : Row) (old new : Worker) : Type 
   pub stopped : new.stopped ≡ is_some row.stop
   pub holds : new.holds ≡ old.holds
   pub stuck : new.stuck ≡ old.stuck
-
--- ---- a worker in its thread
-
--- A worker before the phase: it runs, its clock stands in the phase, its hand has done nothing, and it has sent nothing yet.
-pub record IsReady (terms : Terms) (table : TableId) (thread : WorkerThread) : Type 0 where
-  pub free : IsFree table thread.hand
-  pub new : IsNew thread.hand
-  pub running : thread.worker.stopped ≡ false
-  pub clock : IsClockOf terms thread.worker.clock
-  pub empty : sent_bytes thread.outbox ≡ []
-  pub place : KeepsPlace thread.outbox
-  pub number : worker_of thread.hand < terms.workers
-
--- A worker behind it: its log has the writer that it had, and where memory was not wanting it has done its part.
-pub record IsThrough (table : TableId) (turns : List (List Turn)) (old new : WorkerThread) : Type 0 where
-  pub free : IsFree table new.hand
-  pub number : worker_of new.hand ≡ worker_of old.hand
-  pub writer : writer_in new.worker ≡ writer_in old.worker
-  pub part : new.wanting ≡ false
-      → HasDone (asked_in (get_or turns (worker_of old.hand) [])) (told_by new.hand) (shown_worker old.worker) (shown_worker new.worker)
-
--- What its outbox has sent is a front of its log. Where memory was not wanting all of the log is written.
-pub record HasSent (old new : WorkerThread) : Type 0 where
-  pub front : HasSentFrontOf new.outbox (text_of new.worker.log)
-  pub settled : new.wanting ≡ false → new.worker.log.settled ≡ true
-  pub lane : SameOutbox old.outbox new.outbox

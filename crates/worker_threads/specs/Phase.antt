@@ -16,8 +16,9 @@ use Rattle.host_world.specs.Lending.{filled}
 use Rattle.host_world.specs.Places.{place_of}
 use Rattle.host_serving.specs.Standing.{IsServedUpTo, NoneStopped}
 use Rattle.table_order.specs.Phases.{AreTermsOf}
-use Rattle.worker_threads.specs.declared.turns.Turn.{Turn}
-use Rattle.worker_threads.specs.Parts.{asked_in, asked_of, HasDone}
+use Rattle.round_workers.specs.declared.turn.Turn.{Turn}
+use Rattle.round_workers.specs.Parts.{asked_in}
+use Rattle.worker_threads.specs.Parts.{asked_of, HasDone}
 
 -- ---- places
 
@@ -26,14 +27,19 @@ pub record IsPlaceFor (host : Host Content Request) (world : World Content) (req
   pub there : IsPlace world (place_of place)
   pub owns : host.owns (place_of place).shard (shard_at world (place_of place).shard).contents (place_of place).seat request ≡ true
 
--- What a worker's turns ask is what it is asked, and each turn's place owns its request.
-pub record IsAsked (host : Host Content Request) (world : World Content) (asked : List Request) (turns : List Turn) : Type 0 where
+-- What a worker's turns ask, each with its phase, is what it is asked, and each turn's place owns its request.
+pub record IsAsked (host : Host Content Request) (world : World Content) (asked : List (ℕ × Request)) (turns : List Turn) : Type 0 where
   pub requests : asked_in turns ≡ asked
   pub places : All (λ turn. IsPlaceFor host world turn.task.request turn.place) turns
 
--- So it is for each worker, with what the tasks ask of it.
-abbrev pub AreAsked : Host Content Request → World Content → List Task → List (List Turn) → Type 0
-AreAsked host world tasks turns = (i : ℕ) (d : List Turn) → i < length turns → IsAsked host world (asked_of i tasks) (get_or turns i d)
+-- requests, each with the number of its phase
+abbrev pub numbered : ℕ → List Request → List (ℕ × Request)
+numbered phase requests = map (λ request. (phase, request)) requests
+
+-- So it is for each worker, with what the tasks of a phase ask of it.
+abbrev pub AreAsked : Host Content Request → World Content → ℕ → List Task → List (List Turn) → Type 0
+AreAsked host world phase tasks turns =
+    (i : ℕ) (d : List Turn) → i < length turns → IsAsked host world (numbered phase (asked_of i tasks)) (get_or turns i d)
 
 -- ---- ends
 
@@ -49,7 +55,7 @@ first_stopped i (worker ∷ workers) =
 -- later world has the contents that the table gave.
 pub record IsServedAtOnce (host : Host Content Request) (absent : Bool) (tasks : List Task) (world later : World Content) (terms : Terms)
     (after : List code.Content) (rows : List Row) : Type 0 where
-  pub begins : IsServedUpTo host world 0
+  pub begins : IsServedUpTo host world world.phase 0
   pub running : NoneStopped host world
   pub made : AreTermsOf host absent world terms
   pub closed : IsPhase terms after rows

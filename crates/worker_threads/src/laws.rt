@@ -27,48 +27,6 @@ use host_fits::the_shipped_host_is_steady;
 use host_world::worlds_are_as_promised;
 use table_order::{a_phase_of_a_table_has_one_order, tables_tell_of_a_phase, worlds_make_tables};
 
-/// Of what a world's places have at a phase's begin a table can be made for its workers.
-pub(crate) fn tables_can_be_made()
-    ensures workers { (functions : DigestFunctions) (settings : Settings) (script : List (List Task)) (logs : List (List Command))
-        (world : World Content) → GivesDigests functions.digest
-        → IsBehindSetup functions settings script (with_logs logs world)
-        → length world.workers ≡ settings.header.verifiers }
-    ensures making { (functions : DigestFunctions) (settings : Settings) (script : List (List Task)) (logs : List (List Command))
-        (world : World Content) (contents : List code.Content) → GivesDigests functions.digest
-        → IsBehindSetup functions settings script (with_logs logs world) → settings.rolling ≡ false
-        → IsServedUpTo (shipped_host functions settings script) world 0
-        → map shown_content contents ≡ all_contents world.shards
-        → IsMaking settings.header (length world.workers) contents }
-{
-    worlds_are_as_promised();
-    worlds_make_tables();
-}
-
-/// A table of what a world's places have is one of the world: its workers' clocks are of it, and a request's place is its key's.
-pub(crate) fn tables_are_of_their_worlds()
-    ensures clocks { (functions : DigestFunctions) (settings : Settings) (script : List (List Task)) (logs : List (List Command))
-        (world : World Content) (terms : Terms) → GivesDigests functions.digest
-        → IsBehindSetup functions settings script (with_logs logs world) → settings.rolling ≡ false → world.closing ≡ false
-        → map shown_content terms.contents ≡ all_contents world.shards → 0 < length terms.contents
-        → terms.header ≡ settings.header → (i : ℕ) → i < length world.workers
-        → IsClockOf terms (worker_at (shipped_host functions settings script) world i).clock }
-    ensures of_world { (functions : DigestFunctions) (settings : Settings) (script : List (List Task)) (logs : List (List Command))
-        (world : World Content) (terms : Terms) → GivesDigests functions.digest
-        → IsBehindSetup functions settings script (with_logs logs world)
-        → map shown_content terms.contents ≡ all_contents world.shards
-        → terms.header ≡ settings.header → terms.digest ≡ functions.digest → terms.absent ≡ settings.absent
-        → terms.workers ≡ length world.workers
-        → AreTermsOf (shipped_host functions settings script) settings.absent world terms }
-    ensures places { (functions : DigestFunctions) (settings : Settings) (script : List (List Task)) (logs : List (List Command))
-        (world : World Content) (terms : Terms) → GivesDigests functions.digest
-        → IsBehindSetup functions settings script (with_logs logs world)
-        → map shown_content terms.contents ≡ all_contents world.shards
-        → (place : ℕ) (request : Request) → request.key < 2 ^ key_bits (wide_of settings.header)
-        → IsPlaceFor (shipped_host functions settings script) world request place → IsPlaceOf terms place request.key }
-{
-    worlds_are_as_promised();
-}
-
 /// What workers at a table did of a phase was one list of events: these lead from the world that the table was made of to the one
 /// with the contents that it gave and the workers as they are then, and the first end is that of the first worker that is
 /// stopped. They are those of a phase, in their one order. No worker has more to do in the phase.

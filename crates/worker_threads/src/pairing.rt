@@ -1,27 +1,26 @@
-//! The workers of a phase, each paired with its verifier before the threads begin, and parted once all have ended.
+//! The workers of a round, each paired with its verifier before the threads begin, and parted once all have ended.
 ghost use Rattle.std.specs.Prelude.{◌≡◌, ◌≤◌, false, All, IfOk, OnOk, length, map};
 ghost use Rattle.verifier_run.specs.Progress.{weight};
-ghost use Rattle.host_table.specs.Table.{table, terms};
+ghost use Rattle.host_epochs.specs.Table.{table, terms};
 ghost use Rattle.worker_threads.specs.Participants.{AreToServe, AreToWatch, HaveAll, HaveServed, HaveReadLogs, hand_in, worker_in};
 ghost use Rattle.worker_threads.specs.Pairs.{IsOpened, parcels_in, run_in};
-ghost use Rattle.worker_threads.specs.Serving.{turns_in, IsSharedPhase};
+ghost use Rattle.round_workers.specs.Sharing.{turns_in, IsSharedRound};
 
 use crate::serving::serve_all;
-use crate::shared_phase::SharedPhase;
 use crate::worker_pair::WorkerPair;
-use crate::worker_thread::WorkerThread;
 use base_words::Memory;
 use certified_epochs::FedRun;
 use fv_outside::Gate;
-use host_table::Hand;
+use host_epochs::Hand;
 use host_world::Worker;
 use record_hash::Digests;
+use round_workers::{SharedRound, WorkerThread};
 use std::alloc::Global;
 use std::sync::Wait;
 use std::thread::Threads;
 use verifier_feeds::open;
 
-/// Who is there in a phase: the workers, their hands at the table, and the runs of their verifiers, each with a count.
+/// Who is there in a round: the workers, their hands at the table, and the runs of their verifiers, each with a count.
 #[derive(Drop)]
 pub(crate) struct Participants {
     pub(crate) workers: Vec<Worker>,
@@ -53,6 +52,7 @@ fn pair_of(
         worker,
         hand,
         outbox,
+        entered: 0,
         wanting: false,
     };
     Ok(WorkerPair { thread, inbox })
@@ -113,6 +113,7 @@ fn take_apart(alloc: Global, pairs: Vec<WorkerPair>) -> Result<Participants, Mem
             worker,
             hand,
             outbox: _,
+            entered: _,
             wanting,
         } = thread;
         if wanting {
@@ -131,20 +132,20 @@ fn take_apart(alloc: Global, pairs: Vec<WorkerPair>) -> Result<Participants, Mem
     })
 }
 
-/// All workers serve what the phase asks of them, each by its hand, and their verifiers' runs are fed with what they log, each
+/// All workers do their parts of the round, each by its hand, and their verifiers' runs are fed with what they log, each
 /// in a thread of its own.
 pub(crate) fn serve_at_table<R: Threads + Wait + Sync, D: Digests + Sync, G: Gate + Sync>(
     rt: &R,
-    shared: &SharedPhase<'_, D>,
+    shared: &SharedRound<'_, D>,
     gate: &G,
     participants: Participants,
     bytes: u64,
 ) -> Result<Participants, Memory>
-    requires shared { IsSharedPhase D.functions shared.now }
-    requires ready { AreToServe (terms D.functions shared.now.records.now) (table shared.now.records.now) participants.workers.items participants.hands.items }
+    requires shared { IsSharedRound D.functions shared.now }
+    requires ready { AreToServe (terms D.functions shared.now.epochs.now) (table shared.now.epochs.now) participants.workers.items participants.hands.items }
     requires watch { AreToWatch participants.workers.items bytes participants.runs.items }
     requires parcels { length participants.parcels.items ≡ length participants.workers.items }
-    ensures served { IfOk result (λ left. HaveServed (terms D.functions shared.now.records.now) (table shared.now.records.now)
+    ensures served { IfOk result (λ left. HaveServed (terms D.functions shared.now.epochs.now) (table shared.now.epochs.now)
         (turns_in shared.now) participants.workers.items left.workers.items left.hands.items) }
     ensures taken { IfOk result (λ left. HaveReadLogs (D.functions shared.now.d.now) left.workers.items participants.runs.items left.runs.items) }
     ensures parcels { IfOk result (λ left. length left.parcels.items ≡ length participants.parcels.items) }

@@ -18,19 +18,23 @@ use crate::laws::{
     phases_at_once_are_lists_of_events, tables_are_of_their_worlds, tables_can_be_made,
 };
 use crate::pairing::{Participants, serve_at_table};
-use crate::shared_phase::SharedPhase;
 use crate::turns::turns_by_worker;
 use base_words::Memory;
 use certified_epochs::FedRun;
 use fv_outside::Gate;
-use host_table::Records;
+use host_epochs::Epochs;
 use host_world::{ClockEnd, Worker, World};
 use merkle_records::digests_have_32_bytes;
 use record_hash::Digests;
+use round_workers::SharedRound;
 use std::alloc::Global;
 use std::mem;
 use std::sync::Wait;
+use std::sync::atomic::AtomicBool;
 use std::thread::Threads;
+
+// A phase is a round in which no further epoch is entered.
+const NO_MORE: u64 = 0;
 
 // Where the clock of the first stopped worker ended.
 fn first_end_of(workers: &[Worker]) -> Option<ClockEnd>
@@ -103,25 +107,32 @@ pub fn serve_phase_at_once<R: Threads + Wait + Sync, D: Digests + Sync, G: Gate 
     let settings = world.settings();
     let header = settings.header;
     let tasks = world.requests().phase(world.phase());
-    let turns = turns_by_worker(alloc, world, tasks, header.verifiers)?;
+    let turns = turns_by_worker(alloc, world, tasks, 0, header.verifiers)?;
     let contents = world.lend()?;
     let workers = world.lend_workers();
-    let Ok((records, hands)) = Records::make(
+    let Ok((epochs, hands)) = Epochs::make(
         alloc,
         d,
         &header,
         contents,
         header.verifiers,
+        NO_MORE,
         settings.absent,
     ) else {
         return Err(Memory);
     };
-    let shared = SharedPhase {
+    let wanting = AtomicBool::new(false);
+    let shared = SharedRound {
         alloc,
         d,
         turns: turns.as_slice(),
-        records: &records,
+        epochs: &epochs,
         header,
+        workers: header.verifiers,
+        shards: settings.shards,
+        more: NO_MORE,
+        absent: settings.absent,
+        wanting: &wanting,
     };
     let participants = Participants {
         workers,
@@ -133,7 +144,7 @@ pub fn serve_phase_at_once<R: Threads + Wait + Sync, D: Digests + Sync, G: Gate 
     let end = first_end_of(left.workers.as_slice());
     *runs = left.runs;
     *parcels = left.parcels;
-    world.take_back(records.close(left.hands));
+    world.take_back(epochs.close(left.hands));
     world.take_workers(left.workers);
     Ok(end)
 }

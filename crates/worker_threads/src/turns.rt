@@ -10,15 +10,9 @@ ghost use Rattle.worker_threads.specs.Phase.{AreAsked};
 use base_words::Memory;
 use host_world::World;
 use record_hash::Digests;
-use script_text::{Phase, TaskRef};
+use round_workers::Turn;
+use script_text::Phase;
 use std::alloc::Global;
-
-/// A task of a phase, and the number of its key's place.
-#[derive(Debug, Drop)]
-pub struct Turn<'a> {
-    pub place: u32,
-    pub task: TaskRef<'a>,
-}
 
 // For each of so many workers no turn yet.
 fn no_turns<'a>(alloc: Global, workers: u16) -> Result<Vec<Vec<Turn<'a>>>, Memory>
@@ -32,25 +26,28 @@ fn no_turns<'a>(alloc: Global, workers: u16) -> Result<Vec<Vec<Turn<'a>>>, Memor
     Ok(turns)
 }
 
-/// The turns of so many workers: each has the tasks of the phase that are its own, in their order.
+/// The turns of so many workers: each has the tasks of the phase that are its own, in their order. The phase has this number in the
+/// round.
 pub(crate) fn turns_by_worker<'a, D: Digests>(
     alloc: Global,
     world: &World<'_, D>,
-    phase: Phase<'a>,
+    tasks: Phase<'a>,
+    phase: u64,
     workers: u16,
 ) -> Result<Vec<Vec<Turn<'a>>>, Memory>
     requires behind { StandsBehind (D.functions (digests_of world.now)) world.now }
-    requires short { AllByRecursion (λ task. IsBlob (longest_of (settings_of world.now).header) task.request.value) phase }
-    requires workers { AllByRecursion (λ task. task.worker < workers) phase }
+    requires short { AllByRecursion (λ task. IsBlob (longest_of (settings_of world.now).header) task.request.value) tasks }
+    requires workers { AllByRecursion (λ task. task.worker < workers) tasks }
     ensures count { IfOk result (λ turns. length turns.items ≡ workers) }
     ensures asked { IfOk result (λ turns. AreAsked (host_of (D.functions (digests_of world.now)) world.now)
-        (shown_world world.now) phase.entry (map (λ own. own.items) turns.items)) }
+        (shown_world world.now) phase tasks.entry (map (λ own. own.items) turns.items)) }
 {
     let mut turns = no_turns(alloc, workers)?;
-    for task in phase {
+    for task in tasks {
         let worker = usize::from(task.worker());
         let turn = Turn {
             place: world.place_for(&task.request()),
+            phase,
             task,
         };
         turns[worker].push(turn)?;

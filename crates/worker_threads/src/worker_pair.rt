@@ -1,10 +1,9 @@
 //! A worker in its thread, and its verifier in another beside it.
 ghost use Rattle.std.specs.Prelude.{◌≡◌};
 
-use crate::shared_phase::SharedPhase;
-use crate::worker_thread::WorkerThread;
 use fv_outside::Gate;
 use record_hash::Digests;
+use round_workers::{SharedRound, WorkerThread};
 use std::sync::Wait;
 use std::thread::{Threads, join_mut};
 use verifier_feeds::{Inbox, settle};
@@ -19,26 +18,26 @@ pub struct WorkerPair {
 impl WorkerPair {
     ghost use Rattle.std.specs.Prelude.{◌≡◌, [], false};
     ghost use Rattle.record_text.specs.Longest.{longest_blob};
-    ghost use Rattle.host_table.specs.Table.{table, terms};
+    ghost use Rattle.host_epochs.specs.Table.{table, terms};
     ghost use Rattle.host_rounds.specs.Feeding.{Reads};
     ghost use Rattle.log_rings.specs.Lanes.{received_by};
     ghost use Rattle.verifier_feeds.specs.Feeds.{AreEndsOfOne, HasRoom, HasRead, SameInbox, bytes_of, is_wanting, run_of};
-    ghost use Rattle.worker_threads.specs.Parts.{HasSent, IsThrough};
     ghost use Rattle.worker_threads.specs.Pairs.{IsPairReady, HasFed};
-    ghost use Rattle.worker_threads.specs.Serving.{turns_in, CanServe, IsSharedPhase};
+    ghost use Rattle.round_workers.specs.Sharing.{turns_in, IsSharedRound};
+    ghost use Rattle.round_workers.specs.Working.{CanServe, HasSent, IsThrough};
 
-    /// The worker does its part of the phase while its verifier is fed with what it logs, each in a thread of its own where one
+    /// The worker does its part of the round while its verifier is fed with what it logs, each in a thread of its own where one
     /// can be made. Then the verifier is fed the rest, where memory was not
     /// wanting for the worker.
     pub(crate) fn meet<R: Threads + Wait + Sync, D: Digests + Sync, G: Gate + Sync>(
         &mut self,
         rt: &R,
-        shared: &SharedPhase<'_, D>,
+        shared: &SharedRound<'_, D>,
         gate: &G,
     )
-        requires shared { IsSharedPhase D.functions shared.now }
-        requires ready { IsPairReady (terms D.functions shared.now.records.now) (table shared.now.records.now) self.old }
-        ensures through { IsThrough (table shared.now.records.now) (turns_in shared.now) self.old.thread self.new.thread }
+        requires shared { IsSharedRound D.functions shared.now }
+        requires ready { IsPairReady (terms D.functions shared.now.epochs.now) (table shared.now.epochs.now) self.old }
+        ensures through { IsThrough (terms D.functions shared.now.epochs.now) (table shared.now.epochs.now) (turns_in shared.now) self.old.thread self.new.thread }
         ensures fed { HasFed (D.functions shared.now.d.now) self.old self.new }
     {
         self.work_and_watch(rt, shared, gate);
@@ -50,16 +49,16 @@ impl WorkerPair {
         settle(&mut thread.outbox, &mut self.inbox, log, shared.d);
     }
 
-    // The worker does its part of the phase while its verifier watches the lane.
+    // The worker does its part of the round while its verifier watches the lane.
     fn work_and_watch<R: Threads + Wait + Sync, D: Digests + Sync, G: Gate + Sync>(
         &mut self,
         rt: &R,
-        shared: &SharedPhase<'_, D>,
+        shared: &SharedRound<'_, D>,
         gate: &G,
     )
-        requires shared { IsSharedPhase D.functions shared.now }
-        requires ready { IsPairReady (terms D.functions shared.now.records.now) (table shared.now.records.now) self.old }
-        ensures through { IsThrough (table shared.now.records.now) (turns_in shared.now) self.old.thread self.new.thread }
+        requires shared { IsSharedRound D.functions shared.now }
+        requires ready { IsPairReady (terms D.functions shared.now.epochs.now) (table shared.now.epochs.now) self.old }
+        ensures through { IsThrough (terms D.functions shared.now.epochs.now) (table shared.now.epochs.now) (turns_in shared.now) self.old.thread self.new.thread }
         ensures sent { HasSent self.old.thread self.new.thread }
         ensures ends { AreEndsOfOne self.new.thread.outbox self.new.inbox }
         ensures room { HasRoom self.new.inbox }
@@ -80,7 +79,7 @@ impl WorkerPair {
         { inbox.watch(rt, shared.d, gate, number) };
         let mut work = ||
             requires { CanServe D.functions shared.now thread.now }
-            ensures { IsThrough (table shared.entry.now.records.now) (turns_in shared.entry.now) thread.entry.now thread.exit.now
+            ensures { IsThrough (terms D.functions shared.entry.now.epochs.now) (table shared.entry.now.epochs.now) (turns_in shared.entry.now) thread.entry.now thread.exit.now
                 × HasSent thread.entry.now thread.exit.now }
         { thread.serve_own(rt, shared, gate) };
         join_mut(rt, &mut watch, &mut work);

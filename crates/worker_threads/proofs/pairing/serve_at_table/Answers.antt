@@ -1,9 +1,9 @@
 use Rattle.std.proofs.Common.{map, ◌∙◌, ap, subst, sym, All}
 use Rattle.std.proofs.lemmas.List.{with_items_is}
 use Rattle.std.specs.Vec.{with_items}
-use Rattle.host_table.specs.Table.{table, terms}
+use Rattle.host_epochs.specs.Table.{table, terms}
 use Rattle.worker_threads.specs.Participants.{worker_in, hand_in}
-use Rattle.worker_threads.specs.Serving.{turns_in}
+use Rattle.round_workers.specs.Sharing.{turns_in}
 use Rattle.worker_threads.specs.Pairs.{IsOpened, parcels_in, run_in}
 use Rattle.worker_threads.proofs.ThreadLemmas.{are_ready, counted_well, served_well, taken_well}
 use Rattle.worker_threads.proofs.pairing.serve_at_table.Goals as goal
@@ -16,7 +16,7 @@ pair_up-requires-clause-parcels g c = c.requires.parcels
 
 pub serve_all-requires-clause-ready : goal.serve_all-requires-clause-ready
 serve_all-requires-clause-ready g c κs within =
-    let records = c.args.shared.now.records.now in
+    let records = c.args.shared.now.epochs.now in
     let pairs = c.as_mut_slice.result.now in
     are_ready (terms g.D.Digests.functions records) (table records) pairs c.args.participants.workers.items c.args.participants.hands.items
     (ap (map worker_in) c.as_mut_slice.ensures.value ∙ c.in_ok-pairs.ensures.workers)
@@ -25,7 +25,7 @@ serve_all-requires-clause-ready g c κs within =
 
 pub returns : goal.returns
 returns g c =
-    let records = c.args.shared.now.records.now in
+    let records = c.args.shared.now.epochs.now in
     let pairs = c.as_mut_slice.result.now in
     let later = c.serve_all.new.pairs in
     let seen = (with_items c.in_ok-pairs.pairs later).items in

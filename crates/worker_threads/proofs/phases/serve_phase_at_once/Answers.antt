@@ -1,4 +1,4 @@
-use Rattle.std.proofs.Common.{◌≡◌, ℕ, ◌<◌, ◌≤◌, List, [], map, length, get_or, sym, ◌∙◌, ap, subst, arith}
+use Rattle.std.proofs.Common.{◌≡◌, ℕ, ◌*◌, ◌<◌, ◌≤◌, List, [], map, length, get_or, sym, ◌∙◌, ap, subst, arith}
 use Rattle.std.proofs.lemmas.List.{length-map}
 use Rattle.std.specs.List.{AllByRecursion}
 use Rattle.lamport_clocks.specs.Header.{IsHeader}
@@ -14,21 +14,24 @@ use Rattle.host_core.specs.World.{Worker, World}
 use Rattle.host_rounds.specs.Feeding.{AllRead}
 use Rattle.host_shard.specs.Content.{Content}
 use Rattle.host_shard.specs.Shown.{shown_content}
-use Rattle.host_table.specs.Calls.{told_by}
-use Rattle.host_table.specs.Table.{table, terms}
-use Rattle.host_table.specs.Terms.{Terms, IsMaking}
+use Rattle.host_epochs.specs.Hands.{row_of}
+use Rattle.host_epochs.specs.Table.{table, terms}
+use Rattle.host_epochs.specs.Terms.{Terms, IsMaking}
+use Rattle.host_table.specs.Services as services
+use Rattle.host_table.specs.Terms.{phase_of}
 use Rattle.shipped_host.specs.declared.settings.Settings.{Settings}
-use Rattle.host_world.specs.Behind.{host_of}
+use Rattle.host_world.specs.Behind.{host_of, with_logs}
 use Rattle.host_world.specs.Lending.{all_contents}
 use Rattle.host_world.specs.Shown.{shown_world, digests_of, requests_of}
 use Rattle.host_world.specs.Workers.{shown_worker, AreBegun}
 use Rattle.host_world.proofs.BegunLaws.{begun-same}
+use Rattle.host_world.proofs.BehindLaws.{shards_there}
 use Rattle.host_serving.specs.Leading.{Leads, LeadsAs}
 use Rattle.host_serving.specs.Form.{AreOfPhase}
 use Rattle.host_serving.specs.Standing.{turns_of}
 use Rattle.host_serving.proofs.FormLaws.{as-leads}
-use Rattle.worker_threads.specs.declared.turns.Turn.{Turn}
-use Rattle.worker_threads.specs.Parts.{HaveTurns}
+use Rattle.round_workers.specs.declared.turn.Turn.{Turn}
+use Rattle.round_workers.specs.Parts.{HaveTurns}
 use Rattle.worker_threads.specs.Phase.{AreAsked, first_stopped}
 use Rattle.worker_threads.specs.Participants.{HaveReadLogs}
 use Rattle.worker_threads.proofs.CallLemmas.{have_turns, values_in, workers_in, lent_count, later_is, to_serve, served_at_once, goes_on, hosts_then, no_end}
@@ -82,21 +85,35 @@ serve_at_table-requires-clause-shared g c κs within =
     let functions = g.D.Digests.functions (digests_of old) in
     let stands = c.requires.behind in
     let sized = subst (λ d. GivesDigests (g.D.Digests.functions d).digest) c.digests-d.ensures.value c.digests_have_32_bytes.ensures.sized in
-    let made : Terms = terms g.D.Digests.functions c.in-Ok.records in
+    let made : Terms = terms g.D.Digests.functions c.in-Ok.epochs in
     let tasks_are = asked (requests_of old) c.requests.result.now old.phase c.phase.result c.phase-tasks.result
     c.requests.ensures.value c.phase.ensures.value c.phase-tasks.ensures.value in
     let lent : map shown_content made.contents ≡ all_contents (shown_world old).shards =
     ap (λ (t : Terms). map shown_content t.contents) c.in-Ok.ensures.terms ∙ c.in_ok-contents.ensures.lent in
     let host = host_of functions old in
     let turns = map (λ own. own.items) c.in_ok-turns.turns.items in
+    let header = ap (λ (settings : Settings). settings.header) c.settings-settings.ensures.value in
+    let count = c.tables_can_be_made.ensures.workers functions old.settings (requests_of old) stands.0 (shown_world old) sized stands.1.behind in
+    let of_world = c.tables_are_of_their_worlds.ensures.of_world functions old.settings (requests_of old) stands.0 (shown_world old) (phase_of made) sized stands.1.behind lent
+    (ap (λ (t : Terms). t.header) c.in-Ok.ensures.terms ∙ header)
+    (ap (λ (t : Terms). t.digest) c.in-Ok.ensures.terms ∙ ap (λ d. (g.D.Digests.functions d).digest) c.digests-d.ensures.value)
+    (ap (λ (t : Terms). t.absent) c.in-Ok.ensures.terms ∙ ap (λ (s : Settings). s.absent) c.settings-settings.ensures.value)
+    (ap (λ (t : Terms). t.workers) c.in-Ok.ensures.terms ∙ ap (λ h. h.verifiers) header ∙ sym count) in
     record {
       digests = sym (ap (λ (t : Terms). t.digest) c.in-Ok.ensures.terms);
+      absent = sym (ap (λ (t : Terms). t.absent) c.in-Ok.ensures.terms);
+      workers = sym (ap (λ (t : Terms). t.workers) c.in-Ok.ensures.terms);
+      more = sym (ap (λ (t : Terms). t.more) c.in-Ok.ensures.terms);
+      places = of_world.places ∙ ap (λ (n : ℕ). n * 5) (shards_there functions old.settings (requests_of old) sized (with_logs stands.0 (shown_world old)) stands.1.behind
+          ∙ ap (λ (settings : Settings). settings.shards) (sym c.settings-settings.ensures.value));
+      further = λ more. absurd (omega (arith, more, ap (λ (t : Terms). t.more) c.in-Ok.ensures.terms));
       turns =
           subst (λ (owns : List (List Turn)). HaveTurns made owns) (sym (ap (map (λ own. own.items)) c.as_slice.ensures.value))
-          (have_turns host (shown_world old) (requests_of old) made turns stands.1.behind.keys
+          (have_turns host (shown_world old) (requests_of old) 0 made turns stands.1.behind.keys
           (length-map c.in_ok-turns.turns.items (λ own. own.items) ∙ c.in_ok-turns.ensures.count ∙ sym (ap (λ (t : Terms). t.workers) c.in-Ok.ensures.terms))
-          (subst (λ (ts : List Task). AreAsked host (shown_world old) ts turns) tasks_are c.in_ok-turns.ensures.asked)
-          (c.tables_are_of_their_worlds.ensures.places functions old.settings (requests_of old) stands.0 (shown_world old) made sized
+          (omega arith)
+          (subst (λ (ts : List Task). AreAsked host (shown_world old) 0 ts turns) tasks_are c.in_ok-turns.ensures.asked)
+          (c.tables_are_of_their_worlds.ensures.places functions old.settings (requests_of old) stands.0 (shown_world old) (phase_of made) sized
           stands.1.behind lent));
       header = subst (λ (settings : Settings). IsHeader settings.header) (sym c.settings-settings.ensures.value) stands.1.behind.settings_fit.header;
     }
@@ -107,19 +124,20 @@ serve_at_table-requires-clause-ready g c κs within =
     let functions = g.D.Digests.functions (digests_of old) in
     let stands = c.requires.behind in
     let sized = subst (λ d. GivesDigests (g.D.Digests.functions d).digest) c.digests-d.ensures.value c.digests_have_32_bytes.ensures.sized in
-    let made : Terms = terms g.D.Digests.functions c.in-Ok.records in
+    let made : Terms = terms g.D.Digests.functions c.in-Ok.epochs in
     let header = ap (λ (settings : Settings). settings.header) c.settings-settings.ensures.value in
     let lent : map shown_content made.contents ≡ all_contents (shown_world old).shards =
     ap (λ (t : Terms). map shown_content t.contents) c.in-Ok.ensures.terms ∙ c.in_ok-contents.ensures.lent in
     let count = c.tables_can_be_made.ensures.workers functions old.settings (requests_of old) stands.0 (shown_world old) sized stands.1.behind in
     let some : _ = (c.tables_can_be_made.ensures.making functions old.settings (requests_of old) stands.0 (shown_world old) made.contents sized
     stands.1.behind c.requires.plain c.requires.begins lent).places in
-    to_serve (host_of functions old) (shown_world old) made (table c.in-Ok.records) c.lend_workers-workers.result.items c.in-Ok.hands.items c.settings-settings.result.header.verifiers
+    to_serve (host_of functions old) (shown_world old) made (table c.in-Ok.epochs) c.lend_workers-workers.result.items c.in-Ok.hands.items c.settings-settings.result.header.verifiers
+    (ap (λ (t : Terms). t.more) c.in-Ok.ensures.terms)
     (c.lend_workers-workers.ensures.lent ∙ ap (λ (w : World Content). w.workers) c.in_ok-contents.ensures.left)
     (ap (λ (t : Terms). t.workers) c.in-Ok.ensures.terms)
     (count ∙ sym (ap (λ h. h.verifiers) header))
     c.in-Ok.ensures.hands c.in-Ok.ensures.new c.requires.running
-    (c.tables_are_of_their_worlds.ensures.clocks functions old.settings (requests_of old) stands.0 (shown_world old) made sized
+    (c.tables_are_of_their_worlds.ensures.clocks functions old.settings (requests_of old) stands.0 (shown_world old) (phase_of made) sized
     stands.1.behind c.requires.plain c.requires.begins.phase lent some (ap (λ (t : Terms). t.header) c.in-Ok.ensures.terms ∙ header))
 
 pub serve_at_table-requires-clause-watch : goal.serve_at_table-requires-clause-watch
@@ -157,9 +175,9 @@ first_end_of-end-requires g c =
 
 pub take_back-requires : goal.take_back-requires
 take_back-requires g c =
-    let made : Terms = terms g.D.Digests.functions c.in-Ok.records in
+    let made : Terms = terms g.D.Digests.functions c.in-Ok.epochs in
     record {
-      as_many = c.close.ensures.phase.as_many
+      as_many = c.close.ensures.round.as_many
           ∙ ap (λ (t : Terms). length t.contents) c.in-Ok.ensures.terms
           ∙ sym (length-map c.in_ok-contents.contents.items shown_content)
           ∙ ap (λ (xs : List Content). length xs) c.in_ok-contents.ensures.lent
@@ -181,11 +199,13 @@ returns g c =
     let host = host_of functions old in
     let stands = c.requires.behind in
     let sized = subst (λ d. GivesDigests (g.D.Digests.functions d).digest) c.digests-d.ensures.value c.digests_have_32_bytes.ensures.sized in
-    let made : Terms = terms g.D.Digests.functions c.in-Ok.records in
+    let made : Terms = terms g.D.Digests.functions c.in-Ok.epochs in
     let header = ap (λ (settings : Settings). settings.header) c.settings-settings.ensures.value in
     let lent : map shown_content made.contents ≡ all_contents (shown_world old).shards =
     ap (λ (t : Terms). map shown_content t.contents) c.in-Ok.ensures.terms ∙ c.in_ok-contents.ensures.lent in
     let count = c.tables_can_be_made.ensures.workers functions old.settings (requests_of old) stands.0 (shown_world old) sized stands.1.behind in
+    let some : _ = (c.tables_can_be_made.ensures.making functions old.settings (requests_of old) stands.0 (shown_world old) made.contents sized
+    stands.1.behind c.requires.plain c.requires.begins lent).places in
     let later = later_is (shown_world old) (shown_world c.lend.new.self) (shown_world c.lend_workers-workers.new.self) (shown_world c.take_back.new.self)
     (shown_world new) (map shown_content c.close.result.items) (map shown_worker c.in_ok-left.left.workers.items)
     c.in_ok-contents.ensures.left c.lend_workers-workers.ensures.left c.take_back.ensures.filled c.take_workers.ensures.taken in
@@ -193,20 +213,23 @@ returns g c =
     let turns_are : turns ≡ map (λ own. own.items) c.in_ok-turns.turns.items = ap (map (λ own. own.items)) c.as_slice.ensures.value in
     let lent_workers : map shown_worker c.lend_workers-workers.result.items ≡ (shown_world old).workers =
     c.lend_workers-workers.ensures.lent ∙ ap (λ (w : World Content). w.workers) c.in_ok-contents.ensures.left in
-    let at_once = served_at_once functions old.settings (requests_of old) (shown_world old) (shown_world new) made (table c.in-Ok.records)
+    let at_once = served_at_once functions old.settings (requests_of old) (shown_world old) (shown_world new) made (table c.in-Ok.epochs)
     c.close.result.items c.lend_workers-workers.result.items c.in_ok-left.left.workers.items c.in_ok-left.left.hands.items turns
+    (ap (λ (t : Terms). t.more) c.in-Ok.ensures.terms)
     c.requires.begins c.requires.running
-    (c.tables_are_of_their_worlds.ensures.of_world functions old.settings (requests_of old) stands.0 (shown_world old) made sized stands.1.behind lent
+    (c.tables_are_of_their_worlds.ensures.of_world functions old.settings (requests_of old) stands.0 (shown_world old) (phase_of made) sized stands.1.behind lent
     (ap (λ (t : Terms). t.header) c.in-Ok.ensures.terms ∙ header)
     (ap (λ (t : Terms). t.digest) c.in-Ok.ensures.terms ∙ ap (λ d. (g.D.Digests.functions d).digest) c.digests-d.ensures.value)
     (ap (λ (t : Terms). t.absent) c.in-Ok.ensures.terms ∙ ap (λ (s : Settings). s.absent) c.settings-settings.ensures.value)
     (ap (λ (t : Terms). t.workers) c.in-Ok.ensures.terms ∙ ap (λ h. h.verifiers) header ∙ sym count))
-    c.close.ensures.phase
+    (c.tables_are_of_their_worlds.ensures.clocks functions old.settings (requests_of old) stands.0 (shown_world old) (phase_of made) sized
+    stands.1.behind c.requires.plain c.requires.begins.phase lent some (ap (λ (t : Terms). t.header) c.in-Ok.ensures.terms ∙ header))
+    c.close.ensures.round
     lent_workers
     (ap (λ owns. length owns) turns_are ∙ length-map c.in_ok-turns.turns.items (λ own. own.items) ∙ c.in_ok-turns.ensures.count ∙ ap (λ h. h.verifiers) header ∙ sym count
     ∙ sym (ap (λ ws. length ws) lent_workers) ∙ length-map c.lend_workers-workers.result.items shown_worker)
-    (subst (λ (owns : List (List Turn)). AreAsked host (shown_world old) (get_or (requests_of old) old.phase []) owns) (sym turns_are)
-    (subst (λ (ts : List Task). AreAsked host (shown_world old) ts (map (λ own. own.items) c.in_ok-turns.turns.items))
+    (subst (λ (owns : List (List Turn)). AreAsked host (shown_world old) 0 (get_or (requests_of old) old.phase []) owns) (sym turns_are)
+    (subst (λ (ts : List Task). AreAsked host (shown_world old) 0 ts (map (λ own. own.items) c.in_ok-turns.turns.items))
     (asked (requests_of old) c.requests.result.now old.phase c.phase.result c.phase-tasks.result
     c.requests.ensures.value c.phase.ensures.value c.phase-tasks.ensures.value) c.in_ok-turns.ensures.asked))
     c.in_ok-left.ensures.served later in
@@ -215,8 +238,8 @@ returns g c =
     c.first_end_of-end.ensures.first ∙ ap (first_stopped 0) (ap (map shown_worker) c.as_slice-2.ensures.value ∙ sym workers_are) in
     let way : LeadsAs AreOfPhase host (shown_world old) (shown_world new) c.first_end_of-end.result =
     subst (LeadsAs AreOfPhase host (shown_world old) (shown_world new)) (sym end_is)
-    (c.phases_at_once_are_lists_of_events.ensures.leads functions old.settings (requests_of old) stands.0 (shown_world old) (shown_world new) made c.close.result.items
-    (map told_by c.in_ok-left.left.hands.items) sized stands.1.each stands.1.behind c.requires.plain at_once) in
+    (c.phases_at_once_are_lists_of_events.ensures.leads functions old.settings (requests_of old) stands.0 (shown_world old) (shown_world new) (phase_of made) c.close.result.items
+    (map services.row_of (map row_of c.in_ok-left.left.hands.items)) sized stands.1.each stands.1.behind c.requires.plain at_once) in
     let leads : Leads host (shown_world old) (shown_world new) c.first_end_of-end.result =
     as-leads host AreOfPhase (shown_world old) (shown_world new) c.first_end_of-end.result way in
     let one_host = hosts_then old c.take_back.new.self new
@@ -234,8 +257,8 @@ returns g c =
     record {
       leads = leads;
       form = way;
-      served = c.phases_at_once_are_lists_of_events.ensures.served functions old.settings (requests_of old) (shown_world old) (shown_world new) made c.close.result.items
-          (map told_by c.in_ok-left.left.hands.items) c.requires.plain at_once;
+      served = c.phases_at_once_are_lists_of_events.ensures.served functions old.settings (requests_of old) (shown_world old) (shown_world new) (phase_of made) c.close.result.items
+          (map services.row_of (map row_of c.in_ok-left.left.hands.items)) c.requires.plain at_once;
       phase = ap (λ (w : World Content). w.phase) later;
       running = λ none before. none_stopped host (shown_world new) (sym end_is ∙ no_end c.first_end_of-end.result none);
       stopped = some_stopped host (shown_world new) c.first_end_of-end.result (sym end_is);

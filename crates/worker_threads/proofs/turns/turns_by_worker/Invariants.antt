@@ -8,6 +8,6 @@ use Rattle.worker_threads.proofs.turns.turns_by_worker.Given as goal
 abbrev pub invariant-loop-task : goal.invariant-loop-task
 invariant-loop-task g l = record {
   count : length l.turns.items ≡ l.workers;
-  all : l.yielded ++ l.task-iterator ≡ l.fn.phase;
-  asked : AreAsked (host_of (g.D.Digests.functions (digests_of l.world)) l.world) (shown_world l.world) l.yielded (map (λ own. own.items) l.turns.items);
+  all : l.yielded ++ l.task-iterator ≡ l.fn.tasks;
+  asked : AreAsked (host_of (g.D.Digests.functions (digests_of l.world)) l.world) (shown_world l.world) l.phase l.yielded (map (λ own. own.items) l.turns.items);
 }

@@ -1,0 +1,5 @@
+-- What the clauses on the workers of a round cite, in reading order.
+pub mod Parts
+pub mod Sharing
+pub mod Working
+pub mod Placed
