@@ -1,5 +1,6 @@
 -- The words of this crate's contracts.
 pub mod Calls
+pub mod Counting
 pub mod Errors
 pub mod Failures
 pub mod Faults
