@@ -1,9 +1,9 @@
 -- The header of a bundle is read as it is spelled.
-use Rattle.std.proofs.Common.{◌≡◌, ℕ, zero, suc, ◌+◌, ◌^◌, ◌<◌, ◌≤◌, Bool, true, false, cond, ltb, List, [], ◌∷◌, ◌++◌, length, take, drop, get_or, Option, Some, None, Result, Ok, Err, refl, sym, ap, subst, ◌∙◌, append-nil, take-append-drop, length-append, arith}
+use Rattle.std.proofs.Common.{◌≡◌, ◌⊎◌, inl, inr, ℕ, zero, suc, ◌+◌, ◌^◌, ◌<◌, ◌≤◌, Bool, true, false, cond, ltb, List, [], ◌∷◌, ◌++◌, length, take, drop, get_or, Option, Some, None, Result, Ok, Err, refl, sym, ap, subst, ◌∙◌, append-nil, take-append-drop, length-append, arith}
 use Rattle.std.specs.Prelude.{All}
 use Rattle.std.specs.Int.{w32, from_be_bytes}
-use Rattle.std.proofs.lemmas.Bool.{ltb-false, le-ltb}
-use Rattle.std.proofs.lemmas.List.{take_all}
+use Rattle.std.proofs.lemmas.Bool.{ltb-false, le-ltb, cases_lt}
+use Rattle.std.proofs.lemmas.List.{take_all, get_or_past}
 use Rattle.lamport_clocks.specs.declared.header.Header.{Header}
 use Rattle.lamport_clocks.specs.Header.{IsHeader}
 use Rattle.record_text.specs.declared.reader.TextFault.TheVariants.{Malformed, Truncated}
@@ -38,6 +38,13 @@ unfolding header_at
 long_enough bytes long =
     let there : ltb (length bytes) magic_bytes ≡ false = le-ltb _ _ long in
     ap (λ (b : Bool). cond b (Err Truncated) (field (header_bytes_in bytes) header_in bytes)) there
+
+pub all_bytes_fit : (bytes : List ℕ) → All (λ byte. byte < 256) bytes → AreBytes bytes
+all_bytes_fit bytes fits i = go (cases_lt i (length bytes))
+  where
+    go : (i < length bytes) ⊎ (length bytes ≤ i) → get_or bytes i 0 < 256
+    go (inl within) = fits i 0 within
+    go (inr past) = rw (get_or_past bytes i 0 past) (omega arith)
 
 all_bytes : (bytes : List ℕ) → AreBytes bytes → All (λ byte. byte < 256) bytes
 all_bytes bytes fits k d within = subst (λ (b : ℕ). b < 256) (default_free bytes k d within) (fits k)

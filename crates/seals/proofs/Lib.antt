@@ -11,3 +11,5 @@ mod SealLaws
 mod HeadLemmas
 mod WriteLemmas
 mod FrontLemmas
+mod NumberLaws
+mod MeaningLaws

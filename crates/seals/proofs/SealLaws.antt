@@ -19,7 +19,9 @@ use Rattle.seals.specs.Combined.{then_at, if_passing, tested_at, at_most, exactl
 use Rattle.seals.specs.State.{KeptRun, Seal}
 use Rattle.seals.specs.Run.{run_at, run_text, IsGoodRun}
 use Rattle.seals.specs.Seal.{magic_number, most_taken, header_at, HeadFields, head_at, runs_at, seal_with, runs_behind, untagged_at, tag_bytes, seal_at, head_text, seal_text, AreGoodRuns, IsGoodSeal}
-use Rattle.seals.specs.Answer.{tagged_front}
+use Rattle.seals.specs.declared.state.SealedState.{SealedState}
+use Rattle.seals.specs.Kept.{seal_in}
+use Rattle.seals.specs.Answer.{tagged_front, IsWhole}
 use Rattle.seals.proofs.CodecLaws.{IsCodec, codec-then, IsPicked, codec-pick, codec-tested, keeps_on-both, keeps_on-pick}
 use Rattle.seals.proofs.FieldCodecs.{codec-u32, codec-u64, codec-bytes, keeps_on-u64}
 use Rattle.seals.proofs.HeaderLaws.{IsGoodHeader, codec-header, keeps_on-header}
@@ -179,3 +181,28 @@ seal_front bytes seal tag rest fits e =
 pub seal_cut : (seal : Seal) (tag front : List ℕ) (c : ℕ) (more : List ℕ) → IsGoodSeal seal → length tag ≡ tag_bytes → seal_text seal ++ tag ≡ front ++ c ∷ more → seal_at front ≡ Err Truncated
 seal_cut seal tag front c more good len is =
     front_is_truncated seal_at front c more (seal, tag) keeps_on-seal (ap seal_at (sym (append-nil (seal_text seal ++ tag) ∙ is)) ∙ seal_back seal tag [] good len)
+
+-- what is written of a state is read as it, with its tag
+pub seal_written : (functions : DigestFunctions) (state : SealedState) (rest : List ℕ) → IsGoodSeal (seal_in state) → length (functions.tag (seal_text (seal_in state))) ≡ tag_bytes
+    → IsWhole functions (tagged functions (seal_text (seal_in state)) ++ rest) state (length (tagged functions (seal_text (seal_in state))))
+seal_written functions state rest good len =
+    let count : length (seal_text (seal_in state)) ≡ length (seal_text (seal_in state) ++ functions.tag (seal_text (seal_in state)) ++ rest) - (length rest + tag_bytes) =
+    omega (arith, length-append (seal_text (seal_in state) ++ functions.tag (seal_text (seal_in state))) rest, length-append (seal_text (seal_in state)) (functions.tag (seal_text (seal_in state))), len) in
+    let front : tagged_front (seal_text (seal_in state) ++ functions.tag (seal_text (seal_in state)) ++ rest) rest ≡ seal_text (seal_in state) =
+    ap (λ (xs : List ℕ). take (length (seal_text (seal_in state) ++ functions.tag (seal_text (seal_in state)) ++ rest) - (length rest + tag_bytes)) xs) (append_assoc (seal_text (seal_in state)) (functions.tag (seal_text (seal_in state))) rest)
+    ∙ take_at (seal_text (seal_in state)) (functions.tag (seal_text (seal_in state)) ++ rest) _ count in record {
+      tag = functions.tag (seal_text (seal_in state));
+      rest = rest;
+      read = seal_back (seal_in state) (functions.tag (seal_text (seal_in state))) rest good len;
+      tagged = ap functions.tag front;
+      counted = sym (length-append (seal_text (seal_in state) ++ functions.tag (seal_text (seal_in state))) rest);
+    }
+
+-- a whole seal is the text of what it keeps and that text's tag
+pub whole_tagged : (functions : DigestFunctions) (bytes : List ℕ) (state : SealedState) (count : ℕ) → AreBytes bytes → IsWhole functions bytes state count → (take count bytes ≡ tagged functions (seal_text (seal_in state))) × IsGoodSeal (seal_in state)
+whole_tagged functions bytes state count fits whole =
+    let spelled = seal_spelled bytes (seal_in state) whole.tag whole.rest fits whole.read in
+    let front = seal_front bytes (seal_in state) whole.tag whole.rest fits whole.read in
+    let tag : whole.tag ≡ functions.tag (seal_text (seal_in state)) = sym whole.tagged ∙ ap functions.tag front in
+    let len : length (seal_text (seal_in state) ++ whole.tag) ≡ count = omega (arith, ap length spelled.0, length-append (seal_text (seal_in state) ++ whole.tag) whole.rest, whole.counted) in
+    (ap (take count) spelled.0 ∙ (take_at (seal_text (seal_in state) ++ whole.tag) whole.rest count len ∙ ap (λ (t : List ℕ). seal_text (seal_in state) ++ t) tag), spelled.1)

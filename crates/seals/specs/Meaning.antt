@@ -49,3 +49,10 @@ PartsFrom epoch (part ∷ parts) = (part.epoch ≡ epoch) × PartsFrom (epoch + 
 -- the parts have sums that a verifier can have
 abbrev pub AreSmall : Header → List Part → Type 0
 AreSmall header parts = AllByRecursion (λ part. (part.added.count ≤ 2 * header.end) × (part.evicted.count ≤ 2 * header.end)) parts
+
+-- no sum has more elements than its epochs' clocks allow: each add and each evict raised the counter
+pub record AreWithin (header : Header) (run : KeptRun) : Type 0 where
+  pub added : run.added.count ≤ run.at.counter
+  pub evicted : run.evicted.count ≤ run.at.counter
+  pub added_before : run.added_before.count ≤ header.end + run.at.counter
+  pub evicted_before : run.evicted_before.count ≤ header.end + run.at.counter
