@@ -95,19 +95,21 @@ picked-entry header = record {
       let hold = hold_back f.1.1.1.0 parts.0 parts.2 in
       let kids = kids_back f.1.1.1.1 parts.1 parts.3 in
       let P : ListedEntry → Type 0 = λ x. (fields_of_entry x ≡ f) × IsGoodEntry header x in
-      subst P {x = made_of f.0 f.1.0 f.1.1.0 parts.0 parts.1} parts.4
-      (ap (λ (h : ℕ). (f.0, (f.1.0, (f.1.1.0, (h, kid_byte (slice_index_or parts.1 0 false) (slice_index_or parts.1 1 false)))))) hold
-      ∙ ap (λ (k : ℕ). (f.0, (f.1.0, (f.1.1.0, (f.1.1.1.0, k))))) kids.1,
-      record { slot = good.0; tree = good.1.0.0; kind = good.1.1.0; kids = kids.0 });
+      subst P {x = made_of f.0 f.1.0 f.1.1.0 parts.0 parts.1} parts.4 (
+        ap (λ (h : ℕ). (f.0, (f.1.0, (f.1.1.0, (h, kid_byte (slice_index_or parts.1 0 false) (slice_index_or parts.1 1 false)))))) hold
+            ∙ ap (λ (k : ℕ). (f.0, (f.1.0, (f.1.1.0, (f.1.1.1.0, k))))) kids.1,
+        record { slot = good.0; tree = good.1.0.0; kind = good.1.1.0; kids = kids.0 },
+      );
   again = λ one good.
       let side0 = kid_of one.entry false in
       let side1 = kid_of one.entry true in
       let hold = hold_again one.entry.hold in
-      let kids = kids_again (kid_of one.entry false) (kid_of one.entry true) in
-      (ap (λ (h : Option Hold). entry_with one.slot one.entry.path one.entry.value h (kids_in (kid_byte (kid_of one.entry false) (kid_of one.entry true)))) hold.0
-      ∙ (ap (λ (k : Option (List Bool)). entry_with one.slot one.entry.path one.entry.value (Some one.entry.hold) k) kids.0
-      ∙ ap (λ (k : List Bool). Some (made_of one.slot one.entry.path one.entry.value one.entry.hold k)) (sym good.kids)),
-      (good.slot, ((good.tree, path_of_value (longest_of header) one.entry.path one.entry.value good.kind), (good.kind, (hold.1, kids.1)))));
+      let kids = kids_again (kid_of one.entry false) (kid_of one.entry true) in (
+        ap (λ (h : Option Hold). entry_with one.slot one.entry.path one.entry.value h (kids_in (kid_byte (kid_of one.entry false) (kid_of one.entry true)))) hold.0
+            ∙ (ap (λ (k : Option (List Bool)). entry_with one.slot one.entry.path one.entry.value (Some one.entry.hold) k) kids.0
+            ∙ ap (λ (k : List Bool). Some (made_of one.slot one.entry.path one.entry.value one.entry.hold k)) (sym good.kids)),
+        (good.slot, ((good.tree, path_of_value (longest_of header) one.entry.path one.entry.value good.kind), (good.kind, (hold.1, kids.1)))),
+      );
 }
 
 codec-fields : (header : Header) → IsCodec (entry_fields_at header) (λ f. to_be_bytes w16 f.0 ++ (path_text f.1.0 ++ (value_text f.1.1.0 ++ ((f.1.1.1.0 ∷ []) ++ (f.1.1.1.1 ∷ []))))) (AreFields header)

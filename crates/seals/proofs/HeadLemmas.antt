@@ -19,9 +19,10 @@ unfolding u32_at u64_at
 numbers_taken bytes first second third magic counter taken a b c =
     let one = field_ok 4 (λ run. Some (from_be_bytes w32 run)) bytes magic first a in
     let two = field_ok 8 (λ run. Some (from_be_bytes w64 run)) first counter second b in
-    let three = field_ok 8 (λ run. Some (from_be_bytes w64 run)) second taken third c in
-    (omega (arith, one.0, two.0, three.0, ap length one.2, ap length two.2, length-drop 4 bytes, length-drop 8 first),
-    sym (sym (drop-drop 8 12 bytes) ∙ (ap (drop 8) (sym (drop-drop 8 4 bytes) ∙ (ap (drop 8) one.2 ∙ two.2)) ∙ three.2)))
+    let three = field_ok 8 (λ run. Some (from_be_bytes w64 run)) second taken third c in (
+      omega (arith, one.0, two.0, three.0, ap length one.2, ap length two.2, length-drop 4 bytes, length-drop 8 first),
+      sym (sym (drop-drop 8 12 bytes) ∙ (ap (drop 8) (sym (drop-drop 8 4 bytes) ∙ (ap (drop 8) one.2 ∙ two.2)) ∙ three.2)),
+    )
 
 -- as many bytes as a header has, those of a header, and the bytes behind them
 pub header_read : (bytes left : List ℕ) (count : ℕ) (header : Header) → count ≡ header_bytes_in bytes → count ≤ length bytes → header_in (take count bytes) ≡ Some header → left ≡ drop count bytes → header_at bytes ≡ Ok (header, left)
@@ -32,4 +33,3 @@ header_read bytes left count header is within found behind =
     ∙ (ap (λ (n : ℕ). field n header_in bytes) (sym is)
     ∙ (ap (λ (b : Bool). cond b (Err Truncated) (ranged (header_in (take count bytes)) (drop count bytes))) there
     ∙ (ap (λ (o : Option Header). ranged o (drop count bytes)) found ∙ ap (λ (xs : List ℕ). Ok (header, xs)) (sym behind))))
-

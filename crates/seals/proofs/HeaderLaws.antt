@@ -72,9 +72,10 @@ header_begins bytes header rest fits e =
     ap header_bytes_in (sym (take-append-drop (header_bytes_in bytes) bytes)) ∙ header_bytes_in-front (take (header_bytes_in bytes) bytes) (drop (header_bytes_in bytes) bytes) short in
     let size : length (take (header_bytes_in bytes) bytes) ≤ header_bytes header.version = omega (arith, f.1, told, of.size) in
     let spelled : take (header_bytes_in bytes) bytes ≡ header_text header =
-    sym (take_all (header_bytes header.version) (take (header_bytes_in bytes) bytes) size) ∙ header_spelled (take (header_bytes_in bytes) bytes) header (all_bytes (take (header_bytes_in bytes) bytes) f.3) f.2 in
-    (subst (λ (t : List ℕ). Begins bytes t rest) spelled f.0,
-    record { ranges = IsHeader-from_header_in (take (header_bytes_in bytes) bytes) header f.2; first = small_first (take (header_bytes_in bytes) bytes) header f.3 of.numbers })
+    sym (take_all (header_bytes header.version) (take (header_bytes_in bytes) bytes) size) ∙ header_spelled (take (header_bytes_in bytes) bytes) header (all_bytes (take (header_bytes_in bytes) bytes) f.3) f.2 in (
+      subst (λ (t : List ℕ). Begins bytes t rest) spelled f.0,
+      record { ranges = IsHeader-from_header_in (take (header_bytes_in bytes) bytes) header f.2; first = small_first (take (header_bytes_in bytes) bytes) header f.3 of.numbers },
+    )
 
 header_again : (header : Header) (rest : List ℕ) → IsGoodHeader header → header_at (header_text header ++ rest) ≡ Ok (header, rest)
 header_again header rest good =

@@ -13,3 +13,4 @@ mod WriteLemmas
 mod FrontLemmas
 mod NumberLaws
 mod MeaningLaws
+mod StandingLaws

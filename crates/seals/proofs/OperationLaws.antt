@@ -43,9 +43,10 @@ key_back : (wide : Bool) (path : List Bool) → IsIn wide path → is_data path 
 key_back wide [] within whole = absurd within
 key_back wide (first ∷ bits) within whole =
     let len : length bits ≡ key_bits first = eqb-true _ _ whole in
-    subst (λ (tree : Bool). (key_path tree (number_of bits) ≡ first ∷ bits) × (number_of bits < 2 ^ key_bits tree)) within
-    (ap (λ (n : ℕ). first ∷ bits_of n (number_of bits)) (sym len) ∙ ap (λ (b : List Bool). first ∷ b) (bits_of-number_of bits),
-    subst (λ (n : ℕ). number_of bits < 2 ^ n) len (number_of-lt bits))
+    subst (λ (tree : Bool). (key_path tree (number_of bits) ≡ first ∷ bits) × (number_of bits < 2 ^ key_bits tree)) within (
+      ap (λ (n : ℕ). first ∷ bits_of n (number_of bits)) (sym len) ∙ ap (λ (b : List Bool). first ∷ b) (bits_of-number_of bits),
+      subst (λ (n : ℕ). number_of bits < 2 ^ n) len (number_of-lt bits),
+    )
 
 key_again : (wide : Bool) (key : ℕ) → key < 2 ^ key_bits wide → (key_of (key_path wide key) ≡ key) × (is_data (key_path wide key) ≡ true)
 key_again wide key small = (number_back (key_bits wide) key small, eq-eqb _ _ (length-bits_of (key_bits wide) key))
@@ -72,20 +73,22 @@ picked-operation bounds = record {
       let kind = kind_back f.1.1.0 parts.0 parts.1 in
       let key = key_back (wide_of bounds.header) f.1.1.1.0 good.1.1.1.0.0 parts.2 in
       let P : Operation → Type 0 = λ x. (fields_of_operation x ≡ f) × IsGoodOperation bounds x in
-      subst P {x = made_of bounds.number (wide_of bounds.header) f.0 f.1.0 parts.0 (key_of f.1.1.1.0) f.1.1.1.1} parts.3
-      (ap (λ (k : ℕ). (f.0, (f.1.0, (k, (key_path (wide_of bounds.header) (key_of f.1.1.1.0), f.1.1.1.1))))) kind
-      ∙ ap (λ (p : List Bool). (f.0, (f.1.0, (f.1.1.0, (p, f.1.1.1.1))))) key.0,
-      record { stamp = good.0; verifier = refl; index = good.1.0; tree = refl; key = key.1; value = good.1.1.1.1 });
+      subst P {x = made_of bounds.number (wide_of bounds.header) f.0 f.1.0 parts.0 (key_of f.1.1.1.0) f.1.1.1.1} parts.3 (
+        ap (λ (k : ℕ). (f.0, (f.1.0, (k, (key_path (wide_of bounds.header) (key_of f.1.1.1.0), f.1.1.1.1))))) kind
+            ∙ ap (λ (p : List Bool). (f.0, (f.1.0, (f.1.1.0, (p, f.1.1.1.1))))) key.0,
+        record { stamp = good.0; verifier = refl; index = good.1.0; tree = refl; key = key.1; value = good.1.1.1.1 },
+      );
   again = λ one good.
       let kind = kind_again one.put in
       let key = key_again one.wide one.key good.key in
-      let whole = is-data (key_path one.wide one.key) key.1 in
-      (ap (λ (k : Option Bool). operation_with bounds.number (wide_of bounds.header) one.stamp one.index k (is_data (key_path one.wide one.key)) (key_of (key_path one.wide one.key)) one.value) kind.0
-      ∙ (ap (λ (b : Bool). operation_with bounds.number (wide_of bounds.header) one.stamp one.index (Some one.put) b (key_of (key_path one.wide one.key)) one.value) key.1
-      ∙ (ap (λ (k : ℕ). Some (made_of bounds.number (wide_of bounds.header) one.stamp one.index one.put k one.value)) key.0
-      ∙ (ap (λ (w : Bool). Some (made_of bounds.number w one.stamp one.index one.put one.key one.value)) (sym good.tree)
-      ∙ ap (λ (n : ℕ). Some (made_of n one.wide one.stamp one.index one.put one.key one.value)) (sym good.verifier)))),
-      (good.stamp, (good.index, (kind.1, ((good.tree, data-path (key_path one.wide one.key) whole), good.value)))));
+      let whole = is-data (key_path one.wide one.key) key.1 in (
+        ap (λ (k : Option Bool). operation_with bounds.number (wide_of bounds.header) one.stamp one.index k (is_data (key_path one.wide one.key)) (key_of (key_path one.wide one.key)) one.value) kind.0
+            ∙ (ap (λ (b : Bool). operation_with bounds.number (wide_of bounds.header) one.stamp one.index (Some one.put) b (key_of (key_path one.wide one.key)) one.value) key.1
+            ∙ (ap (λ (k : ℕ). Some (made_of bounds.number (wide_of bounds.header) one.stamp one.index one.put k one.value)) key.0
+            ∙ (ap (λ (w : Bool). Some (made_of bounds.number w one.stamp one.index one.put one.key one.value)) (sym good.tree)
+            ∙ ap (λ (n : ℕ). Some (made_of n one.wide one.stamp one.index one.put one.key one.value)) (sym good.verifier)))),
+        (good.stamp, (good.index, (kind.1, ((good.tree, data-path (key_path one.wide one.key) whole), good.value)))),
+      );
 }
 
 codec-fields : (bounds : Bounds) → IsCodec (operation_fields_at bounds) (λ f. stamp_text f.0 ++ (to_be_bytes w64 f.1.0 ++ ((f.1.1.0 ∷ []) ++ (path_text f.1.1.1.0 ++ blob_text f.1.1.1.1)))) (AreFields bounds)

@@ -174,12 +174,22 @@ picked-run header certified taken number = record {
       let is : kept_with f.0 f.1 ≡ run = cc (e) in
       let P : KeptRun → Type 0 = λ x. (fields_of_run header certified number x ≡ f) × IsGoodRun header certified taken number x in
       subst P {x = kept_with f.0 f.1} is (made_run header certified taken number f.0 f.1 good);
-  again = λ run good.
-      (refl, ((refl, (good.clock, (good.at, good.accepted))),
-      (((good.within, good.few_entries), good.entries_stand, good.entries),
-      ((good.added_before, (good.evicted_before, (good.added, good.evicted))),
-      (((good.each_sealed, good.few_parts), good.parts_stand, good.parts),
-      ((good.no_more, good.few_operations), good.operations_stand, good.operations))))));
+  again = λ run good. (
+    refl,
+    (
+      (refl, (good.clock, (good.at, good.accepted))),
+      (
+        ((good.within, good.few_entries), good.entries_stand, good.entries),
+        (
+          (good.added_before, (good.evicted_before, (good.added, good.evicted))),
+          (
+            ((good.each_sealed, good.few_parts), good.parts_stand, good.parts),
+            ((good.no_more, good.few_operations), good.operations_stand, good.operations),
+          ),
+        ),
+      ),
+    ),
+  );
 }
 
 pub codec-run : (header : Header) (certified taken number : ℕ) → IsCodec (run_at header certified taken number) run_text (IsGoodRun header certified taken number)

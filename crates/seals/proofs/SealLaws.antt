@@ -116,17 +116,18 @@ picked-seal = record {
       let is : seal_with f.0 f.1 ≡ seal = cc (e) in
       let magic : f.0.0 ≡ magic_number = eqb-true _ _ good.0.0.0 in
       let P : Seal → Type 0 = λ x. ((head_of x, x.runs) ≡ f) × IsGoodSeal x in
-      subst P {x = seal_with f.0 f.1} is
-      (ap (λ (n : ℕ). ((n, f.0.1), f.1)) (sym magic),
-      record {
-        counter = good.0.1.0;
-        taken = leb-true _ _ good.0.1.1.0.0;
-        header = good.0.1.1.1.0.ranges;
-        first = good.0.1.1.1.0.first;
-        certified = good.0.1.1.1.1;
-        verifiers = good.1.0;
-        runs = good.1.1;
-      });
+      subst P {x = seal_with f.0 f.1} is (
+        ap (λ (n : ℕ). ((n, f.0.1), f.1)) (sym magic),
+        record {
+          counter = good.0.1.0;
+          taken = leb-true _ _ good.0.1.1.0.0;
+          header = good.0.1.1.1.0.ranges;
+          first = good.0.1.1.1.0.first;
+          certified = good.0.1.1.1.1;
+          verifiers = good.1.0;
+          runs = good.1.1;
+        },
+      );
   again = λ seal good.
       let small : magic_number < 2 ^ 32 = omega arith in
       let few : seal.taken < 2 ^ 64 = omega (arith, good.taken) in

@@ -46,14 +46,16 @@ picked-sum most = record {
       let passed = summed (is_sum most f.0 f.1) (sum_with f.0 f.1) sum e in
       let tests = and_parts _ _ passed.0 in
       let P : Tally → Type 0 = λ x. ((x.lanes, x.count) ≡ f) × IsGoodSum most x in
-      subst P {x = sum_with f.0 f.1} passed.1
-      (refl, record {
-        eight = good.0.0;
-        lanes = good.0.2;
-        count = good.1;
-        within = leb-true _ _ tests.0;
-        bounded = all_at_most (f.1 * (2 ^ 32 - 1)) f.0 tests.1;
-      });
+      subst P {x = sum_with f.0 f.1} passed.1 (
+        refl,
+        record {
+          eight = good.0.0;
+          lanes = good.0.2;
+          count = good.1;
+          within = leb-true _ _ tests.0;
+          bounded = all_at_most (f.1 * (2 ^ 32 - 1)) f.0 tests.1;
+        },
+      );
   again = λ sum good.
       let passes : is_sum most sum.lanes sum.count ≡ true = and_from _ _ (le-leb _ _ good.within) (at_most_all (sum.count * (2 ^ 32 - 1)) sum.lanes good.bounded) in
       (ap (λ (b : Bool). cond b (Some (sum_with sum.lanes sum.count)) None) passes, ((good.eight, free_row None sum.lanes, good.lanes), good.count));

@@ -37,7 +37,13 @@ fn least_epoch(header: &Header, certified: u32) -> u64
 }
 
 // Whether a clock stands where one may under this header, and has accepted no more commands than bytes were taken.
-pub(crate) fn is_clock(header: &Header, certified: u32, taken: u64, at: Stamp, accepted: u64) -> bool
+pub(crate) fn is_clock(
+    header: &Header,
+    certified: u32,
+    taken: u64,
+    at: Stamp,
+    accepted: u64,
+) -> bool
     ensures value { result ≡ is_clock header.now certified taken at accepted }
 {
     accepted <= taken
@@ -134,10 +140,7 @@ fn is_path_behind(before: Option<&ListedEntry>, one: &ListedEntry) -> bool
 {
     match before {
         None => true,
-        Some(before) => matches!(
-            order(&before.entry.path, &one.entry.path),
-            Ordering::Less
-        ),
+        Some(before) => matches!(order(&before.entry.path, &one.entry.path), Ordering::Less),
     }
 }
 

@@ -2,7 +2,7 @@
 ghost use Rattle.std.specs.Prelude.{◌≡◌, ◌<◌, ◌≤◌, ◌^◌, ℕ, ◌+◌, ◌-◌, true, false, List, ◌∷◌, ◌++◌, length, take, All, Ok, Err};
 ghost use Rattle.std.specs.List.{AllByRecursion};
 ghost use Rattle.lamport_clocks.specs.declared.header.Header.{Header};
-ghost use Rattle.lamport_clocks.specs.Header.{names_paths};
+ghost use Rattle.lamport_clocks.specs.Header.{IsHeader, names_paths};
 ghost use Rattle.record_hash.specs.Functions.{DigestFunctions};
 ghost use Rattle.record_text.specs.declared.reader.TextFault.TheVariants.{Truncated};
 ghost use Rattle.record_text.specs.Fields.{KeepsOn};
@@ -15,7 +15,7 @@ ghost use Rattle.seals.specs.Run.{run_at, run_text, IsGoodRun};
 ghost use Rattle.seals.specs.Seal.{seal_at, seal_text, tag_bytes, IsGoodSeal};
 ghost use Rattle.seals.specs.Answer.{IsWhole};
 ghost use Rattle.seals.specs.Numbered.{numbered};
-ghost use Rattle.seals.specs.Meaning.{IsClock, AreByPath, AreWithin, PartsFrom, AreSmall, IsOpen, OperationsRise};
+ghost use Rattle.seals.specs.Meaning.{HasStood, IsClock, AreByPath, AreWithin, PartsFrom, AreSmall, IsOpen, OperationsRise};
 
 /// What a verifier can have come to is read back from its text, whatever follows. What is read is spelled so, and a verifier can have come
 /// to it.
@@ -94,4 +94,10 @@ pub fn bounds_say_more()
         → AllByRecursion (IsOpen header certified run) run.operations }
     ensures rising { (header : Header) (certified taken number : ℕ) (run : KeptRun) → IsGoodRun header certified taken number run
         → OperationsRise run.operations }
+{}
+
+/// What a verifier has come to, said in the same words, passes the tests: so it has a text, which is read back.
+pub fn what_stands_is_good()
+    ensures run { (header : Header) (certified taken number : ℕ) (run : KeptRun) → IsHeader header
+        → HasStood header certified taken number run → IsGoodRun header certified taken number run }
 {}

@@ -123,11 +123,7 @@ fn read_entries(
 
 // The parts, one of each epoch that is sealed and not certified.
 #[tactic(auto, unfolding(crate::specs::Run::parts_at))]
-fn read_parts(
-    alloc: Global,
-    bounds: &Bounds,
-    reader: &mut Reader<'_>,
-) -> Result<Vec<Part>, Fault>
+fn read_parts(alloc: Global, bounds: &Bounds, reader: &mut Reader<'_>) -> Result<Vec<Part>, Fault>
     requires small { bounds.now.header.end ≤ 16777215 }
     ensures reads { Reads (λ made. made.items) result reader.new (parts_at bounds.now reader.old) }
 {
