@@ -1,9 +1,7 @@
 -- Readers and texts of one kind: what was read is spelled so and good, and what is good is read of its text.
-use Rattle.std.proofs.Common.{◌≡◌, ℕ, suc, zero, ◌+◌, ◌≤◌, Bool, true, false, cond, List, [], ◌∷◌, ◌++◌, length, Option, Some, None, Result, Ok, Err, refl, sym, ap, subst, ◌∙◌, append_assoc, arith}
+use Rattle.std.proofs.Common.{◌≡◌, ℕ, suc, zero, Bool, true, false, cond, List, [], ◌∷◌, ◌++◌, length, Option, Some, None, Ok, refl, sym, ap, subst, ◌∙◌, append_assoc, arith}
 use Rattle.std.specs.Prelude.{IsTrue}
 use Rattle.std.specs.List.{flat_map, AllByRecursion}
-use Rattle.record_text.specs.declared.reader.TextFault.{TextFault}
-use Rattle.record_text.specs.declared.reader.TextFault.TheVariants.{Malformed}
 use Rattle.record_text.specs.Fields.{Parsed, ◌>>=◌, ranged, KeepsOn}
 use Rattle.record_text.proofs.FieldLaws.{AreBytes, Begins, Begins-then, bind_ok, ranged_ok, Ok-is}
 use Rattle.record_text.proofs.KeepsOnLaws.{keeps_on-nothing, keeps_on-then, keeps_on-made}

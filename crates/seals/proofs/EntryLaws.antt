@@ -1,5 +1,5 @@
 -- Entries are read as they are spelled.
-use Rattle.std.proofs.Common.{◌≡◌, ℕ, ◌^◌, ◌<◌, Bool, true, false, cond, eqb, List, [], ◌∷◌, ◌++◌, length, Option, Some, None, refl, sym, ap, subst, ◌∙◌, ◌⊎◌, inl, inr, arith}
+use Rattle.std.proofs.Common.{◌≡◌, ℕ, ◌^◌, ◌<◌, Bool, true, false, cond, eqb, List, [], ◌∷◌, ◌++◌, Option, Some, None, refl, sym, ap, subst, ◌∙◌, ◌⊎◌, inl, inr, arith}
 use Rattle.std.specs.Prelude.{slice_index_or}
 use Rattle.std.specs.Int.{w16, to_be_bytes}
 use Rattle.std.proofs.lemmas.Bool.{eqb-true}
@@ -13,12 +13,10 @@ use Rattle.record_text.specs.Fields.{KeepsOn}
 use Rattle.record_text.specs.Texts.{path_text, value_text}
 use Rattle.record_text.proofs.ValueTextLaws.{path_of_value}
 use Rattle.record_text.proofs.KeepsOnLaws.{keeps_on-byte, keeps_on-u16, keeps_on-path, keeps_on-value}
-use Rattle.verifier_cache.specs.declared.entry.Entry.{Entry}
 use Rattle.verifier_cache.specs.declared.entry.Hold.{Hold}
 use Rattle.verifier_cache.specs.declared.entry.Hold.TheVariants.{Root, M, B}
 use Rattle.verifier_cache.specs.declared.listed.ListedEntry.{ListedEntry}
 use Rattle.verifier_cache.specs.Entry.{kid_of}
-use Rattle.seals.specs.Combined.{then_at}
 use Rattle.seals.specs.Entry.{hold_byte, hold_in, kid_byte, kids_in, EntryFields, entry_with, entry_of_fields, fields_of_entry, entry_fields_at, entry_at, entry_text, IsGoodEntry}
 use Rattle.seals.proofs.CodecLaws.{IsCodec, codec-then, IsPicked, codec-pick, keeps_on-both, keeps_on-pick}
 use Rattle.seals.proofs.FieldCodecs.{codec-byte, codec-u16, codec-path, codec-value}

@@ -1,14 +1,13 @@
 -- The fields that texts are made of, as readers and texts of one kind.
-use Rattle.std.proofs.Common.{◌≡◌, ℕ, ◌^◌, ◌<◌, Bool, List, [], ◌∷◌, ◌++◌, length, take, Option, Some, Ok, refl, sym, ap, subst, ◌∙◌, arith}
+use Rattle.std.proofs.Common.{◌≡◌, ℕ, ◌^◌, ◌<◌, Bool, List, [], ◌∷◌, ◌++◌, length, take, Some, refl, subst}
 use Rattle.std.specs.Int.{w16, w32, w64, to_be_bytes}
 use Rattle.tree_keys.specs.Path.{IsIn, IsPath}
-use Rattle.lamport_clocks.specs.declared.stamp.Stamp.{Stamp}
 use Rattle.record_text.specs.Value.{IsOf, IsBlob}
 use Rattle.record_text.specs.Element.{IsStamp}
 use Rattle.record_text.specs.Fields.{KeepsOn}
 use Rattle.record_text.specs.Reading.{first_byte, run_at, byte_at, u16_at, u32_at, u64_at, path_at, value_at, blob_at, stamp_at}
 use Rattle.record_text.specs.Texts.{path_text, value_text, blob_text, stamp_text}
-use Rattle.record_text.proofs.FieldLaws.{AreBytes, Begins, Ok-is, field_begins, byte_field_begins, field_again, wide64, number_begins, number_again}
+use Rattle.record_text.proofs.FieldLaws.{AreBytes, Begins, field_begins, byte_field_begins, field_again, wide64, number_begins, number_again}
 use Rattle.record_text.proofs.PathTextLaws.{path_begins, path_again}
 use Rattle.record_text.proofs.ValueTextLaws.{value_begins, value_again, blob_begins, blob_again}
 use Rattle.record_text.proofs.ElementTextLaws.{u16_begins, u16_again, u32_begins, u32_again, stamp_begins, stamp_again}

@@ -1,8 +1,8 @@
 -- What the tests of what is kept of a verifier say, and that what says so passes them.
-use Rattle.std.proofs.Common.{◌≡◌, ◌⊎◌, inl, inr, ℕ, suc, ◌+◌, ◌-◌, ◌*◌, ◌<◌, ◌≤◌, ◌==◌, ◌&&◌, ◌||◌, eqb, ltb, leb, Bool, true, false, cond, List, [], ◌∷◌, length, map, Option, Some, None, refl, sym, ap, subst, ◌∙◌, arith}
+use Rattle.std.proofs.Common.{◌≡◌, inl, inr, ℕ, suc, ◌+◌, ◌<◌, ◌≤◌, ◌==◌, ◌&&◌, ◌||◌, eqb, ltb, leb, Bool, true, false, cond, List, [], ◌∷◌, Option, Some, None, refl, subst, arith}
 use Rattle.std.specs.Prelude.{IsTrue}
 use Rattle.std.specs.List.{AllByRecursion}
-use Rattle.std.proofs.lemmas.Bool.{leb-true, le-leb, ltb-true, lt-ltb, eqb-true, eq-eqb, and_parts, and_from}
+use Rattle.std.proofs.lemmas.Bool.{leb-true, ltb-true, eqb-true, and_parts}
 use Rattle.lamport_clocks.specs.declared.header.Header.{Header}
 use Rattle.lamport_clocks.specs.Header.{names_paths}
 use Rattle.lamport_clocks.specs.declared.stamp.Stamp.{Stamp}
@@ -15,7 +15,7 @@ use Rattle.verifier_cache.specs.Listed.{entries_in, SlotsRise}
 use Rattle.seals.specs.declared.bounds.Bounds.{Bounds}
 use Rattle.seals.specs.Combined.{InRow}
 use Rattle.seals.specs.State.{KeptRun}
-use Rattle.seals.specs.Bounds.{least_epoch, is_clock, is_path_behind, is_slot_behind, entry_follows, first_open, part_follows, is_no_later, is_open_operation, is_operation_behind, operation_follows, most_sealed}
+use Rattle.seals.specs.Bounds.{least_epoch, is_clock, is_path_behind, is_slot_behind, entry_follows, first_open, part_follows, is_no_later, is_open_operation, operation_follows}
 use Rattle.seals.specs.Sum.{IsGoodPart}
 use Rattle.seals.specs.Run.{bounds_of, IsGoodRun}
 use Rattle.seals.specs.Meaning.{AreWithin, IsClock, AreByPath, IsNoLater, IsOpen, OperationsRise, PartsFrom, AreSmall}

@@ -1,10 +1,10 @@
 -- Operations are read as they are spelled.
-use Rattle.std.proofs.Common.{◌≡◌, ℕ, ◌^◌, ◌<◌, Bool, true, false, cond, eqb, List, [], ◌∷◌, ◌++◌, length, Option, Some, None, refl, sym, ap, subst, ◌∙◌, ◌⊎◌, inl, inr, arith}
+use Rattle.std.proofs.Common.{◌≡◌, ℕ, ◌^◌, ◌<◌, Bool, true, false, cond, eqb, List, [], ◌∷◌, ◌++◌, length, Option, Some, None, refl, sym, ap, subst, ◌∙◌, inl, inr, arith}
 use Rattle.std.specs.Int.{w64, to_be_bytes}
 use Rattle.std.proofs.lemmas.Bool.{eqb-true, eq-eqb}
 use Rattle.tree_keys.specs.Bits.{bits_of, number_of}
 use Rattle.tree_keys.specs.BitsLaws.{length-bits_of, number_back}
-use Rattle.tree_keys.specs.Path.{key_bits, key_of, key_path, is_data, IsData, IsIn, IsPath}
+use Rattle.tree_keys.specs.Path.{key_bits, key_of, key_path, is_data, IsIn, IsPath}
 use Rattle.tree_keys.proofs.BitsLaws.{bits_of-number_of, number_of-lt}
 use Rattle.tree_keys.proofs.TreeLaws.{data-path, is-data}
 use Rattle.lamport_clocks.specs.declared.stamp.Stamp.{Stamp}

@@ -1,26 +1,24 @@
 -- What is kept of a verifier is read as it is spelled.
-use Rattle.std.proofs.Common.{◌≡◌, ℕ, zero, suc, ◌^◌, ◌<◌, Bool, true, false, cond, List, [], ◌∷◌, ◌++◌, length, Option, Some, None, Result, Ok, Err, refl, sym, ap, subst, ◌∙◌, append_assoc, arith}
+use Rattle.std.proofs.Common.{◌≡◌, ℕ, ◌^◌, ◌<◌, Bool, true, false, cond, List, ◌++◌, length, Some, None, refl, sym, ap, subst, ◌∙◌}
 use Rattle.std.specs.Prelude.{IsTrue}
 use Rattle.std.specs.Int.{w32, w64, to_be_bytes}
-use Rattle.std.specs.List.{flat_map, AllByRecursion}
+use Rattle.std.specs.List.{AllByRecursion}
 use Rattle.lamport_clocks.specs.declared.header.Header.{Header}
 use Rattle.lamport_clocks.specs.declared.stamp.Stamp.{Stamp}
-use Rattle.multiset_sum.specs.Tally.{Tally}
 use Rattle.multiset_sum.specs.declared.part.Part.{Part}
 use Rattle.record_text.specs.declared.operation.Operation.{Operation}
 use Rattle.record_text.specs.Element.{IsStamp}
-use Rattle.record_text.specs.Fields.{Parsed, ◌>>=◌, KeepsOn}
+use Rattle.record_text.specs.Fields.{KeepsOn}
 use Rattle.record_text.specs.Reading.{u32_at, u64_at, stamp_at}
 use Rattle.record_text.specs.Texts.{stamp_text}
-use Rattle.record_text.proofs.FieldLaws.{AreBytes, Begins, Begins-then, bind_ok, Ok-is}
-use Rattle.record_text.proofs.KeepsOnLaws.{keeps_on-nothing, keeps_on-then, keeps_on-made, keeps_on-u32, keeps_on-stamp}
+use Rattle.record_text.proofs.KeepsOnLaws.{keeps_on-u32, keeps_on-stamp}
 use Rattle.verifier_cache.specs.declared.listed.ListedEntry.{ListedEntry}
 use Rattle.seals.specs.declared.bounds.Bounds.{Bounds}
 use Rattle.seals.specs.Combined.{then_at, at_most, exactly, InRow}
 use Rattle.seals.specs.State.{KeptRun}
 use Rattle.seals.specs.Bounds.{is_clock, most_own, most_before, entry_follows, sealed_count, part_follows, operation_follows}
 use Rattle.seals.specs.Entry.{entry_at, entry_text, IsGoodEntry}
-use Rattle.seals.specs.Sum.{sum_at, sum_text, part_at, part_text, IsGoodSum, IsGoodPart}
+use Rattle.seals.specs.Sum.{sum_text, part_at, part_text, IsGoodSum, IsGoodPart}
 use Rattle.seals.specs.Operation.{operation_at, operation_text, IsGoodOperation}
 use Rattle.seals.specs.Run.{bounds_with, bounds_in, bounds_at, bounds_of, entries_at, parts_at, operations_at, SumFields, sums_at, ListFields, kept_with, lists_at, run_at, entries_text, parts_text, operations_text, run_text, IsGoodRun}
 use Rattle.seals.proofs.CodecLaws.{IsCodec, codec-then, IsPicked, codec-pick, codec-counted, keeps_on-both, keeps_on-pick, keeps_on-counted}

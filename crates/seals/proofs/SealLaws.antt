@@ -1,5 +1,5 @@
 -- Seals are read as they are spelled.
-use Rattle.std.proofs.Common.{◌≡◌, ℕ, zero, suc, ◌+◌, ◌-◌, ◌^◌, ◌<◌, ◌≤◌, Bool, true, false, List, [], ◌∷◌, ◌++◌, length, take, drop, Option, Some, None, Result, Ok, Err, refl, sym, ap, subst, ◌∙◌, append_assoc, append-nil, length-append, arith}
+use Rattle.std.proofs.Common.{◌≡◌, ℕ, zero, suc, ◌+◌, ◌-◌, ◌^◌, ◌<◌, List, [], ◌∷◌, ◌++◌, length, take, Some, Ok, Err, refl, sym, ap, subst, ◌∙◌, append_assoc, append-nil, length-append, arith}
 use Rattle.std.specs.Prelude.{IsTrue}
 use Rattle.std.specs.Int.{w32, w64, to_be_bytes}
 use Rattle.std.specs.List.{flat_map}
@@ -15,10 +15,10 @@ use Rattle.record_text.specs.Reading.{run_at as bytes_at, u32_at, u64_at}
 use Rattle.record_text.proofs.FieldLaws.{AreBytes, Begins, Begins-then, bind_ok, Ok-is}
 use Rattle.record_text.proofs.KeepsOnLaws.{keeps_on-nothing, keeps_on-then, keeps_on-made, keeps_on-run as keeps_on-bytes, keeps_on-u32, front_is_truncated}
 use Rattle.bundle_frames.specs.Bundle.{header_text}
-use Rattle.seals.specs.Combined.{then_at, if_passing, tested_at, at_most, exactly}
+use Rattle.seals.specs.Combined.{then_at, if_passing, at_most, exactly}
 use Rattle.seals.specs.State.{KeptRun, Seal}
-use Rattle.seals.specs.Run.{run_at, run_text, IsGoodRun}
-use Rattle.seals.specs.Seal.{magic_number, most_taken, header_at, HeadFields, head_at, runs_at, seal_with, runs_behind, untagged_at, tag_bytes, seal_at, head_text, seal_text, AreGoodRuns, IsGoodSeal}
+use Rattle.seals.specs.Run.{run_at, run_text}
+use Rattle.seals.specs.Seal.{magic_number, most_taken, HeadFields, head_at, runs_at, seal_with, runs_behind, untagged_at, tag_bytes, seal_at, seal_text, AreGoodRuns, IsGoodSeal}
 use Rattle.seals.specs.declared.state.SealedState.{SealedState}
 use Rattle.seals.specs.Kept.{seal_in}
 use Rattle.seals.specs.Answer.{tagged_front, IsWhole}

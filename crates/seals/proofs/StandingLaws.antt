@@ -1,8 +1,8 @@
 -- What a verifier has come to passes the tests and has a text.
-use Rattle.std.proofs.Common.{◌≡◌, ◌⊎◌, inl, inr, ℕ, zero, suc, ◌+◌, ◌-◌, ◌*◌, ◌^◌, ◌<◌, ◌≤◌, ◌==◌, ◌&&◌, ◌||◌, eqb, ltb, leb, Bool, true, false, cond, List, [], ◌∷◌, length, Option, Some, None, refl, sym, ap, subst, ◌∙◌, arith}
+use Rattle.std.proofs.Common.{◌≡◌, inl, inr, ℕ, zero, suc, ◌+◌, ◌-◌, ◌*◌, ◌^◌, ◌<◌, ◌≤◌, ◌==◌, ◌&&◌, ◌||◌, eqb, ltb, leb, Bool, true, false, cond, List, [], ◌∷◌, length, Option, Some, None, refl, sym, ap, subst, ◌∙◌, arith}
 use Rattle.std.specs.Prelude.{IsTrue, EachIndex, slice_index}
 use Rattle.std.specs.List.{AllByRecursion}
-use Rattle.std.proofs.lemmas.Bool.{le-leb, lt-ltb, eqb-true, eq-eqb, and_from, le-ltb}
+use Rattle.std.proofs.lemmas.Bool.{le-leb, lt-ltb, eq-eqb, and_from, le-ltb}
 use Rattle.lamport_clocks.specs.declared.header.Header.{Header}
 use Rattle.lamport_clocks.specs.Header.{IsHeader, names_paths}
 use Rattle.lamport_clocks.specs.declared.stamp.Stamp.{Stamp}
@@ -16,9 +16,8 @@ use Rattle.verifier_cache.specs.Listed.{entries_in, SlotsRise}
 use Rattle.seals.specs.declared.bounds.Bounds.{Bounds}
 use Rattle.seals.specs.Combined.{InRow}
 use Rattle.seals.specs.State.{KeptRun}
-use Rattle.seals.specs.Bounds.{least_epoch, is_clock, is_path_behind, is_slot_behind, entry_follows, first_open, part_follows, is_no_later, is_open_operation, is_operation_behind, operation_follows, most_sealed}
+use Rattle.seals.specs.Bounds.{least_epoch, is_clock, entry_follows, first_open, part_follows, is_no_later, is_open_operation, is_operation_behind, operation_follows, most_sealed}
 use Rattle.seals.specs.Sum.{IsGoodSum, IsGoodPart}
-use Rattle.seals.specs.Operation.{IsGoodOperation}
 use Rattle.seals.specs.Run.{bounds_of, IsGoodRun}
 use Rattle.seals.specs.Meaning.{IsClock, AreByPath, IsNoLater, IsOpen, OperationsRise, PartsFrom, AreSmall, IsPartOf, HasStood}
 

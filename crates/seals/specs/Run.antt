@@ -1,5 +1,5 @@
 -- What is kept of a verifier as a text, and what bytes mean as such.
-use Rattle.std.specs.Prelude.{◌≡◌, ◌<◌, ◌^◌, ℕ, ◌≤◌, Bool, List, ◌++◌, length, Option, Some, None, IsTrue, if◌then◌else◌}
+use Rattle.std.specs.Prelude.{◌<◌, ◌^◌, ℕ, List, ◌++◌, length, Option, Some, None, IsTrue, if◌then◌else◌}
 use Rattle.std.specs.Int.{w32, w64, to_be_bytes}
 use Rattle.std.specs.List.{flat_map, AllByRecursion}
 use Rattle.lamport_clocks.specs.declared.header.Header.{Header}

@@ -1,4 +1,4 @@
-use Rattle.std.proofs.Common.{◌≡◌, ◌∙◌, ℕ, List, length, Option, ap, sym, ◌-◌}
+use Rattle.std.proofs.Common.{◌∙◌, length, ap, sym, ◌-◌}
 use Rattle.std.specs.Prelude.{slice_get}
 use Rattle.seals.proofs.RowLaws.{so_far-start, so_far-fault, so_far-stop, so_far-next, so_far-end}
 use Rattle.seals.proofs.item.read_row.Goals as goal

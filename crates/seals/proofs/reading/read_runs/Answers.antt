@@ -1,6 +1,5 @@
-use Rattle.std.proofs.Common.{◌∙◌, ◌++◌, List, map, ap}
+use Rattle.std.proofs.Common.{◌∙◌, map, ap}
 use Rattle.std.proofs.lemmas.List.{map-append}
-use Rattle.seals.specs.State.{KeptRun}
 use Rattle.seals.specs.Kept.{kept_in}
 use Rattle.seals.specs.Run.{run_at}
 use Rattle.seals.proofs.FrontLemmas.{handed_on, runs-fault, runs-next}

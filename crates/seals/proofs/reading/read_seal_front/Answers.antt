@@ -1,6 +1,6 @@
-use Rattle.std.proofs.Common.{◌≡◌, ◌∙◌, ap, sym, subst, take, drop, true≢false, arith}
+use Rattle.std.proofs.Common.{◌∙◌, ap, sym, subst, take, drop, true≢false, arith}
 use Rattle.record_text.proofs.FieldLaws.{AreBytes}
-use Rattle.seals.specs.Seal.{untagged_at, tag_bytes}
+use Rattle.seals.specs.Seal.{tag_bytes}
 use Rattle.seals.specs.Kept.{seal_in}
 use Rattle.seals.specs.declared.answer.SealFront.{SealFront}
 use Rattle.seals.specs.Answer.{IsFront}
