@@ -1,5 +1,5 @@
 //! The fields of a header and of a frame's head, read from their bytes.
-ghost use Rattle.std.specs.Prelude.{◌≡◌, ◌≤◌, ◌&&◌, nat_le, nat_lt, length};
+ghost use Rattle.std.specs.Prelude.{◌≡◌, ◌≤◌, ◌↔◌, ◌&&◌, nat_le, nat_lt, length, IsSome, IfSome};
 ghost use Rattle.std.specs.Int.{w16, w32, from_be_bytes};
 ghost use Rattle.bundle_frames.specs.Bundle.{magic_bytes, version_in, says_bits, header_bytes, header_bytes_in, header_in, header_numbers, head_bytes, head_verifier, head_length, longest_body};
 
@@ -21,7 +21,7 @@ fn says_bits(version: u8) -> bool
     version == 3
 }
 
-// How many bytes a header of this version has.
+/// How many bytes a header of this version has.
 pub fn header_bytes(version: u8) -> usize
     ensures value { result ≡ header_bytes version }
 {
@@ -45,7 +45,18 @@ pub fn version_at(bytes: &[u8]) -> u8
     }
 }
 
-// The header that bytes begin with.
+/// How many bytes the header has that these begin with, where they tell: their first four do.
+pub fn header_size(bytes: &[u8]) -> Option<usize>
+    ensures told { IsSome result ↔ (magic_bytes ≤ length bytes.now) }
+    ensures value { IfSome result (λ count. count ≡ header_bytes_in bytes.now) }
+{
+    if bytes.len() < MAGIC_BYTES {
+        return None;
+    }
+    Some(header_bytes(version_at(bytes)))
+}
+
+/// The header that bytes begin with.
 pub fn header_at(bytes: &[u8]) -> Option<Header>
     requires whole { header_bytes_in bytes.now ≤ length bytes.now }
     ensures value { result ≡ header_in bytes.now }

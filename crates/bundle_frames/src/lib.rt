@@ -20,6 +20,7 @@ mod whole;
 mod writers;
 
 pub use coming::Next;
+pub use fields::{header_at, header_bytes, header_size};
 pub use found::{Fed, Found};
 pub use frame_buffer::FrameBuffer;
 pub use laws::{
@@ -29,4 +30,4 @@ pub use laws::{
 pub use reader::{BundleReader, PIECE_BYTES};
 pub use splitter::Splitter;
 pub use whole::{WholeBundle, WholeFrame, read_pieces};
-pub use writers::{write_frame, write_header};
+pub use writers::{spell_header, write_frame, write_header};

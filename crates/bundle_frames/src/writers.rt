@@ -36,8 +36,8 @@ pub fn write_frame<O: Sink>(verifier: u16, body: &[u8], sink: &mut O) -> Result<
     write_all(sink, body)
 }
 
-// The bytes of a header, with the bits of a key at their end, also where its version leaves them out.
-fn spell_header(h: &Header) -> [u8; LONGEST_HEADER]
+/// The bytes of a header, with the bits of a key at their end, also where its version leaves them out.
+pub fn spell_header(h: &Header) -> [u8; LONGEST_HEADER]
     ensures text { result ≡ fields_text h.now ++ to_be_bytes w8 h.now.bits }
 {
     let verifiers = h.verifiers.to_be_bytes();

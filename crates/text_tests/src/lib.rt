@@ -27,6 +27,8 @@ mod rewriting;
 #[cfg(test)]
 mod rows;
 #[cfg(test)]
+mod seals;
+#[cfg(test)]
 mod summaries;
 #[cfg(test)]
 mod tagged_texts;

@@ -1,0 +1,23 @@
+-- Texts that are written piece by piece.
+use Rattle.std.proofs.Common.{◌≡◌, ℕ, List, [], ◌++◌, ap, ◌∙◌, append_assoc}
+
+-- two pieces, each behind those before it
+pub both_joined : (old a b t1 t2 : List ℕ) → t1 ≡ old ++ a → t2 ≡ t1 ++ b → t2 ≡ old ++ (a ++ b)
+both_joined old a b t1 t2 e1 e2 = e2 ∙ (ap (λ (t : List ℕ). t ++ b) e1 ∙ append_assoc old a b)
+
+-- the five pieces of a verifier's text
+pub run_joined : (old a b c d e t1 t2 t3 t4 t5 : List ℕ) → t1 ≡ old ++ a → t2 ≡ t1 ++ b → t3 ≡ t2 ++ c → t4 ≡ t3 ++ d → t5 ≡ t4 ++ e → t5 ≡ old ++ (a ++ (b ++ (c ++ (d ++ e))))
+run_joined old a b c d e t1 t2 t3 t4 t5 e1 e2 e3 e4 e5 =
+    both_joined old a (b ++ (c ++ (d ++ e))) t1 t5 e1 (both_joined t1 b (c ++ (d ++ e)) t2 t5 e2 (both_joined t2 c (d ++ e) t3 t5 e3 (both_joined t3 d e t4 t5 e4 e5)))
+
+-- the pieces of what stands before the verifiers
+pub head_joined : (old magic counter taken header certified t1 t2 t3 : List ℕ) → t1 ≡ old ++ (magic ++ (counter ++ taken)) → t2 ≡ t1 ++ header → t3 ≡ t2 ++ certified → t3 ≡ old ++ (magic ++ (counter ++ (taken ++ (header ++ certified))))
+head_joined old magic counter taken header certified t1 t2 t3 e1 e2 e3 =
+    both_joined old (magic ++ (counter ++ taken)) (header ++ certified) t1 t3 e1 (both_joined t1 header certified t2 t3 e2 e3)
+    ∙ ap (λ (t : List ℕ). old ++ t) (append_assoc magic (counter ++ taken) (header ++ certified) ∙ ap (λ (t : List ℕ). magic ++ t) (append_assoc counter taken (header ++ certified)))
+
+-- a text and its tag
+pub seal_joined : (tag : List ℕ → List ℕ) (head runs own t0 t1 t2 t3 : List ℕ) → t0 ≡ [] → t1 ≡ t0 ++ head → t2 ≡ t1 ++ runs → t3 ≡ t2 ++ own → own ≡ tag t2 → t3 ≡ (head ++ runs) ++ tag (head ++ runs)
+seal_joined tag head runs own t0 t1 t2 t3 e0 e1 e2 e3 is =
+    let whole : t2 ≡ head ++ runs = e2 ∙ ap (λ (t : List ℕ). t ++ runs) (e1 ∙ ap (λ (t : List ℕ). t ++ head) e0) in
+    e3 ∙ (ap (λ (t : List ℕ). t2 ++ t) is ∙ ap (λ (t : List ℕ). t ++ tag t) whole)

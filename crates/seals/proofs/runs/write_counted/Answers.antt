@@ -1,0 +1,10 @@
+use Rattle.std.proofs.Common.{◌∙◌, ◌++◌, List, ℕ, ap}
+use Rattle.seals.proofs.WriteLemmas.{both_joined}
+use Rattle.seals.proofs.runs.write_counted.Goals as goal
+
+pub returns : goal.returns
+returns g c = record {
+  text = both_joined c.args.text.now.items _ _ _ _
+      (c.in_ok-extend_from_slice.ensures.items ∙ ap (λ (t : List ℕ). c.args.text.now.items ++ t) c.count_text.ensures.text)
+      c.in_ok-write_row.ensures.text;
+}
