@@ -1,5 +1,5 @@
 -- A place that is scanned has a shard, or nothing as at the making.
-use Rattle.std.proofs.Common.{◌≡◌, ◌≢◌, ◌⊎◌, ℕ, ◌+◌, ◌*◌, ◌/◌, ◌%◌, ◌<◌, List, [], ◌∷◌, Option, Some, None, refl, sym, ◌∙◌, ap, subst, inl, inr, ⊎_elim, arith}
+use Rattle.std.proofs.Common.{◌≡◌, ◌≢◌, ◌⊎◌, ℕ, ◌%◌, List, [], ◌∷◌, Option, Some, None, refl, sym, ◌∙◌, ap, subst, inl, inr, ⊎_elim}
 use Rattle.std.proofs.lemmas.Option.{none-some, same_Some}
 use Rattle.lamport_clocks.specs.Reading.{Reading}
 use Rattle.record_text.specs.declared.element.Element.{Element}
@@ -17,8 +17,8 @@ use Rattle.host_plan.specs.Plan.{Owns, clock_after}
 use Rattle.host_plan.specs.Visit.{between}
 use Rattle.host_epochs.specs.declared.told.Entry.{Entry}
 use Rattle.host_epochs.specs.Scan.{IsStale, scan_commands, scanned}
-use Rattle.host_epochs.specs.Terms.{Terms, first_at, place_count}
-use Rattle.host_epochs.specs.Told.{IsDone, IsWork, Leads}
+use Rattle.host_epochs.specs.Terms.{Terms, first_at}
+use Rattle.host_epochs.specs.Told.{IsWork, Leads}
 use Rattle.host_epochs.proofs.HistoryLaws.{leads_owns}
 use Rattle.round_workers.specs.Sharing.{IsColdAt}
 

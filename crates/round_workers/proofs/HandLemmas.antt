@@ -1,5 +1,5 @@
 -- What the calls on a table leave of a hand, and what a worker knows of the places that it takes.
-use Rattle.std.proofs.Common.{◌≡◌, ◌≢◌, ◌⊎◌, ℕ, suc, ◌+◌, ◌*◌, ◌/◌, ◌%◌, ◌<◌, ◌≤◌, List, [], ◌∷◌, ◌++◌, Option, Some, None, refl, sym, ◌∙◌, ap, subst, inl, inr, ⊎_elim, append-nil, arith}
+use Rattle.std.proofs.Common.{◌≡◌, ◌≢◌, ◌⊎◌, ℕ, suc, ◌+◌, ◌*◌, ◌<◌, ◌≤◌, List, [], ◌∷◌, ◌++◌, refl, sym, ◌∙◌, ap, subst, inl, inr, ⊎_elim, arith}
 use Rattle.std.proofs.lemmas.Bool.{cases_lt, cases_eq}
 use Rattle.lamport_clocks.specs.declared.stamp.Stamp.{Stamp}
 use Rattle.lamport_clocks.specs.Reading.{Reading}
@@ -11,8 +11,8 @@ use Rattle.host_epochs.specs.declared.hand.Hand.{Hand}
 use Rattle.host_epochs.specs.declared.told.Loss.{Loss}
 use Rattle.host_epochs.specs.declared.told.Reached.{Reached}
 use Rattle.host_epochs.specs.declared.views.Row.{Row}
-use Rattle.host_epochs.specs.Calls.{HasReached, IsAfter, IsThrough, Loses}
-use Rattle.host_epochs.specs.Hands.{worker_of, row_of, entered, done, left, seen}
+use Rattle.host_epochs.specs.Calls.{HasReached, IsAfter}
+use Rattle.host_epochs.specs.Hands.{worker_of, entered, done, left, seen}
 use Rattle.host_epochs.specs.Scan.{IsStale}
 use Rattle.host_epochs.specs.Terms.{Terms, IsClockOf, IsNear, Waits, clock_at, epoch_of, first_at, first_epoch, final_epoch, owner, place_count}
 use Rattle.host_epochs.proofs.ScanLaws.{reached_last, reached_more}
@@ -21,25 +21,6 @@ use Rattle.round_workers.specs.Sharing.{IsColdAt}
 use Rattle.round_workers.proofs.ColdLemmas.{cold_vacant}
 
 -- ---- what was told and noted
-
-pub waited-none : (hand : Hand) → HasWaited hand hand
-waited-none hand = record { worker = refl; row = refl; left = refl; seen = refl }
-
-pub waited-loses : (start old new : Hand) (place : ℕ) → HasWaited start old → Loses old new place → HasWaited start new
-waited-loses start old new place waited loses = record {
-  worker = loses.after.worker ∙ waited.worker;
-  row = loses.after.row ∙ waited.row;
-  left = loses.after.left ∙ append-nil (left old) ∙ waited.left;
-  seen = loses.after.seen ∙ append-nil (seen old) ∙ waited.seen;
-}
-
-pub waited-takes : (start old new : Hand) → HasWaited start old → IsAfter old new (row_of old) [] [] [] → HasWaited start new
-waited-takes start old new waited after = record {
-  worker = after.worker ∙ waited.worker;
-  row = after.row ∙ waited.row;
-  left = after.left ∙ append-nil (left old) ∙ waited.left;
-  seen = after.seen ∙ append-nil (seen old) ∙ waited.seen;
-}
 
 pub stands-waited : (old new : Hand) → HasWaited old new → StandsAs old new
 stands-waited old new waited = record {
@@ -59,9 +40,6 @@ stands-after old new tells found given looked after same through = record {
   left = λ of least has. subst (λ (noted : List Reached). HasReached noted of least) (sym after.left) (reached_more (left old) given of least has);
   seen = λ of least has. subst (λ (noted : List Reached). HasReached noted of least) (sym after.seen) (reached_more (seen old) looked of least has);
 }
-
-pub stands-none : (hand : Hand) → StandsAs hand hand
-stands-none hand = record { worker = refl; entered = refl; done = refl; left = λ of least has. has; seen = λ of least has. has }
 
 pub stands-then : (one two three : Hand) → StandsAs one two → StandsAs two three → StandsAs one three
 stands-then one two three first second = record {
@@ -85,11 +63,6 @@ not_newer epoch (cold shard) not = ⊎_elim (λ (less : epoch < shard.stamp.epoc
 not_newer epoch (hot kept) not = ⊎_elim (λ (less : epoch < kept.stamp.epoch). absurd (not less)) (λ (there : kept.stamp.epoch ≤ epoch). there) (cases_lt epoch kept.stamp.epoch)
 not_newer epoch vacant not = tt
 
-pub newer_not : (epoch : ℕ) (content : Content) → IsNewer epoch content → Waits (λ e. e ≤ epoch) content → ⊥
-newer_not epoch (cold shard) newer waits = omega (arith, newer, waits)
-newer_not epoch (hot kept) newer waits = omega (arith, newer, waits)
-newer_not epoch vacant newer waits = newer
-
 pub stale_waits : (epoch : ℕ) (content : Content) → IsStale epoch content → Waits (λ e. e ≤ epoch) content
 stale_waits epoch (cold shard) stale = omega (arith, stale)
 stale_waits epoch (hot kept) stale = omega (arith, stale)
@@ -106,18 +79,6 @@ newer_near terms entered done content newer near = go (shown_content content) ne
     go (cold shard) later waits = (waits.0, omega (arith, later), waits.2, waits.3)
     go (hot kept) later waits = (waits.0, omega (arith, later), waits.2, waits.3)
     go vacant later waits = tt
-
--- and then no later one
-pub newer_to : (terms : Terms) (entered done : ℕ) (content : code.Content) → done ≤ entered → IsNear terms entered done content
-    → Waits (λ epoch. epoch ≤ first_epoch terms + suc entered) (shown_content content)
-newer_to terms entered done content less near = go (shown_content content) near
-  where
-    go : (c : Content)
-        → Waits (λ epoch. (first_epoch terms ≤ epoch) × (first_epoch terms + entered ≤ suc epoch) × (epoch ≤ suc (first_epoch terms + done)) × (epoch ≤ final_epoch terms)) c
-        → Waits (λ epoch. epoch ≤ first_epoch terms + suc entered) c
-    go (cold shard) waits = let high = waits.2 in omega (arith, high, less)
-    go (hot kept) waits = let high = waits.2 in omega (arith, high, less)
-    go vacant waits = tt
 
 -- ---- the worker's own places
 
@@ -142,10 +103,6 @@ renewed-stands terms old new place stands renewed = ⊎_elim
 pub all_renewed-stands : (terms : Terms) (old new : Hand) (below : ℕ) → StandsAs old new → AreRenewed terms old below → AreRenewed terms new below
 all_renewed-stands terms old new below stands are place less there own = renewed-stands terms old new place stands (are place less there (own ∙ stands.worker))
 
--- the first place of a shard is of the worker to whose shards that belongs
-pub shard_owner : (terms : Terms) (shard : ℕ) → owner terms (shard * 5) ≡ shard % terms.workers
-shard_owner terms shard = let same : (shard * 5) / 5 ≡ shard = omega arith in ap (λ (n : ℕ). n % terms.workers) same
-
 -- one shard more
 pub renewed-next : (terms : Terms) (hand : Hand) (shard : ℕ) → ((place : ℕ) → place < place_count terms → IsColdAt place (shown_content (first_at terms place)))
     → (owner terms (shard * 5) ≡ worker_of hand → IsRenewed terms hand (shard * 5)) → AreRenewed terms hand (shard * 5) → AreRenewed terms hand ((shard + 1) * 5)
@@ -155,10 +112,6 @@ renewed-next terms hand shard cold' here before place below there own = go (case
     go (inl less) which = before place less there own
     go (inr least) (inl same) = subst (IsRenewed terms hand) (sym same) (here (ap (owner terms) (sym same) ∙ own))
     go (inr least) (inr other) = inl (cold_vacant place (first_at terms place) (cold' place there) (λ multiple. other (omega (arith, multiple, below, least))))
-
--- with all of its places renewed a worker is through with its epoch
-pub renewed-through : (terms : Terms) (hand : Hand) (shards : ℕ) → place_count terms ≡ shards * 5 → AreRenewed terms hand (shards * 5) → IsThrough terms hand
-renewed-through terms hand shards count are place there own = are place (omega (arith, there, count)) there own
 
 -- ---- the other workers
 

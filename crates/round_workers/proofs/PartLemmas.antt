@@ -1,7 +1,6 @@
 -- A worker in its thread, over calls that change its hand or its log alone, and one that entered an epoch.
-use Rattle.std.proofs.Common.{◌≡◌, ◌≢◌, ◌↔◌, ℕ, zero, suc, ◌+◌, ◌<◌, ◌≤◌, Bool, true, false, true≢false, List, [], ◌∷◌, ◌++◌, take, drop, map, length, get_or, Option, Some, None, Result, Ok, Err, is_err, IfOk, OnOk, refl, sym, ◌∙◌, ap, subst, arith}
+use Rattle.std.proofs.Common.{◌≡◌, ◌↔◌, ℕ, zero, suc, ◌+◌, ◌<◌, ◌≤◌, Bool, true, false, true≢false, List, [], ◌∷◌, ◌++◌, drop, map, length, get_or, None, Result, Ok, Err, IfOk, OnOk, refl, sym, ◌∙◌, ap, subst, arith}
 use Rattle.std.proofs.lemmas.List.{get_or-map}
-use Rattle.std.proofs.lemmas.Option.{none-some}
 use Rattle.lamport_clocks.specs.Clock.{last_epoch}
 use Rattle.lamport_clocks.specs.Reading.{Reading}
 use Rattle.record_text.specs.declared.request.Request.{Request}
@@ -14,13 +13,12 @@ use Rattle.host_epochs.specs.declared.hand.Hand.{Hand}
 use Rattle.host_epochs.specs.declared.told.Entry.{Entry}
 use Rattle.host_epochs.specs.declared.told.Stop.{Stop}
 use Rattle.host_epochs.specs.declared.views.Row.{Row}
-use Rattle.host_epochs.specs.Hands.{worker_of, row_of, entries, entered, done, stop, warned}
+use Rattle.host_epochs.specs.Hands.{worker_of, row_of, entries, entered, stop, warned}
 use Rattle.host_epochs.specs.Plays.{new_row, row_with_done, row_with_entry, row_with_epoch, row_with_stop, row_with_warning}
 use Rattle.host_epochs.specs.Terms.{Terms, IsClockOf, first_epoch}
 use Rattle.host_epochs.specs.Told.{IsAsked, IsClockBehind}
 use Rattle.host_epochs.proofs.ClockLaws.{behind_entered, behind_more}
 use Rattle.host_epochs.proofs.WorkLaws.{later_epoch}
-use Rattle.host_world.specs.declared.worker.Worker.{Worker}
 use Rattle.host_world.specs.Workers.{shown_worker}
 use Rattle.round_workers.specs.declared.turn.Turn.{Turn}
 use Rattle.round_workers.specs.declared.worker_thread.WorkerThread.{WorkerThread}
@@ -99,9 +97,6 @@ stopped-come terms asked rest start old new stop row worker clock next come =
     subst (λ (at : Row × machine.Worker). HasDoneUpTo (first_epoch terms) terms.more asked rest at.0 start at.1) (λ i. (sym row i, sym worker i))
     (done-stop (first_epoch terms) terms.more asked (row_of old.hand) start (shown_worker old.worker) rest stop clock next come)
 
-pub stopped-ended : (hand : Hand) (stopped : Stop) (row : Row) → row_of hand ≡ row_with_stop stopped row → HasEnded hand
-stopped-ended hand stopped row is none' = absurd (none-some stopped (sym none' ∙ ap (λ (r : Row). r.stop) is))
-
 -- it reads that another worker stopped
 pub warned-come : (terms : Terms) (asked rest : List (ℕ × Request)) (start : machine.Worker) (old new : WorkerThread)
     → row_of new.hand ≡ row_with_warning (row_of old.hand) → shown_worker new.worker ≡ shown_worker old.worker → 0 < terms.more
@@ -109,19 +104,6 @@ pub warned-come : (terms : Terms) (asked rest : List (ℕ × Request)) (start : 
 warned-come terms asked rest start old new row worker further come =
     subst (λ (at : Row × machine.Worker). HasDoneUpTo (first_epoch terms) terms.more asked rest at.0 start at.1) (λ i. (sym row i, sym worker i))
     (done-warned (first_epoch terms) terms.more asked (row_of old.hand) start (shown_worker old.worker) rest further come)
-
--- it is through with its epoch
-pub through-running : (terms : Terms) (old new : WorkerThread) → worker_of new.hand ≡ worker_of old.hand → row_of new.hand ≡ row_with_done (row_of old.hand)
-    → new.entered ≡ old.entered → new.worker.clock ≡ old.worker.clock → IsRunning terms old → IsOn terms new
-through-running terms old new worker row counted clock is = record {
-  going = record {
-    known = subst (λ (n : ℕ). n < terms.workers) (sym worker) is.known;
-    counted = counted ∙ is.counted ∙ ap (λ (r : Row). r.entered) (sym row);
-    behind = subst (λ (at : Row × Reading). IsClockBehind terms at.0.list at.0.entered at.1) (λ i. (sym row i, sym clock i)) is.behind;
-    going = ap (λ (r : Row). r.stop) row ∙ is.going;
-  };
-  settled = ap (λ (r : Row). r.done) row ∙ ap (λ (r : Row). r.entered) (sym row);
-}
 
 pub through-keeps : (terms : Terms) (old new : WorkerThread) → row_of new.hand ≡ row_with_done (row_of old.hand) → shown_worker new.worker ≡ shown_worker old.worker → Keeps terms old new
 through-keeps terms old new row worker asked rest start come =
@@ -134,15 +116,6 @@ through-keeps terms old new row worker asked rest start come =
 pub advanced-true : (advanced : Bool) (epoch : ℕ) → (advanced ≡ false) ↔ (epoch ≡ last_epoch) → epoch < last_epoch → advanced ≡ true
 advanced-true true epoch last less = refl
 advanced-true false epoch last less = absurd (let at = last.0 refl in omega (arith, at, less))
-
--- what holds at Ok, where there was no error
-pub at_ok : {X E P : Type 0} (answer : Result X E) → is_err answer ≡ false → OnOk answer P → P
-at_ok (Ok x) fine holds = holds
-at_ok (Err e) fine holds = absurd (true≢false fine)
-
-pub holds_ok : {X E P : Type 0} (answer : Result X E) → P → OnOk answer P
-holds_ok (Ok x) holds = holds
-holds_ok (Err e) holds = tt
 
 pub ok_then : {X E P Q : Type 0} (answer : Result X E) → (P → Q) → OnOk answer P → OnOk answer Q
 ok_then (Ok x) then holds = then holds

@@ -17,12 +17,6 @@ log-grown outbox old new more writer grown front =
     (sym (ap (λ (w : CommandWriter). text_from w new.commands) writer ∙ ap (text_from old.writer) grown ∙ text_from-append old.writer old.commands more))
     (front-grown outbox (text_of old) (text_from (writer_behind old.writer old.commands) more) front)
 
--- of a log with the same writer and commands too
-pub log-same : (outbox : Outbox) (old new : Logged) → new.writer ≡ old.writer → new.commands ≡ old.commands
-    → HasSentFrontOf outbox (text_of old) → HasSentFrontOf outbox (text_of new)
-log-same outbox old new writer same front =
-    subst (HasSentFrontOf outbox) (sym (ap (λ (w : CommandWriter). text_from w new.commands) writer ∙ ap (text_from old.writer) same)) front
-
 -- before anything was sent of any log
 pub log-unsent : (outbox : Outbox) (log : List ℕ) → sent_bytes outbox ≡ [] → HasSentFrontOf outbox log
 log-unsent outbox log empty = record { rest = log; is = ap (λ (bytes : List ℕ). bytes ++ log) (sym empty) }

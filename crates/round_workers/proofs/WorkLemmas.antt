@@ -1,12 +1,10 @@
 -- What a worker that holds a place may do there, and what it then has done.
-use Rattle.std.proofs.Common.{◌≡◌, ◌≢◌, ◌⊎◌, ℕ, suc, ◌+◌, ◌<◌, ◌≤◌, Bool, List, [], ◌∷◌, ◌++◌, Option, Some, None, refl, sym, ◌∙◌, ap, subst, inl, inr, ⊎_elim, arith}
+use Rattle.std.proofs.Common.{◌≡◌, ℕ, ◌+◌, ◌<◌, ◌≤◌, Option, Some, None, refl, sym, ◌∙◌, ap, subst, arith}
 use Rattle.std.proofs.lemmas.Option.{none-some, same_Some}
 use Rattle.lamport_clocks.specs.Reading.{Reading}
-use Rattle.record_text.specs.declared.element.Element.{Element}
 use Rattle.record_text.specs.declared.request.Request.{Request}
 use Rattle.record_text.specs.Longest.{longest_blob}
 use Rattle.record_text.specs.Value.{IsBlob}
-use Rattle.merkle_records.specs.Merkle.{Digest}
 use Rattle.host_shard.specs.declared.content.Content as code
 use Rattle.host_shard.specs.Content.{Content}
 use Rattle.host_shard.specs.Shown.{shown_content}
@@ -18,7 +16,7 @@ use Rattle.host_epochs.specs.Calls.{MayNote, Notes}
 use Rattle.host_epochs.specs.Hands.{worker_of, entries, entered, stop, content}
 use Rattle.host_epochs.specs.Scan.{scan_commands}
 use Rattle.host_epochs.specs.Terms.{Terms, IsClockOf, IsPlaceOf, Waits, first_epoch}
-use Rattle.host_epochs.specs.Told.{IsClockBehind, IsDone, IsWork}
+use Rattle.host_epochs.specs.Told.{IsClockBehind, IsWork}
 use Rattle.round_workers.specs.Sharing.{MayGoOn}
 use Rattle.host_table.proofs.PlanLaws.{plan_one}
 

@@ -1,13 +1,13 @@
 -- A worker in its thread: before its part of a round, in the middle of it, and behind it.
-use Rattle.std.specs.Prelude.{◌≡◌, ℕ, suc, ◌+◌, ◌<◌, ◌≤◌, true, false, List, [], ◌∷◌, get_or, Option, None}
+use Rattle.std.specs.Prelude.{◌≡◌, ℕ, ◌<◌, true, false, List, [], ◌∷◌, get_or, None}
 use Rattle.record_hash.specs.Functions.{DigestFunctions}
 use Rattle.record_text.specs.declared.request.Request.{Request}
 use Rattle.worker_log.specs.Logged.{text_of}
 use Rattle.atomic_table.specs.Seated.{TableId}
 use Rattle.host_core.specs.World as machine
 use Rattle.host_epochs.specs.declared.hand.Hand.{Hand}
-use Rattle.host_epochs.specs.Calls.{IsNew, HasReached}
-use Rattle.host_epochs.specs.Hands.{worker_of, row_of, entries, entered, done, stop, warned, left, seen, IsFree}
+use Rattle.host_epochs.specs.Calls.{IsNew}
+use Rattle.host_epochs.specs.Hands.{worker_of, row_of, entries, entered, done, stop, warned, IsFree}
 use Rattle.host_epochs.specs.Table.{table, terms}
 use Rattle.host_epochs.specs.Terms.{Terms, IsClockOf, first_epoch}
 use Rattle.host_epochs.specs.Told.{IsClockBehind}

@@ -1,11 +1,9 @@
-use Rattle.std.proofs.Common.{◌≡◌, ℕ, suc, ◌+◌, ◌<◌, ◌≤◌, true, false, Bool, List, [], ◌∷◌, ◌++◌, Option, Some, None, refl, sym, ◌∙◌, ap, subst, arith, rules}
+use Rattle.std.proofs.Common.{◌≡◌, ℕ, suc, ◌+◌, true, Bool, [], ◌∷◌, ◌++◌, Option, Some, refl, sym, ◌∙◌, ap, subst, arith, rules}
 use Rattle.std.specs.Option.{option_map}
 use Rattle.lamport_clocks.specs.Reading.{Reading}
 use Rattle.record_text.specs.declared.request.Request.{Request}
-use Rattle.log_codec.specs.declared.command.Command.{Command}
 use Rattle.merkle_records.specs.Merkle.{Digest}
 use Rattle.host_shard.specs.declared.content.Content as code
-use Rattle.host_shard.specs.Content.{Content}
 use Rattle.host_shard.specs.Shown.{shown_content}
 use Rattle.host_plan.specs.declared.plans.Plan.{Plan}
 use Rattle.host_plan.specs.Plan.{IsPastEnd, IsPlan}
@@ -14,12 +12,10 @@ use Rattle.round_order.specs.Turn.{served_more}
 use Rattle.host_epochs.specs.declared.hand.Hand.{Hand}
 use Rattle.host_epochs.specs.declared.told.Stop.{Stop}
 use Rattle.host_epochs.specs.Calls.{MayNote, stop_by}
-use Rattle.host_epochs.specs.Hands.{entered, entries, done, content, history}
-use Rattle.host_epochs.specs.Plays.{row_with_entry}
+use Rattle.host_epochs.specs.Hands.{entered, done, history}
 use Rattle.host_epochs.specs.Table.{making, table, terms}
 use Rattle.host_epochs.specs.Terms.{Terms, clock_at, first_epoch}
-use Rattle.host_epochs.specs.Told.{IsClockBehind}
-use Rattle.host_epochs.proofs.HandLaws.{holds_still, place_held}
+use Rattle.host_epochs.proofs.HandLaws.{holds_still}
 use Rattle.host_epochs.proofs.HistoryLaws.{leads_owns}
 use Rattle.host_epochs.proofs.ScanLaws.{near_open}
 use Rattle.round_workers.specs.declared.worker_thread.WorkerThread.{WorkerThread}

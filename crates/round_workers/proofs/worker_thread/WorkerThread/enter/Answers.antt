@@ -1,11 +1,10 @@
-use Rattle.std.proofs.Common.{◌≡◌, ℕ, suc, ◌+◌, ◌<◌, ◌≤◌, Bool, true, List, [], ◌∷◌, ◌++◌, Ok, refl, sym, ◌∙◌, ap, subst, arith}
+use Rattle.std.proofs.Common.{◌≡◌, ◌+◌, Bool, true, List, [], ◌∷◌, Ok, refl, ◌∙◌, ap, subst, arith}
 use Rattle.log_codec.specs.declared.command.Command.{Command}
 use Rattle.log_codec.specs.declared.command.Command.TheVariants.{NextEpoch}
 use Rattle.host_core.specs.World as machine
 use Rattle.host_core.specs.WorldEvent.{logging, next_clock}
 use Rattle.host_world.specs.Workers.{shown_worker}
 use Rattle.host_epochs.specs.Table.{terms}
-use Rattle.host_epochs.specs.Terms.{Terms}
 use Rattle.round_workers.specs.declared.worker_thread.WorkerThread.{WorkerThread}
 use Rattle.round_workers.proofs.PartLemmas.{advanced-true, entered-keeps, entered-running}
 use Rattle.round_workers.proofs.SendLemmas.{log-grown}

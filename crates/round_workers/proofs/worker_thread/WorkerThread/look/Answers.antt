@@ -1,12 +1,7 @@
-use Rattle.std.proofs.Common.{◌≡◌, ◌⊎◌, ℕ, ◌+◌, ◌<◌, ◌≤◌, List, [], ◌∷◌, ◌++◌, refl, sym, ◌∙◌, ap, subst, ⊎_elim, arith}
-use Rattle.std.proofs.lemmas.Bool.{cases_lt}
+use Rattle.std.proofs.Common.{◌≡◌, ◌≤◌, [], refl, sym, ◌∙◌, arith}
 use Rattle.host_epochs.specs.declared.hand.Hand.{Hand}
-use Rattle.host_epochs.specs.declared.told.Reached.{Reached}
 use Rattle.host_epochs.specs.declared.views.Held.TheVariants.{Idle}
-use Rattle.host_epochs.specs.declared.views.Row.{Row}
-use Rattle.host_epochs.specs.Calls.{HasReached}
-use Rattle.host_epochs.specs.Hands.{entered, row_of, seen}
-use Rattle.host_epochs.proofs.ScanLaws.{reached_last}
+use Rattle.host_epochs.specs.Hands.{entered, row_of}
 use Rattle.round_workers.proofs.HandLemmas.{seen-more, seen-stands, stands-after, stands-then}
 use Rattle.round_workers.proofs.worker_thread.WorkerThread.look.Goals as goal
 

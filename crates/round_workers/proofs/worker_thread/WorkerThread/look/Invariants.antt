@@ -1,4 +1,4 @@
-use Rattle.std.proofs.Common.{◌≡◌, ◌≤◌}
+use Rattle.std.proofs.Common.{◌≡◌}
 use Rattle.host_epochs.specs.Hands.{row_of, IsFree}
 use Rattle.host_epochs.specs.Table.{table}
 use Rattle.round_workers.specs.Placed.{AreSeen, StandsAs}

@@ -1,22 +1,19 @@
-use Rattle.std.proofs.Common.{◌≡◌, ◌≢◌, ℕ, suc, ◌+◌, ◌<◌, ◌≤◌, true, false, Bool, List, [], ◌∷◌, ◌++◌, Option, Some, None, refl, sym, ◌∙◌, ap, subst, arith, rules, inr}
+use Rattle.std.proofs.Common.{◌≡◌, ℕ, ◌+◌, ◌≤◌, List, [], ◌++◌, Option, None, refl, sym, ◌∙◌, ap, subst, arith, rules, inr}
 use Rattle.lamport_clocks.specs.Reading.{Reading}
 use Rattle.lamport_clocks.specs.declared.stamp.Stamp.{Stamp}
-use Rattle.record_text.specs.declared.element.Element.{Element}
 use Rattle.record_text.specs.declared.request.Request.{Request}
 use Rattle.log_codec.specs.declared.command.Command.{Command}
 use Rattle.host_shard.specs.declared.content.Content as code
-use Rattle.host_shard.specs.Content.{Content, pending}
+use Rattle.host_shard.specs.Content.{Content}
 use Rattle.host_shard.specs.Shown.{shown_content}
 use Rattle.host_plan.specs.Plan.{IsPastEnd, clock_after}
 use Rattle.host_plan.specs.Visit.{between}
 use Rattle.round_order.specs.Turn.{served_more}
 use Rattle.host_epochs.specs.declared.hand.Hand.{Hand}
-use Rattle.host_epochs.specs.declared.told.Entry.{Entry}
 use Rattle.host_epochs.specs.declared.told.Reached.{Reached}
-use Rattle.host_epochs.specs.declared.told.Stop.{Stop}
-use Rattle.host_epochs.specs.Calls.{MayNote, HasReached, stop_by}
-use Rattle.host_epochs.specs.Hands.{entered, entries, done, left, content, history, worker_of}
-use Rattle.host_epochs.specs.Plays.{given_back, row_with_entry}
+use Rattle.host_epochs.specs.Calls.{MayNote, HasReached}
+use Rattle.host_epochs.specs.Hands.{entered, done, left, content, history}
+use Rattle.host_epochs.specs.Plays.{given_back}
 use Rattle.host_epochs.specs.Scan.{IsStale, scan_commands, scanned}
 use Rattle.host_epochs.specs.Table.{making, table, terms}
 use Rattle.host_epochs.specs.Terms.{Terms, clock_at, epoch_of, first_epoch}
@@ -26,7 +23,7 @@ use Rattle.round_workers.specs.declared.worker_thread.WorkerThread.{WorkerThread
 use Rattle.round_workers.specs.Parts.{IsNext}
 use Rattle.round_workers.proofs.ColdLemmas.{element_kind, scan_between, stale_some}
 use Rattle.round_workers.proofs.HandLemmas.{clock_told, stale_waits, stands-after}
-use Rattle.round_workers.proofs.PartLemmas.{stopped-come, worked-come, worked-running}
+use Rattle.round_workers.proofs.PartLemmas.{worked-come, worked-running}
 use Rattle.round_workers.proofs.SendLemmas.{log-grown}
 use Rattle.round_workers.proofs.WorkLemmas.{clock_later, entered_within, noted_scan}
 use Rattle.round_workers.proofs.worker_thread.WorkerThread.renew.Goals as goal

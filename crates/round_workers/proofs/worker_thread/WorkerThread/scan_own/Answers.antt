@@ -1,5 +1,4 @@
-use Rattle.std.proofs.Common.{rules, ◌≡◌, ℕ, ◌+◌, ◌*◌, ◌<◌, ◌≤◌, [], refl, sym, ◌∙◌, ap, subst, arith}
-use Rattle.host_epochs.specs.declared.hand.Hand.{Hand}
+use Rattle.std.proofs.Common.{rules, ◌*◌, [], sym, ◌∙◌, ap, subst, arith}
 use Rattle.host_epochs.specs.declared.views.Held.TheVariants.{Idle}
 use Rattle.host_epochs.specs.Hands.{entered, row_of, IsFree}
 use Rattle.host_epochs.specs.Table.{table, terms}

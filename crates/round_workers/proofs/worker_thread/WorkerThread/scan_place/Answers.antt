@@ -1,6 +1,5 @@
-use Rattle.std.proofs.Common.{◌≡◌, ◌⊎◌, ℕ, ◌+◌, ◌≤◌, true≢false, List, [], ◌∷◌, ◌++◌, refl, sym, ◌∙◌, ap, subst, inl, inr, ⊎_elim, arith}
+use Rattle.std.proofs.Common.{◌≡◌, ℕ, ◌+◌, ◌≤◌, true≢false, List, [], refl, sym, ap, subst, inl, inr, ⊎_elim, arith}
 use Rattle.log_codec.specs.declared.command.Command.{Command}
-use Rattle.host_shard.specs.declared.content.Content.TheVariants.{Vacant}
 use Rattle.host_shard.specs.Content.{vacant}
 use Rattle.host_shard.specs.Shown.{shown_content}
 use Rattle.host_epochs.specs.declared.hand.Hand.{Hand}
@@ -10,7 +9,7 @@ use Rattle.host_epochs.specs.Hands.{entered, history, left, row_of}
 use Rattle.host_epochs.specs.Plays.{given_back}
 use Rattle.host_epochs.specs.Scan.{IsStale}
 use Rattle.host_epochs.specs.Table.{terms}
-use Rattle.host_epochs.specs.Terms.{Terms, epoch_of, first_at, first_epoch}
+use Rattle.host_epochs.specs.Terms.{Terms, epoch_of, first_epoch}
 use Rattle.host_epochs.proofs.ScanLaws.{reached_last}
 use Rattle.host_world.specs.Workers.{shown_worker}
 use Rattle.round_workers.specs.declared.worker_thread.WorkerThread.{WorkerThread}

@@ -1,7 +1,6 @@
-use Rattle.std.proofs.Common.{◌≡◌, ℕ, ◌+◌, ◌≤◌, true, false, List, ◌∷◌, refl, sym, ◌∙◌, ap, subst, arith}
+use Rattle.std.proofs.Common.{◌≡◌, ℕ, ◌≤◌, List, ◌∷◌, sym, ap, subst, arith}
 use Rattle.record_text.specs.declared.request.Request.{Request}
 use Rattle.log_codec.specs.declared.command.Command.{Command}
-use Rattle.host_core.specs.World as machine
 use Rattle.host_epochs.specs.declared.views.Row.{Row}
 use Rattle.host_epochs.specs.Hands.{entered, row_of}
 use Rattle.host_epochs.specs.Table.{terms}

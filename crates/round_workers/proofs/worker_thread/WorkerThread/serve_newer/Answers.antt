@@ -1,6 +1,4 @@
-use Rattle.std.proofs.Common.{◌≡◌, ℕ, suc, ◌+◌, ◌≤◌, Bool, true, false, List, ◌∷◌, refl, sym, ◌∙◌, ap, subst, arith}
-use Rattle.record_text.specs.declared.request.Request.{Request}
-use Rattle.host_core.specs.World as machine
+use Rattle.std.proofs.Common.{◌≡◌, ℕ, suc, ◌≤◌, Bool, true, false, List, ◌∷◌, sym, ◌∙◌, ap, subst, arith}
 use Rattle.host_shard.specs.declared.content.Content as code
 use Rattle.host_shard.specs.Shown.{shown_content}
 use Rattle.host_epochs.specs.declared.hand.Hand.{Hand}

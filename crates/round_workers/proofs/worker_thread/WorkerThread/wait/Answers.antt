@@ -1,10 +1,8 @@
-use Rattle.std.proofs.Common.{rules, ◌≡◌, ℕ, ◌+◌, ◌<◌, ◌≤◌, [], refl, sym, ◌∙◌, ap, subst, arith}
+use Rattle.std.proofs.Common.{rules, [], refl, ◌∙◌, ap, arith}
 use Rattle.host_world.specs.declared.worker.Worker.{Worker}
 use Rattle.host_world.specs.Workers.{shown_worker}
-use Rattle.host_epochs.specs.declared.hand.Hand.{Hand}
 use Rattle.host_epochs.specs.declared.views.Held.TheVariants.{Idle}
-use Rattle.host_epochs.specs.declared.views.Row.{Row}
-use Rattle.host_epochs.specs.Hands.{entered, row_of}
+use Rattle.host_epochs.specs.Hands.{row_of}
 use Rattle.host_epochs.specs.Table.{terms}
 use Rattle.host_epochs.specs.Terms.{Terms}
 use Rattle.round_workers.specs.declared.worker_thread.WorkerThread.{WorkerThread}
