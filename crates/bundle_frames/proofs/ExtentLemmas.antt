@@ -13,7 +13,7 @@ use Rattle.bundle_frames.specs.Progress.{Progress, meaning_at, rest_of, position
 use Rattle.bundle_frames.specs.Finds.{FindsIn, FindsNothing, progress_after}
 use Rattle.bundle_frames.specs.Unfinished.{IsShort, IsUnfinished}
 use Rattle.bundle_frames.specs.Extent.{end_in, end_behind, IsDue}
-use Rattle.bundle_frames.proofs.HeaderLemmas.{header_bytes-bounds, IsHeaderOf-from_header_in}
+use Rattle.bundle_frames.proofs.HeaderLaws.{header_bytes-bounds, IsHeaderOf-from_header_in}
 use Rattle.bundle_frames.proofs.FrontLaws.{header_bytes_in-front, head_length-front, is_head-front}
 use Rattle.bundle_frames.proofs.BundleLaws.{frames_from-first}
 use Rattle.bundle_frames.proofs.PartLaws.{held-rest, length-held}

@@ -13,7 +13,7 @@ use Rattle.bundle_frames.specs.Bundle as bundle
 use Rattle.bundle_frames.specs.Progress.{Progress, meaning_at, rest_of, position, is_partial, is_bad, field_bytes, is_boundary}
 use Rattle.bundle_frames.specs.Finds.{FindsHead, FindsFrame, FindsBad, FindsIn, progress_after, found_then}
 use Rattle.bundle_frames.specs.Unfinished.{IsShort, IsUnfinished}
-use Rattle.bundle_frames.proofs.HeaderLemmas.{some_if, IsHeaderOf-from_header_in}
+use Rattle.bundle_frames.proofs.HeaderLaws.{some_if, IsHeaderOf-from_header_in}
 use Rattle.bundle_frames.proofs.FrontLaws.{header_bytes_in-front, whole-magic, header_in-front, head_verifier-front, head_length-front, is_head-front}
 use Rattle.bundle_frames.proofs.BundleLaws.{frames_from-empty, frames_from-first}
 use Rattle.bundle_frames.proofs.PartLaws.{held-rest, length-held, header_bytes_in-held, header-there, header_in-held, is_head-held, IsHead, IsHead-from_test, frame_in-whole}

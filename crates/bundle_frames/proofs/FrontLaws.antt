@@ -6,7 +6,7 @@ use Rattle.std.specs.List.{slice_index, slice_range, starts_with}
 use Rattle.std.specs.Int.{w16, w32, from_be_bytes}
 use Rattle.std.proofs.lemmas.Bool.{le-leb}
 use Rattle.bundle_frames.specs.Bundle.{prefix, digit_zero, magic_bytes, version_in, says_bits, header_bytes, header_bytes_in, header_numbers, header_in, head_bytes, head_verifier, head_length, is_head}
-use Rattle.bundle_frames.proofs.HeaderLemmas.{header_bytes-bounds}
+use Rattle.bundle_frames.proofs.HeaderLaws.{header_bytes-bounds}
 
 pub slice_range-front : (a b : ℕ) (xs ys : List ℕ) → a ≤ b → b ≤ length xs → slice_range (xs ++ ys) a b ≡ slice_range xs a b
 slice_range-front a b xs ys ordered within =

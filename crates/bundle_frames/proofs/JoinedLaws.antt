@@ -3,7 +3,7 @@ use Rattle.std.proofs.Common.{◌≡◌, ℕ, zero, suc, ◌+◌, ◌≤◌, ◌
 use Rattle.std.proofs.lemmas.List.{length-take-le, drop-append-le}
 use Rattle.lamport_clocks.specs.declared.header.Header.{Header}
 use Rattle.bundle_frames.specs.Bundle.{Bundle, Frame, Frames, with_frame, with_frames, header_bytes, header_in, head_bytes, head_length, frame_in, frame_bytes, frames_behind, frames_from, bundle_of, bundle_behind, bundle_from}
-use Rattle.bundle_frames.proofs.HeaderLemmas.{IsHeaderOf-from_header_in}
+use Rattle.bundle_frames.proofs.HeaderLaws.{IsHeaderOf-from_header_in}
 use Rattle.bundle_frames.proofs.FrontLaws.{header_in-front}
 use Rattle.bundle_frames.proofs.BundleLaws.{frames_from-empty, frames_from-first}
 use Rattle.bundle_frames.proofs.FindsLaws.{IsFrameOf-from_frame_in, frame_in-front}

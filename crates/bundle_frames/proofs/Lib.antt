@@ -1,6 +1,6 @@
 -- What reading a bundle comes to, for callers too, and what this crate's proofs rest on.
 pub mod ReadingLaws
-pub mod HeaderLemmas
+pub mod HeaderLaws
 pub mod FrontLaws
 mod BundleLaws
 mod PartLaws
@@ -8,5 +8,5 @@ pub mod FindsLaws
 mod JoinedLaws
 mod ExtentLemmas
 mod ReaderLemmas
-pub mod TextLemmas
-pub mod SpelledLemmas
+pub mod TextLaws
+pub mod SpelledLaws

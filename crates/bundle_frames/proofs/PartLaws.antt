@@ -8,7 +8,7 @@ use Rattle.lamport_clocks.specs.declared.header.Header.{Header}
 use Rattle.bundle_frames.specs.Bundle.{magic_bytes, version_in, header_bytes_in, header_in, head_bytes, head_verifier, head_length, longest_body, is_head, frame_in, Frame}
 use Rattle.bundle_frames.specs.Finds.{FindsNothing, FindsHead, FindsFrame, FindsBad}
 use Rattle.bundle_frames.specs.Unfinished.{IsShort}
-use Rattle.bundle_frames.proofs.HeaderLemmas.{header_bytes-bounds, IsHeaderOf-from_header_in}
+use Rattle.bundle_frames.proofs.HeaderLaws.{header_bytes-bounds, IsHeaderOf-from_header_in}
 use Rattle.bundle_frames.proofs.FrontLaws.{header_bytes_in-front, header_in-front, head_verifier-front, head_length-front, is_head-front}
 
 abbrev frame : ℕ → List ℕ → Frame

@@ -18,7 +18,7 @@ use Rattle.host_serving.specs.Leading.{first_of, first_end}
 use Rattle.host_serving.specs.Form.{AreOfPhase}
 use Rattle.host_serving.specs.Standing.{asked_by, first_of_round, HasServedUpTo, IsServedUpTo, HaveServedBefore, NoneStopped}
 use Rattle.host_serving.proofs.MoveLemmas.{shows-set}
-use Rattle.host_serving.proofs.BeforeLemmas.{run-rises, run-count, serve-phase, first_plain}
+use Rattle.host_serving.proofs.BeforeLaws.{run-rises, run-count, serve-phase, first_plain}
 
 -- ---- parts of lists
 

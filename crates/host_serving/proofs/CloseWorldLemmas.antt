@@ -24,7 +24,7 @@ use Rattle.host_world.proofs.BehindLaws.{shards_there}
 use Rattle.host_world.proofs.FrontLaws.{length-before_each, clock_with, round_with, length-step}
 use Rattle.host_serving.specs.Leading.{first_of, LeadsBy, LeadsByFront}
 use Rattle.host_serving.specs.Standing.{IsServedOut}
-use Rattle.host_serving.proofs.BeforeLemmas.{rolling_last}
+use Rattle.host_serving.proofs.BeforeLaws.{rolling_last}
 
 -- ---- worlds of one host
 

@@ -17,7 +17,7 @@ use Rattle.host_serving.specs.Leading.{first_of, first_end, LeadsBy, LeadsAs, Le
 use Rattle.host_serving.specs.Form.{AreOfPhase, AreRolling, AreOfRound, until_end, unless_ended, own_moves_from, all_advance, own_moves, moves_of_each, all_move, events_of_shards, events_of_close, AreOfClose, Round, events_of, AreInForm, AreInRounds}
 use Rattle.host_serving.specs.Standing.{first_of_round, IsServedUpTo, NoneStopped}
 use Rattle.host_serving.proofs.LeadingLaws.{first_end-append, run-with, first-with, by-then, by-with}
-use Rattle.host_serving.proofs.BeforeLemmas.{served_before}
+use Rattle.host_serving.proofs.BeforeLaws.{served_before}
 use Rattle.host_serving.proofs.BegunLemmas.{nothing_begun, enabled-front, enabled-behind, first_of-behind}
 use Rattle.host_serving.proofs.RollingForms.{rolling_other}
 

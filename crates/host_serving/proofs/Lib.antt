@@ -6,7 +6,7 @@ mod AdvanceLemmas
 mod MoveLemmas
 mod ClosePlanLemmas
 mod CloseLemmas
-pub mod BeforeLemmas
+pub mod BeforeLaws
 mod CloseWorldLemmas
 mod BegunLemmas
 mod RollingForms

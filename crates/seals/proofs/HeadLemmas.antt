@@ -9,7 +9,7 @@ use Rattle.record_text.specs.Fields.{ranged, field}
 use Rattle.record_text.specs.Reading.{u32_at, u64_at}
 use Rattle.record_text.proofs.FieldLaws.{field_ok}
 use Rattle.bundle_frames.specs.Bundle.{magic_bytes, version_in, header_bytes_in, header_in}
-use Rattle.bundle_frames.proofs.HeaderLemmas.{header_bytes-bounds}
+use Rattle.bundle_frames.proofs.HeaderLaws.{header_bytes-bounds}
 use Rattle.seals.specs.Seal.{header_at}
 use Rattle.seals.proofs.HeaderLaws.{long_enough}
 

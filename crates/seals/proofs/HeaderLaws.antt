@@ -10,11 +10,11 @@ use Rattle.record_text.specs.Fields.{Parsed, field, KeepsOn}
 use Rattle.record_text.proofs.FieldLaws.{AreBytes, AreBytes-take, AreBytes-drop, Begins, field_begins, field_again, wide32}
 use Rattle.record_text.proofs.KeepsOnLaws.{keeps_on-field}
 use Rattle.bundle_frames.specs.Bundle.{magic_bytes, header_bytes, header_bytes_in, header_in, header_text, header_numbers}
-use Rattle.bundle_frames.proofs.HeaderLemmas.{header_bytes-bounds, length-header_text, IsHeaderOf-from_header_in}
+use Rattle.bundle_frames.proofs.HeaderLaws.{header_bytes-bounds, length-header_text, IsHeaderOf-from_header_in}
 use Rattle.bundle_frames.proofs.FrontLaws.{header_bytes_in-front}
 use Rattle.bundle_frames.proofs.FindsLaws.{IsHeader-from_header_in}
-use Rattle.bundle_frames.proofs.SpelledLemmas.{header_spelled}
-use Rattle.bundle_frames.proofs.TextLemmas.{header_in-text}
+use Rattle.bundle_frames.proofs.SpelledLaws.{header_spelled}
+use Rattle.bundle_frames.proofs.TextLaws.{header_in-text}
 use Rattle.seals.specs.Seal.{header_at}
 use Rattle.seals.proofs.CodecLaws.{IsCodec}
 

@@ -23,7 +23,7 @@ use Rattle.host_serving.specs.Leading.{Leads, LeadsAs, first_of}
 use Rattle.host_serving.specs.Form.{AreInRounds}
 use Rattle.host_serving.proofs.LeadingLaws.{leads-with}
 use Rattle.host_serving.proofs.FormLaws.{GoesOn}
-use Rattle.host_serving.proofs.BeforeLemmas.{rolling_last}
+use Rattle.host_serving.proofs.BeforeLaws.{rolling_last}
 use Rattle.fv_outside.specs.declared.failure.Failure.{Failure}
 use Rattle.fv_outside.specs.declared.failure.Failure.TheVariants as failures
 use Rattle.host_rounds.specs.Round.{logs_with}

@@ -1,4 +1,4 @@
-use Rattle.bundle_frames.proofs.TextLemmas.{bundle_of-text}
+use Rattle.bundle_frames.proofs.TextLaws.{bundle_of-text}
 use Rattle.bundle_frames.proofs.laws.bundles_are_read_back.Goals as goal
 
 pub returns : goal.returns

@@ -1,6 +1,6 @@
-use Rattle.bundle_frames.proofs.SpelledLemmas.{frame_spelled}
+use Rattle.bundle_frames.proofs.SpelledLaws.{frame_spelled}
 use Rattle.bundle_frames.proofs.FindsLaws.{IsFrame-from_frame_in}
-use Rattle.bundle_frames.proofs.TextLemmas.{frame_in-text}
+use Rattle.bundle_frames.proofs.TextLaws.{frame_in-text}
 use Rattle.bundle_frames.proofs.laws.frames_are_read_back.Goals as goal
 
 pub returns-clause-read : goal.returns-clause-read

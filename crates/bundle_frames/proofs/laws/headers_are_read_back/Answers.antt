@@ -1,6 +1,6 @@
-use Rattle.bundle_frames.proofs.SpelledLemmas.{header_spelled}
+use Rattle.bundle_frames.proofs.SpelledLaws.{header_spelled}
 use Rattle.bundle_frames.proofs.FindsLaws.{IsHeader-from_header_in}
-use Rattle.bundle_frames.proofs.TextLemmas.{header_in-text}
+use Rattle.bundle_frames.proofs.TextLaws.{header_in-text}
 use Rattle.bundle_frames.proofs.laws.headers_are_read_back.Goals as goal
 
 pub returns-clause-read : goal.returns-clause-read

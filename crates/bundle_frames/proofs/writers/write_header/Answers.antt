@@ -1,7 +1,7 @@
 use Rattle.std.proofs.Common.{List, ℕ, subst}
 use Rattle.std.specs.Prelude.{OnOk, OnErr}
 use Rattle.fv_outside.specs.Written.{Grows, GrowsByFront}
-use Rattle.bundle_frames.proofs.HeaderLemmas.{header_text-front}
+use Rattle.bundle_frames.proofs.HeaderLaws.{header_text-front}
 use Rattle.bundle_frames.proofs.writers.write_header.Goals as goal
 
 pub returns-clause-whole : goal.returns-clause-whole

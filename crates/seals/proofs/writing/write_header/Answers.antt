@@ -1,5 +1,5 @@
 use Rattle.std.proofs.Common.{◌∙◌, ◌++◌, List, ℕ, ap}
-use Rattle.bundle_frames.proofs.HeaderLemmas.{header_text-front}
+use Rattle.bundle_frames.proofs.HeaderLaws.{header_text-front}
 use Rattle.seals.proofs.writing.write_header.Goals as goal
 
 pub returns : goal.returns

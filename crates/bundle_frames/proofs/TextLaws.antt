@@ -8,7 +8,7 @@ use Rattle.std.specs.List.{slice_index, flat_map, AllByRecursion}
 use Rattle.lamport_clocks.specs.declared.header.Header.{Header}
 use Rattle.lamport_clocks.specs.Header.{IsHeader, is_in_range}
 use Rattle.bundle_frames.specs.Bundle.{digit_zero, says_bits, header_bytes, header_bytes_in, header_text, header_numbers, header_in, head_verifier, head_length, longest_body, frame_text, frame_in, Frame, Frames, Bundle, IsFrame, frame_bytes, frames_behind, with_frame, frames_from, bundle_of, bundle_behind, bundle_from, bundle_text}
-use Rattle.bundle_frames.proofs.HeaderLemmas.{length-header_text}
+use Rattle.bundle_frames.proofs.HeaderLaws.{length-header_text}
 use Rattle.bundle_frames.proofs.FrontLaws.{header_in-front}
 use Rattle.bundle_frames.proofs.BundleLaws.{frames_from-empty, frames_from-first}
 use Rattle.bundle_frames.proofs.PartLaws.{frame_in-whole, is_head-from}

@@ -10,7 +10,7 @@ use Rattle.std.specs.Int.{w8, w16, w32, to_be_bytes, from_be_bytes}
 use Rattle.std.specs.List.{starts_with}
 use Rattle.lamport_clocks.specs.declared.header.Header.{Header}
 use Rattle.bundle_frames.specs.Bundle.{Frame, prefix, digit_zero, version_in, says_bits, header_bytes, header_bytes_in, header_text, header_numbers, header_in, head_bytes, head_length, frame_text, frame_in, frame_bytes}
-use Rattle.bundle_frames.proofs.HeaderLemmas.{IsHeaderOf-from_header_in}
+use Rattle.bundle_frames.proofs.HeaderLaws.{IsHeaderOf-from_header_in}
 use Rattle.bundle_frames.proofs.FrontLaws.{whole-magic}
 use Rattle.bundle_frames.proofs.FindsLaws.{IsHeader-from_header_in, IsFrameOf-from_frame_in}
 
