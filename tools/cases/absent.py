@@ -17,15 +17,15 @@ MEETINGS = 10
 KEY = bytes(32).hex()
 
 
-def differ(program, count, seed):
-    """How many scripts are told otherwise with the option than without."""
+def differ(program, option, count, seed, statuses=range(256)):
+    """How many scripts are told otherwise with an option than without, of those that end with such a status with it."""
     chance, found = random.Random(seed), 0
     for number in range(count):
         asked, script = random_run(chance, 1, hot=False, shared=False, version=1 + number % 3)
-        with_option, without = served_by(program, [*asked, "--absent"], script), served_by(program, asked, script)
-        if with_option[1:] != without[1:]:
+        with_option, without = served_by(program, [*asked, option], script), served_by(program, asked, script)
+        if with_option[2] in statuses and with_option[1:] != without[1:]:
             found += 1
-            print(f"script {number}, {' '.join(asked)}: told otherwise with --absent")
+            print(f"script {number}, {' '.join(asked)}: told otherwise with {option}")
     return found
 
 
@@ -38,7 +38,7 @@ def meeting(chance):
 
 def main():
     program, count, seed = os.path.abspath(sys.argv[1]), int(sys.argv[2]), int(sys.argv[3])
-    wrong, chance = differ(program, count, seed), random.Random(seed)
+    wrong, chance = differ(program, "--absent", count, seed), random.Random(seed)
     for _ in range(MEETINGS):
         asked, script = meeting(chance)
         for fault in faults(asked, script, *served_by(program, asked, script)):

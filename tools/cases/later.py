@@ -10,7 +10,6 @@ from tools.slow.known import without
 LATER = [
     *("FVB4", "--clients", "sign"),
     *("--seal", "resume"),
-    "--rolling",
 ]
 MOST_WORKERS = 64
 

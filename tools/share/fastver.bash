@@ -19,7 +19,7 @@ _fastver() {
   case ${COMP_WORDS[1]} in
     check) options='--key --receipts' ;;
     audit) options='--key' ;;
-    run) options='--key --verifiers --shards --hot --logs --first --counter --format --bits --absent --receipts' ;;
+    run) options='--key --verifiers --shards --hot --logs --first --counter --format --bits --absent --rolling --receipts' ;;
     gen) options='--key --seed --ops --verifiers --shards --keys --every --hot --logs --first --counter' ;;
     accept) options='--key' ;;
     follow) options='--key' ;;

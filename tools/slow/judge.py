@@ -2,10 +2,11 @@
 
 usage: tools/run slow.judge SCRIPT VAULT OUTPUT STATUS WORDS..
        tools/run slow.judge --random PROGRAM COUNT TIMES SEED
+       tools/run slow.judge --rolling PROGRAM COUNT TIMES SEED
 
 In the first form WORDS are those of `run` or `gen`, OUTPUT is what was printed and STATUS the exit status. It prints what is
 wrong, a line each, and fails where anything is. The second form has PROGRAM serve COUNT random scripts whose workers meet at
-shards and keys, each TIMES times, and judges each vault.
+shards and keys, each TIMES times, and judges each vault; the third does so in rolling epochs.
 
 In which order the requests were served is read off the vault, as orders.py says. The slow host, which serves them in that order,
 must come to the same vault.
@@ -112,15 +113,15 @@ def served_by(program, asked, script):
         return read(logs) if os.path.exists(logs) else b"", ran.stdout, ran.returncode
 
 
-def judge_random(program, count, times, seed):
+def judge_random(program, count, times, seed, rolling):
     """How many faults the vaults have that a program writes for random scripts. It says which, and how many vaults differ."""
     chance, wrong, vaults = random.Random(seed), 0, 0
     for number in range(count):
-        hot = number % 2 == 1 and "--hot" not in LATER
+        hot = number % 2 == 1 and not rolling and "--hot" not in LATER
         version = 1 + number // 2 % 3
         asked, script = random_run(chance, chance.choice([2, 3, 8]), hot, shared=True, version=version)
         asked += ["--absent"] if number % 5 == 1 and "--absent" not in LATER else []
-        asked += ["--rolling"] if number % 4 == 2 and "--rolling" not in LATER else []
+        asked += ["--rolling"] if rolling else []
         if fastver.fastver(asked, script)[0].status not in (0, 10):
             continue
         seen = set()
@@ -131,14 +132,15 @@ def judge_random(program, count, times, seed):
                 wrong += 1
                 print(f"script {number}, {' '.join(asked)}: {fault}")
         vaults += len(seen)
-    print(f"{count} random scripts, each {times} times: {vaults} vaults, {wrong} faults")
+    how = " in rolling epochs" if rolling else ""
+    print(f"{count} random scripts{how}, each {times} times: {vaults} vaults, {wrong} faults")
     return wrong if vaults else 1
 
 
 def main():
-    if sys.argv[1] == "--random":
+    if sys.argv[1] in ("--random", "--rolling"):
         count, times, seed = map(int, sys.argv[3:])
-        return 1 if judge_random(os.path.abspath(sys.argv[2]), count, times, seed) else 0
+        return 1 if judge_random(os.path.abspath(sys.argv[2]), count, times, seed, sys.argv[1] == "--rolling") else 0
     script, vault, output = map(read, sys.argv[1:4])
     wrong = faults(sys.argv[5:], script, vault, output, int(sys.argv[4]))
     print("".join(f"{fault}\n" for fault in wrong), end="")

@@ -31,5 +31,5 @@ settings_in_range numbers are = record {
   cache = refl;
   shards = record { bits = are.shards.bits; some = are.shards.some; most = are.shards.most; power = are.shards.power };
   hot = some_touches numbers.hot 1000000 are.hot;
-  cold = λ on. cc;
+  cold = are.cold;
 }

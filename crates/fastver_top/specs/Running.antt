@@ -1,5 +1,5 @@
 -- What a run of a script does: what it reads, how it serves it, and what stands in the vault and the sink then.
-use Rattle.std.specs.Prelude.{◌≡◌, ◌==◌, Bool, false, ◌⊎◌, ◌≢◌, ℕ, ◌+◌, List, [], ◌∷◌, ◌++◌, Option, None, Some, IfSome, Result, Ok, Err, IfOk}
+use Rattle.std.specs.Prelude.{◌≡◌, ◌==◌, Bool, ◌⊎◌, ◌≢◌, ℕ, ◌+◌, List, [], ◌∷◌, ◌++◌, Option, None, Some, IfSome, Result, Ok, Err, IfOk}
 use Rattle.std.specs.Io.KnownBytes.{IsAtEnd}
 use Rattle.fv_outside.specs.Consumed.{TookAtMost, TookJust}
 use Rattle.fv_outside.specs.Faults.{Rose}
@@ -110,7 +110,7 @@ settings_for numbers = record {
   shards = numbers.shards;
   hot = numbers.hot;
   absent = numbers.absent;
-  rolling = false;
+  rolling = numbers.rolling;
 }
 
 -- What a call did to a vault: the bytes held and the name, where it tells them, and its count of faults, before and after.

@@ -136,7 +136,7 @@ pub(crate) fn settings_for(numbers: &HostNumbers) -> Settings
         shards: numbers.shards,
         hot: numbers.hot,
         absent: numbers.absent,
-        rolling: false,
+        rolling: numbers.rolling,
     }
 }
 

@@ -1,5 +1,5 @@
 -- Numbers that words spell are in their ranges.
-use Rattle.std.proofs.Common.{◌≡◌, ℕ, ◌-◌, ◌<◌, ◌≤◌, ◌^◌, ◌==◌, ◌⊎◌, inl, inr, Bool, true, false, List, [], ◌∷◌, Option, Some, None, IfSome, if◌then◌else◌, option_and_then, unwrap_or, refl, sym, ◌∙◌, arith, subst}
+use Rattle.std.proofs.Common.{◌≡◌, ℕ, ◌-◌, ◌<◌, ◌≤◌, ◌^◌, ◌==◌, ◌⊎◌, inl, inr, Bool, true, false, List, [], ◌∷◌, Option, Some, None, IfSome, if◌then◌else◌, option_and_then, unwrap_or, refl, sym, ap, ◌∙◌, arith, subst}
 use Rattle.std.specs.Prelude.{codes}
 use Rattle.std.specs.List.{list_any}
 use Rattle.std.specs.Option.{option_map}
@@ -8,7 +8,7 @@ use Rattle.std.proofs.lemmas.Bool.Decides.{nat_tests}
 use Rattle.clap.specs.Walk.{Row, Text, first_of}
 use Rattle.program_words.specs.Found.{flag_in}
 use Rattle.program_words.specs.Numbers.{is_numeral, in_range, number_between, needed_in, optional_in, given}
-use Rattle.program_words.specs.HostWords.{most_verifiers, most_touches, greatest_end, first_version, last_version, is_shard_count, shards_in, are_key_bits, key_bits_or, key_bits_in, numbers_in, IsPower, AreHostNumbers}
+use Rattle.program_words.specs.HostWords.{most_verifiers, most_touches, hot_where, hot_in, greatest_end, first_version, last_version, is_shard_count, shards_in, are_key_bits, key_bits_or, key_bits_in, numbers_in, IsPower, AreHostNumbers}
 use Rattle.program_words.specs.LoadWords.{most_ops, most_keys, usual_keys, most_every, usual_every, load_in, AreLoadNumbers}
 use Rattle.program_words.specs.declared.host_words.HostNumbers.{HostNumbers}
 use Rattle.program_words.specs.declared.load_words.LoadNumbers.{LoadNumbers}
@@ -92,6 +92,20 @@ shards_range found word is =
     let c = counted (is_shard_count m.0) m.0 found m.1.1 in
     subst IsPower c.1 (shards_power m.0 c.0)
 
+-- ---- the threshold of touches
+
+kept_or_none : (rolling : Bool) (given_hot found : Option ℕ) → hot_where rolling given_hot ≡ Some found → (given_hot ≡ found) × (rolling ≡ true → found ≡ None)
+kept_or_none false given_hot found is = ((let same : given_hot ≡ found = cc in same), (λ rolls. absurd (cc)))
+kept_or_none true None found is = ((let same : None ≡ found = cc in same), (λ rolls. let same : None ≡ found = cc in sym same))
+kept_or_none true (Some least) found is = absurd (cc)
+
+hot_range : (rolling : Bool) (found : Option ℕ) (word : Option Text) → hot_in rolling word ≡ Some found
+    → IfSome found (λ number. (1 ≤ number) × (number ≤ most_touches)) × (rolling ≡ true → found ≡ None)
+hot_range rolling found word is =
+    let m = and_then_found (optional_in 1 most_touches word) (hot_where rolling) found is in
+    let kept = kept_or_none rolling m.0 found m.1.1 in
+    (optional_range 1 most_touches found word (m.1.0 ∙ ap Some kept.0), kept.1)
+
 -- ---- the bits of a key
 
 tested_bits : (version bits : ℕ) → are_key_bits version bits ≡ true → (bits ≡ 64) ⊎ ((version ≡ last_version) × (bits ≡ 128))
@@ -119,7 +133,7 @@ pub numbers_range : (rows : List Row) (numbers : HostNumbers) → numbers_in row
 numbers_range rows numbers is =
     let a = then_found (needed_in 1 most_verifiers (first_of (codes "verifiers") rows)) _ numbers is in
     let b = then_found (shards_in (first_of (codes "shards") rows)) _ numbers a.1.1 in
-    let h = then_found (optional_in 1 most_touches (first_of (codes "hot") rows)) _ numbers b.1.1 in
+    let h = then_found (hot_in (flag_in (codes "rolling") rows) (first_of (codes "hot") rows)) _ numbers b.1.1 in
     let f = then_found (optional_in 0 (2 ^ 32 - 1) (first_of (codes "first") rows)) _ numbers h.1.1 in
     let e = then_found (optional_in 1 greatest_end (first_of (codes "counter") rows)) _ numbers f.1.1 in
     let v = then_found (optional_in first_version last_version (first_of (codes "format") rows)) _ numbers e.1.1 in
@@ -133,6 +147,7 @@ numbers_range rows numbers is =
       version = unwrap_or v.0 first_version;
       bits = b'.0;
       absent = flag_in (codes "absent") rows;
+      rolling = flag_in (codes "rolling") rows;
     } in
     let same : made ≡ numbers = (let inside : Some made ≡ Some numbers = b'.1.1 in cc) in
     let verifiers = needed_range 1 most_verifiers a.0 (first_of (codes "verifiers") rows) a.1.0 in
@@ -140,11 +155,13 @@ numbers_range rows numbers is =
     let end = or_range 1 greatest_end greatest_end e.0 (optional_range 1 greatest_end e.0 (first_of (codes "counter") rows) e.1.0) (omega arith) (omega arith) in
     let version = or_range first_version last_version first_version v.0
     (optional_range first_version last_version v.0 (first_of (codes "format") rows) v.1.0) (omega arith) (omega arith) in
+    let hot = hot_range (flag_in (codes "rolling") rows) h.0 (first_of (codes "hot") rows) h.1.0 in
     subst AreHostNumbers same (record {
       some_verifiers = verifiers.0;
       verifiers = verifiers.1;
       shards = shards_range b.0 (first_of (codes "shards") rows) b.1.0;
-      hot = optional_range 1 most_touches h.0 (first_of (codes "hot") rows) h.1.0;
+      hot = hot.0;
+      cold = hot.1;
       first = omega (arith, first.1);
       some_end = end.0;
       end = end.1;
@@ -152,6 +169,33 @@ numbers_range rows numbers is =
       version = version.1;
       bits = bits_range (unwrap_or v.0 first_version) b'.0 (first_of (codes "bits") rows) b'.1.0;
     })
+
+-- those that are found one by one are the numbers of the host
+module _ (rows : List Row) (verifiers shards : ℕ) (hot first counter version : Option ℕ)
+    (some_verifiers : Some verifiers ≡ needed_in 1 most_verifiers (first_of (codes "verifiers") rows))
+    (some_shards : Some shards ≡ shards_in (first_of (codes "shards") rows))
+    (some_hot : Some hot ≡ hot_in (flag_in (codes "rolling") rows) (first_of (codes "hot") rows))
+    (some_first : Some first ≡ optional_in 0 (2 ^ 32 - 1) (first_of (codes "first") rows))
+    (some_counter : Some counter ≡ optional_in 1 greatest_end (first_of (codes "counter") rows))
+    (some_version : Some version ≡ optional_in first_version last_version (first_of (codes "format") rows)) where
+  pub numbers_found : (bits : ℕ) → Some bits ≡ key_bits_in (unwrap_or version first_version) (first_of (codes "bits") rows)
+      → Some (record {
+        verifiers = verifiers;
+        shards = shards;
+        hot = hot;
+        first = unwrap_or first 0;
+        counter = unwrap_or counter greatest_end;
+        version = unwrap_or version first_version;
+        bits = bits;
+        absent = flag_in (codes "absent") rows;
+        rolling = flag_in (codes "rolling") rows;
+      }) ≡ numbers_in rows
+  numbers_found bits some_bits =
+      rw (sym some_verifiers, sym some_shards, sym some_hot, sym some_first, sym some_counter, sym some_version, sym some_bits) refl
+
+  pub no_numbers : None ≡ key_bits_in (unwrap_or version first_version) (first_of (codes "bits") rows) → None ≡ numbers_in rows
+  no_numbers no_bits =
+      rw (sym some_verifiers, sym some_shards, sym some_hot, sym some_first, sym some_counter, sym some_version, sym no_bits) refl
 
 -- ---- the numbers of a load
 

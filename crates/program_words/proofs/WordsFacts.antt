@@ -81,7 +81,7 @@ upgrading_to = refl
 -- ---- run
 
 abbrev numbers : HostNumbers
-numbers = record { verifiers = 1; shards = 2; hot = None; first = 0; counter = 16777215; version = 1; bits = 64; absent = false }
+numbers = record { verifiers = 1; shards = 2; hot = None; first = 0; counter = 16777215; version = 1; bits = 64; absent = false; rolling = false }
 
 abbrev host_words : List (List ℕ)
 host_words = codes "fastver" ∷ codes "run" ∷ codes "--key=00112233445566778899aabbccddeeff" ∷ codes "--verifiers" ∷ codes "1" ∷ codes "--shards" ∷ codes "2" ∷ []
@@ -146,6 +146,28 @@ absent_run : asked_of (host_words ++ codes "--absent" ∷ []) ≡ Some (Run (rec
 unfolding clap_on_literals hex_on_literals number_between
 absent_run = refl
 
+-- with epochs that roll, in each version, where no key becomes hot; and without it one does
+rolling_run : asked_of (host_words ++ codes "--rolling" ∷ []) ≡ Some (Run (record { key = key; numbers = record numbers { rolling = true }; logs = None; receipts = false }))
+unfolding clap_on_literals hex_on_literals number_between
+rolling_run = refl
+
+rolling_run_of_last_version : asked_of (host_words ++ codes "--rolling" ∷ codes "--format=3" ∷ codes "--receipts" ∷ [])
+    ≡ Some (Run (record { key = key; numbers = record numbers { version = 3; rolling = true }; logs = None; receipts = true }))
+unfolding clap_on_literals hex_on_literals number_between
+rolling_run_of_last_version = refl
+
+hot_and_rolling : asked_of (host_words ++ codes "--hot" ∷ codes "2" ∷ codes "--rolling" ∷ []) ≡ None
+unfolding clap_on_literals hex_on_literals number_between
+hot_and_rolling = refl
+
+rolling_and_hot_by_slot : asked_of (host_words ++ codes "--rolling" ∷ codes "--format=2" ∷ codes "--hot=2" ∷ []) ≡ None
+unfolding clap_on_literals hex_on_literals number_between
+rolling_and_hot_by_slot = refl
+
+hot_run : asked_of (host_words ++ codes "--hot=2" ∷ []) ≡ Some (Run (record { key = key; numbers = record numbers { hot = Some 2 }; logs = None; receipts = false }))
+unfolding clap_on_literals hex_on_literals number_between
+hot_run = refl
+
 -- a number past its range, and one that begins with a zero
 no_counter : asked_of (host_words ++ codes "--counter=16777216" ∷ []) ≡ None
 unfolding clap_on_literals hex_on_literals number_between
@@ -188,3 +210,8 @@ no_receipts = refl
 no_absent : asked_of (load_words ++ codes "--seed=0" ∷ codes "--absent" ∷ []) ≡ None
 unfolding clap_on_literals hex_on_literals number_between
 no_absent = refl
+
+-- and its epochs do not roll
+no_rolling : asked_of (load_words ++ codes "--seed=0" ∷ codes "--rolling" ∷ []) ≡ None
+unfolding clap_on_literals hex_on_literals number_between
+no_rolling = refl

@@ -38,12 +38,12 @@ with_host_options app =
     with_option (with_option logged (codes "first") false) (codes "counter") false
 
 -- the command `run`, with the options of a host, one for the version of its bundle and one for the bits of its keys, and its
--- flags for absence and for receipts
+-- flags for absence, for rolling epochs and for receipts
 abbrev pub run_app : App
 run_app =
     let formatted = with_option (with_host_options (command_with_key (codes "run"))) (codes "format") false in
     let sized = with_option formatted (codes "bits") false in
-    with_flag (with_flag sized (codes "absent")) (codes "receipts")
+    with_flag (with_flag (with_flag sized (codes "absent")) (codes "rolling")) (codes "receipts")
 
 -- the command `gen`, with the options of a load and of a host
 abbrev pub gen_app : App

@@ -1,5 +1,5 @@
 -- What the words behind `run` and `gen` say of a host: its numbers.
-use Rattle.std.specs.Prelude.{◌≡◌, ℕ, ◌-◌, ◌^◌, ◌<◌, ◌≤◌, ◌==◌, ◌&&◌, ◌||◌, ◌⊎◌, IfSome, Bool, List, [], ◌∷◌, Option, Some, None, codes, option_and_then, unwrap_or, if◌then◌else◌}
+use Rattle.std.specs.Prelude.{◌≡◌, ℕ, ◌-◌, ◌^◌, ◌<◌, ◌≤◌, ◌==◌, ◌&&◌, ◌||◌, ◌⊎◌, IfSome, Bool, true, false, List, [], ◌∷◌, Option, Some, None, codes, option_and_then, unwrap_or, if◌then◌else◌}
 use Rattle.std.specs.List.{list_any}
 use Rattle.clap.specs.Walk.{Row, Text, first_of}
 use Rattle.program_words.specs.Found.{flag_in}
@@ -13,6 +13,15 @@ most_verifiers = 64
 -- the greatest threshold of touches at which a key becomes hot
 abbrev pub most_touches : ℕ
 most_touches = 1000000
+
+-- the threshold of touches at which a key becomes hot, if one is to be: none where epochs roll
+abbrev pub hot_where : Bool → Option ℕ → Option (Option ℕ)
+hot_where false hot = Some hot
+hot_where true None = Some None
+hot_where true (Some least) = None
+
+abbrev pub hot_in : Bool → Option Text → Option (Option ℕ)
+hot_in rolling word = option_and_then (hot_where rolling) (optional_in 1 most_touches word)
 
 -- the greatest value at which the counters of an epoch may end, which is taken where none is given
 abbrev pub greatest_end : ℕ
@@ -50,7 +59,7 @@ abbrev pub numbers_in : List Row → Option HostNumbers
 numbers_in rows =
     given (needed_in 1 most_verifiers (first_of (codes "verifiers") rows)) (λ verifiers.
     given (shards_in (first_of (codes "shards") rows)) (λ shards.
-    given (optional_in 1 most_touches (first_of (codes "hot") rows)) (λ hot.
+    given (hot_in (flag_in (codes "rolling") rows) (first_of (codes "hot") rows)) (λ hot.
     given (optional_in 0 (2 ^ 32 - 1) (first_of (codes "first") rows)) (λ first.
     given (optional_in 1 greatest_end (first_of (codes "counter") rows)) (λ counter.
     given (optional_in first_version last_version (first_of (codes "format") rows)) (λ version.
@@ -64,6 +73,7 @@ numbers_in rows =
       version = unwrap_or version first_version;
       bits = bits;
       absent = flag_in (codes "absent") rows;
+      rolling = flag_in (codes "rolling") rows;
     }))))))))
 
 -- a power of two from 2 to 1,024
@@ -79,6 +89,7 @@ pub record AreHostNumbers (numbers : HostNumbers) : Type 0 where
   pub verifiers : numbers.verifiers ≤ most_verifiers
   pub shards : IsPower numbers.shards
   pub hot : IfSome numbers.hot (λ least. (1 ≤ least) × (least ≤ most_touches))
+  pub cold : numbers.rolling ≡ true → numbers.hot ≡ None
   pub first : numbers.first < 2 ^ 32
   pub some_end : 1 ≤ numbers.counter
   pub end : numbers.counter ≤ greatest_end

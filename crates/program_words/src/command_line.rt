@@ -42,7 +42,7 @@ fn check_command<'a>(alloc: Global) -> Result<Command<'a>, AllocError>
 }
 
 // The command `run`, with the options of a host, one for the version of its bundle and one for the bits of its keys, and
-// its flags for absence and for receipts.
+// its flags for absence, for rolling epochs and for receipts.
 fn run_command<'a>(alloc: Global) -> Result<Command<'a>, AllocError>
     ensures app { IfOk result (λ command. app_of command ≡ run_app) }
     ensures local { IfOk result (λ command. (fields_of command).has_globals ≡ false) }
@@ -52,6 +52,7 @@ fn run_command<'a>(alloc: Global) -> Result<Command<'a>, AllocError>
     let run = with_option(alloc, run, "format", false)?;
     let run = with_option(alloc, run, "bits", false)?;
     let run = with_flag(alloc, run, "absent")?;
+    let run = with_flag(alloc, run, "rolling")?;
     with_flag(alloc, run, "receipts")
 }
 

@@ -1,7 +1,7 @@
 //! What the words behind `run` and `gen` say of a host: its numbers, and where its logs go.
 ghost use Rattle.std.specs.Prelude.{◌≡◌, ◌==◌, Some, None, IfOk, codes, true};
 ghost use Rattle.clap.specs.Words.{first_of, found_of, rows_of};
-ghost use Rattle.program_words.specs.HostWords.{are_key_bits, is_shard_count, key_bits_in, shards_in, numbers_in};
+ghost use Rattle.program_words.specs.HostWords.{are_key_bits, hot_in, is_shard_count, key_bits_in, shards_in, numbers_in};
 
 use crate::found::{flag_of, word_of};
 use crate::key::Key;
@@ -36,7 +36,8 @@ pub struct HostNumbers {
     pub verifiers: u16,
     /// How many shards it has.
     pub shards: u32,
-    /// How often a key is touched in an epoch, at least, so that it becomes hot. Without it no key does.
+    /// How often a key is touched in an epoch, at least, so that it becomes hot. Without it no key does, and where epochs roll
+    /// there is none.
     pub hot: Option<u32>,
     /// The first epoch.
     pub first: u32,
@@ -48,6 +49,8 @@ pub struct HostNumbers {
     pub bits: u8,
     /// Whether a get of a key that was never put makes no record of it.
     pub absent: bool,
+    /// Whether its epochs roll.
+    pub rolling: bool,
 }
 
 /// A path, as a word gives it. Contracts see its bytes.
@@ -100,7 +103,8 @@ pub(crate) fn numbers_of(found: &ArgMatches<'_>) -> Option<HostNumbers>
 {
     let verifiers = needed(found, "verifiers", 1, MOST_VERIFIERS)?;
     let shards = shards_of(found)?;
-    let hot = optional(found, "hot", 1, MOST_TOUCHES)?;
+    let rolling = flag_of(found, "rolling");
+    let hot = hot_of(found, rolling)?;
     let first = optional(found, "first", 0, u32::MAX)?;
     let counter = optional(found, "counter", 1, GREATEST_END)?;
     let version = optional(found, "format", FIRST_VERSION, LAST_VERSION)?;
@@ -115,6 +119,7 @@ pub(crate) fn numbers_of(found: &ArgMatches<'_>) -> Option<HostNumbers>
         version: version as u8,
         bits,
         absent: flag_of(found, "absent"),
+        rolling,
     })
 }
 
@@ -143,6 +148,16 @@ fn is_shard_count(shards: u32) -> bool
     ensures value { result ≡ is_shard_count shards }
 {
     matches!(shards, 2 | 4 | 8 | 16 | 32 | 64 | 128 | 256 | 512 | 1024)
+}
+
+// The threshold of touches at which a key becomes hot, if one is to be: none where epochs roll.
+fn hot_of(found: &ArgMatches<'_>, rolling: bool) -> Option<Option<u32>>
+    ensures value { result ≡ hot_in rolling (first_of (codes "hot") (rows_of (found_of found.now))) }
+{
+    match optional(found, "hot", 1, MOST_TOUCHES)? {
+        Some(_) if rolling => None,
+        hot => Some(hot),
+    }
 }
 
 // How many bits a key is to have in this version of the format.

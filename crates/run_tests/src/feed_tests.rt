@@ -1,7 +1,9 @@
 //! Verifiers that are fed while their workers serve.
 use crate::counting_gate::CountingGate;
 use crate::holding_gate::FeedingGate;
-use crate::serving::{assert_all_answered, assert_ended, contending, host_line, program_at, same};
+use crate::serving::{
+    apart, assert_all_answered, assert_ended, contending, host_line, program_at, same,
+};
 use fastver_top::Status;
 use std::alloc::Global;
 use std::process::Abort;
@@ -107,28 +109,6 @@ fn a_verifier_goes_on_with_its_count_in_the_next_phase(rt: HostRuntime) {
     objects.assert_wrote(&rt, "run", 0, report.as_bytes());
 }
 
-// A worker puts and gets a key of its own.
-fn add_asks(rt: &impl Abort, alloc: Global, script: &mut String, worker: u64, phase: u64) {
-    let key = worker << 58;
-    let asks = format!(in alloc; "{worker} put {key} {phase:02x}\n{worker} get {key}\n").expect(
-        rt, "memory",
-    );
-    script.push_str(&asks).expect(rt, "memory");
-}
-
-// Each of 64 workers does so in each of two phases.
-fn apart(rt: &impl Abort, alloc: Global) -> String {
-    let mut script = String::new(alloc);
-    for worker in 0..64 {
-        add_asks(rt, alloc, &mut script, worker, 0);
-    }
-    script.push_str("epoch\n").expect(rt, "memory");
-    for worker in 0..64 {
-        add_asks(rt, alloc, &mut script, worker, 1);
-    }
-    script
-}
-
 // A script of 256 requests of 64 workers in two phases, served fifty times: each time all is certified, and a check of the vault
 // writes the same lines.
 fn assert_served_fifty_times<R: Threads + Wait + Sync + Abort>(
@@ -151,6 +131,6 @@ fn all_of_64_workers_and_verifiers_meet_at_one_key(rt: HostRuntime) {
 
 #[test]
 fn all_of_64_workers_and_verifiers_are_apart(rt: HostRuntime) {
-    let script = apart(&rt, rt.alloc());
+    let script = apart(&rt, rt.alloc(), 2);
     assert_served_fifty_times(&rt, rt.alloc(), "64 --shards 64", &script);
 }

@@ -3,8 +3,9 @@
 //!
 //! What each script must come to was worked out by hand, or comes from the slow program. `script_tests.rt` has scripts that
 //! are served, scripts that are bad, and clocks that end; `worker_tests.rt` scripts of many workers, and `hot_tests.rt` such
-//! with hot keys; `format_tests.rt` runs that write bundles of versions 2 and 3; `absence_tests.rt` runs that make no records of keys that were never put; `feed_tests.rt` verifiers that are fed beside their workers; `load_tests.rt` loads that are made of a seed;
-//! `fault_tests.rt` has objects that fail, one call after the other,
+//! with hot keys; `rolling_tests.rt` such in rolling epochs; `format_tests.rt` runs that write bundles of versions 2 and 3;
+//! `absence_tests.rt` runs that make no records of keys that were never put; `feed_tests.rt` verifiers that are fed beside their
+//! workers; `load_tests.rt` loads that are made of a seed; `fault_tests.rt` has objects that fail, one call after the other,
 //! and objects that never do, of which `sure_objects.rt` proves that no fault comes of them; `round_fault_tests.rt` objects that
 //! fail in a later round or in a load; `run_word_tests.rt` has words that are refused. Begin with `serving.rt`, which runs a
 //! script.
@@ -41,6 +42,8 @@ mod receipt_fault_tests;
 mod receipt_tests;
 #[cfg(test)]
 mod receipt_word_tests;
+#[cfg(test)]
+mod rolling_tests;
 #[cfg(test)]
 mod round_fault_tests;
 #[cfg(test)]

@@ -20,6 +20,9 @@ fastver run --key 00000000000000000000000000000000 --verifiers 1 --shards 2 --lo
 fastver run --key 00000000000000000000000000000000 --verifiers 1 --shards 2 --logs x --bits 64
 fastver run --key 00000000000000000000000000000000 --verifiers 1 --shards 2 --logs x --format 2 --bits 128
 fastver run --key 00000000000000000000000000000000 --verifiers 1 --shards 2 --logs x --format 3 --bits 65
+fastver run --key 00000000000000000000000000000000 --verifiers 1 --shards 2 --logs x --rolling --hot 2
+fastver run --key 00000000000000000000000000000000 --verifiers 1 --shards 2 --logs x --hot 1 --rolling --format 3
+fastver gen --key 00000000000000000000000000000000 --verifiers 1 --shards 2 --logs x --seed 0 --ops 1 --rolling
 ";
 
 // The words of a line are refused.
@@ -33,7 +36,7 @@ fn assert_refused<R: Threads + Wait + Sync + Abort>(rt: &R, alloc: Global, line:
 
 #[test]
 fn words_are_refused_before_anything_is_read(rt: HostRuntime) {
-    same(&rt, "lines", 0, &REFUSED.lines().count(), &12);
+    same(&rt, "lines", 0, &REFUSED.lines().count(), &15);
     for line in REFUSED.lines() {
         assert_refused(&rt, rt.alloc(), line);
     }

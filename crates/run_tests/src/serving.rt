@@ -17,7 +17,7 @@ const RUN_ALONE: &str =
     "fastver run --key 00000000000000000000000000000000 --verifiers 1 --shards ";
 
 // The bytes that a sink and a vault have room for.
-const ROOM: usize = 200_000;
+const ROOM: usize = 1_000_000;
 
 /// A put and a get of one key.
 pub(crate) const SCRIPT: &str = "0 put 5 6162\n0 get 5\n";
@@ -272,6 +272,34 @@ pub(crate) fn contending(
     script
 }
 
+// A worker puts and gets a key of its own.
+fn add_asks(rt: &impl Abort, alloc: Global, script: &mut String, worker: u64, phase: u8) {
+    let key = worker << 58;
+    let asks = format!(in alloc; "{worker} put {key} {phase:02x}\n{worker} get {key}\n").expect(
+        rt, "memory",
+    );
+    script.push_str(&asks).expect(rt, "memory");
+}
+
+/// Each of 64 workers does so in each of so many phases.
+pub(crate) fn apart(rt: &impl Abort, alloc: Global, phases: u8) -> String {
+    let mut script = String::new(alloc);
+    for phase in 0..phases {
+        if phase != 0 {
+            script.push_str("epoch\n").expect(rt, "memory");
+        }
+        add_asks_of_all(rt, alloc, &mut script, phase);
+    }
+    script
+}
+
+// Each of them does so in one.
+fn add_asks_of_all(rt: &impl Abort, alloc: Global, script: &mut String, phase: u8) {
+    for worker in 0..64 {
+        add_asks(rt, alloc, script, worker, phase);
+    }
+}
+
 // What a worker asks for: every third one puts its number there.
 fn ask_for(rt: &impl Abort, alloc: Global, worker: u16, key: u64, round: usize) -> String {
     if (usize::from(worker) % 3 + round % 3) % 3 == 0 {
@@ -323,6 +351,19 @@ pub(crate) fn assert_all_answered<R: Threads + Wait + Sync + Abort>(
     count: usize,
     turn: usize,
 ) {
+    assert_phases_answered(rt, alloc, line, script, 2, count, turn);
+}
+
+/// So it is of a script in so many phases.
+pub(crate) fn assert_phases_answered<R: Threads + Wait + Sync + Abort>(
+    rt: &R,
+    alloc: Global,
+    line: &str,
+    script: &str,
+    phases: u64,
+    count: usize,
+    turn: usize,
+) {
     let (objects, status) = served(rt, alloc, line, script, 100_000);
     same(
         rt,
@@ -331,13 +372,13 @@ pub(crate) fn assert_all_answered<R: Threads + Wait + Sync + Abort>(
         &answers_in(objects.out.bytes()),
         &count,
     );
-    assert_checked(rt, alloc, &objects, status, 2, turn);
+    assert_checked(rt, alloc, &objects, status, phases, turn);
 }
 
-// Lines of answers, of which there is one for each request.
+// Lines of answers, of which there is one for each request: they begin with a digit.
 fn answers_in(report: &[u8]) -> usize {
     report
         .split(|byte| *byte == b'\n')
-        .filter(|line| line.starts_with(b"0.") || line.starts_with(b"1."))
+        .filter(|line| line.first().is_some_and(|byte| byte.is_ascii_digit()))
         .count()
 }

@@ -167,8 +167,8 @@ fn is_some_order(written: &[u8]) -> bool {
     ORDERS.iter().any(|order| order.as_bytes() == written)
 }
 
-// The two workers are served.
-fn assert_in_some_order<R: Threads + Wait + Sync + Abort>(
+/// The two workers are served.
+pub(crate) fn assert_in_some_order<R: Threads + Wait + Sync + Abort>(
     rt: &R,
     alloc: Global,
     line: &str,
@@ -197,27 +197,27 @@ epoch 0 certified 3
 done 1
 ";
 
-// Worker 0 is held at its first request until worker 1 is at its second: whoever serves workers one after the other fails. The
-// workers pass as numbers 0 and 1, and their verifiers as 2 and 3.
-#[test]
-fn workers_serve_beside_each_other(rt: HostRuntime) {
-    let line = host_line(&rt, rt.alloc(), "2 --shards 2");
+/// Worker 0 is held at its first request until worker 1 is at its second: whoever serves workers one after the other fails. The
+/// workers pass as numbers 0 and 1, and their verifiers as 2 and 3.
+pub(crate) fn assert_beside_each_other<R: Threads + Wait + Sync + Abort>(
+    rt: &R,
+    alloc: Global,
+    line: &str,
+) {
     let script = "0 put 5 61\n1 put 9223372036854775808 62\n1 get 9223372036854775808\n";
     let gate = HoldingGate::new();
     let none: (&[u64], &[u64], &[u64]) = (&[], &[], &[]);
-    let (objects, status) = program_at(
-        &rt,
-        rt.alloc(),
-        &line,
-        script.as_bytes(),
-        1000,
-        none,
-        &gate,
-    );
-    same(&rt, "held", 0, &gate.has_held(), &true);
-    same(&rt, "numbers", 0, &gate.passed(), &0b1111);
-    assert_ended(&rt, "run", 0, &status, &Status::Done { epochs: 1 });
-    objects.assert_wrote(&rt, "run", 0, BESIDE.as_bytes());
+    let (objects, status) = program_at(rt, alloc, line, script.as_bytes(), 1000, none, &gate);
+    same(rt, "held", 0, &gate.has_held(), &true);
+    same(rt, "numbers", 0, &gate.passed(), &0b1111);
+    assert_ended(rt, "run", 0, &status, &Status::Done { epochs: 1 });
+    objects.assert_wrote(rt, "run", 0, BESIDE.as_bytes());
+}
+
+#[test]
+fn workers_serve_beside_each_other(rt: HostRuntime) {
+    let line = host_line(&rt, rt.alloc(), "2 --shards 2");
+    assert_beside_each_other(&rt, rt.alloc(), &line);
 }
 
 #[test]

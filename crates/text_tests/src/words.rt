@@ -175,6 +175,13 @@ fastver run --key 00112233445566778899aabbccddeeff --verifiers 1 --shards 2 --lo
 fastver run --key 00112233445566778899aabbccddeeff --verifiers 1 --shards 2 --absent --absent | absence twice
 fastver run --key 00112233445566778899aabbccddeeff --verifiers 1 --shards 2 --absent=1 | absence with a value
 fastver check --key 00112233445566778899aabbccddeeff --absent | absence for a check
+fastver run --key 00112233445566778899aabbccddeeff --verifiers 1 --shards 2 --rolling --rolling | rolling epochs twice
+fastver run --key 00112233445566778899aabbccddeeff --verifiers 1 --shards 2 --rolling=1 | rolling epochs with a value
+fastver run --key 00112233445566778899aabbccddeeff --verifiers 1 --shards 2 --rolling --hot 1 | rolling epochs and hot keys
+fastver run --key 00112233445566778899aabbccddeeff --verifiers 1 --shards 2 --hot=1000000 --format 2 --rolling | the same by slot
+fastver run --key 00112233445566778899aabbccddeeff --hot 1 --verifiers 64 --shards 1024 --format 3 --bits 128 --rolling | the same with long keys
+fastver check --key 00112233445566778899aabbccddeeff --rolling | rolling epochs for a check
+fastver gen --key 00112233445566778899aabbccddeeff --seed 0 --ops 0 --verifiers 1 --shards 2 --rolling | rolling epochs for a load
 fastver run --key 00112233445566778899aabbccddeeff --verifiers 1 --shards 2 --logs | no path
 fastver run --key 00112233445566778899aabbccddeeff --verifiers 1 --shards 2 more | a word more for a run
 fastver run --key 00112233445566778899aabbccddeeff --verifiers 1 --shards 2 --seed 0 | a seed for a run
@@ -198,7 +205,7 @@ fn words_that_are_refused(rt: HostRuntime) {
 }
 
 // What stands behind `fastver run` and its key, the verifiers, shards, first epoch, last counter, version and bits of a key that it
-// asks for, and whether it says absent, its threshold, and the path of its logs.
+// asks for, and whether it says absent and rolling, its threshold, and the path of its logs.
 const RUNNING: &str = "
 --verifiers 1 --shards 2 | 1 2 0 16777215 1 64 | none | none
 --verifiers 1 --shards 1024 --first 4294967295 --counter 1 | 1 1024 4294967295 1 1 64 | none | none
@@ -214,6 +221,9 @@ const RUNNING: &str = "
 --bits=64 --verifiers 1 --shards 2 --format 3 | 1 2 0 16777215 3 64 | none | none
 --verifiers 1 --bits 128 --shards 2 --format=3 | 1 2 0 16777215 3 128 | none | none
 --format 3 --bits 128 --hot 1 --verifiers 64 --shards 1024 --first 7 --counter 4 --absent --logs x | 64 1024 7 4 3 128 absent | 1 | x
+--rolling --verifiers 1 --shards 2 | 1 2 0 16777215 1 64 rolling | none | none
+--verifiers 2 --shards 2 --format 2 --rolling --logs a/b | 2 2 0 16777215 2 64 rolling | none | a/b
+--absent --format=3 --rolling --bits=128 --receipts --verifiers 64 --shards 1024 | 64 1024 0 16777215 3 128 absent rolling | none | none
 ";
 
 // The number at this place of a text, counted from 0.
@@ -224,6 +234,11 @@ where
     let word = text.split_whitespace().nth(place);
     let word = word.expect(rt, "a text with too few numbers");
     word.parse().expect(rt, "a number")
+}
+
+// Whether a text has this word.
+fn has_word(text: &str, word: &str) -> bool {
+    text.split_whitespace().any(|it| it == word)
 }
 
 // The threshold of a row, if it has one.
@@ -244,7 +259,8 @@ fn numbers_in(rt: &impl Abort, row: &str) -> HostNumbers {
         counter: number_in(rt, text, 3),
         version: number_in(rt, text, 4),
         bits: number_in(rt, text, 5),
-        absent: text.ends_with("absent"),
+        absent: has_word(text, "absent"),
+        rolling: has_word(text, "rolling"),
         hot: hot_in(rt, row),
     }
 }
