@@ -1,6 +1,6 @@
 -- A bundle of which nothing is bad goes on with what follows.
 use Rattle.std.proofs.Common.{◌≡◌, ℕ, zero, suc, ◌+◌, ◌≤◌, ◌<◌, List, [], ◌∷◌, ◌++◌, length, drop, Option, Some, None, sym, ap, ◌∙◌, refl, arith, length-append, length-drop}
-use Rattle.std.proofs.lemmas.List.{append_assoc, length-take-le, drop-append-le}
+use Rattle.std.proofs.lemmas.List.{length-take-le, drop-append-le}
 use Rattle.lamport_clocks.specs.declared.header.Header.{Header}
 use Rattle.bundle_frames.specs.Bundle.{Bundle, Frame, Frames, with_frame, with_frames, header_bytes, header_in, head_bytes, head_length, frame_in, frame_bytes, frames_behind, frames_from, bundle_of, bundle_behind, bundle_from}
 use Rattle.bundle_frames.proofs.HeaderLemmas.{IsHeaderOf-from_header_in}

@@ -1,9 +1,13 @@
 //! The sum of a multiset of elements, lane by lane.
-ghost use Rattle.std.specs.Prelude.{◌≡◌, ◌+◌, ◌-◌, ◌*◌, ◌^◌, ◌<◌, ◌≤◌, EachIndex, slice_index};
+ghost use Rattle.std.specs.Prelude.{◌≡◌, ◌+◌, ◌-◌, ◌*◌, ◌^◌, ◌<◌, ◌≤◌, ◌↔◌, nat_le, EachIndex, slice_index, IsTrue};
+ghost use Rattle.std.specs.List.{list_all};
 ghost use Rattle.multiset_sum.specs.Tally.{IsTally};
-ghost use Rattle.multiset_sum.specs.Sum.{zero_sum, sum_with, with_lanes, joined};
+ghost use Rattle.multiset_sum.specs.Sum.{zero_sum, sum_with, is_tally, with_lanes, joined};
 
 use std::marker::Model;
+
+// No sum has so many elements.
+const COUNT_END: u64 = 1 << 31;
 
 /// The sum of a multiset of elements: of each of the eight lanes the exact sum, and the number of elements.
 ///
@@ -36,6 +40,14 @@ impl Sum {
             lanes: [0; 8],
             count: 0,
         }
+    }
+
+    /// Whether so many elements may have lanes with these sums.
+    pub fn is_sum(lanes: &[u64; 8], count: u64) -> bool
+        ensures value { result ≡ is_tally lanes.now count }
+        ensures tally { IsTrue result ↔ IsTally (sum_with lanes.now count) }
+    {
+        count < COUNT_END && are_at_most(lanes, count * u64::from(u32::MAX))
     }
 
     /// The sum of so many elements whose lanes have these sums.
@@ -102,4 +114,12 @@ impl Sum {
             count: self.count + other.count,
         }
     }
+}
+
+// Whether none of the lanes is more than this.
+fn are_at_most(lanes: &[u64; 8], most: u64) -> bool
+    ensures value { result ≡ list_all (λ lane. nat_le lane most) lanes.now }
+    ensures each { IsTrue result ↔ EachIndex lanes.now (λ lane. slice_index lanes.now lane ≤ most) }
+{
+    lanes.iter().all(|lane| *lane <= most)
 }

@@ -1,7 +1,7 @@
 -- Entries that are listed: by the ranks of an index, and by slots.
-use Rattle.std.proofs.Common.{◌≡◌, ◌≢◌, ℕ, zero, suc, ◌+◌, ◌<◌, ◌≤◌, ◌⊎◌, inl, inr, Bool, true, false, List, [], ◌∷◌, ◌++◌, length, take, drop, map, get_or, set, replicate, Option, Some, None, IsSome, IsNone, if◌then◌else◌, append_assoc, refl, sym, ◌∙◌, ap, subst, arith}
+use Rattle.std.proofs.Common.{◌≡◌, ◌≢◌, ℕ, zero, suc, ◌+◌, ◌<◌, ◌≤◌, ◌⊎◌, inl, inr, Bool, true, false, List, [], ◌∷◌, ◌++◌, length, take, drop, get_or, Option, Some, None, IsSome, if◌then◌else◌, append_assoc, refl, sym, ◌∙◌, ap, subst, arith}
 use Rattle.std.specs.Option.{option_or}
-use Rattle.std.proofs.lemmas.Bool.{false≢true, cases_eq, cases_lt}
+use Rattle.std.proofs.lemmas.Bool.{false≢true, cases_eq}
 use Rattle.std.proofs.lemmas.List.{length_push, map-append}
 use Rattle.std.proofs.Math.Seq.{set-append_seam}
 use Rattle.tree_keys.specs.Path.{same_path}
@@ -12,7 +12,7 @@ use Rattle.path_index.specs.Index.{mark_at, count_of}
 use Rattle.verifier_cache.specs.declared.entry.Entry.{Entry}
 use Rattle.verifier_cache.specs.declared.listed.ListedEntry.{ListedEntry}
 use Rattle.verifier_cache.specs.declared.table.Stored.{Stored}
-use Rattle.verifier_cache.specs.Cache.{entry_of, AreDistinct}
+use Rattle.verifier_cache.specs.Cache.{entry_of}
 use Rattle.verifier_cache.specs.Slots.{Slots, with_slot, empty_slots}
 use Rattle.verifier_cache.specs.Alike.{AreAlike, Rises}
 use Rattle.verifier_cache.specs.Listed.{entries_in, listed_from, with_listed, SlotsRise}
