@@ -4,7 +4,7 @@ use Rattle.std.specs.Prelude.{IsTrue}
 use Rattle.std.specs.Int.{w32, w64, to_be_bytes}
 use Rattle.std.specs.List.{flat_map}
 use Rattle.std.proofs.lemmas.Bool.{leb-true, le-leb, eqb-true}
-use Rattle.std.proofs.lemmas.List.{take_at}
+use Rattle.std.proofs.lemmas.List.{take_at, take-append-le}
 use Rattle.lamport_clocks.specs.declared.header.Header.{Header}
 use Rattle.lamport_clocks.specs.Header.{IsHeader}
 use Rattle.record_hash.specs.Functions.{DigestFunctions}
@@ -21,7 +21,7 @@ use Rattle.seals.specs.Run.{run_at, run_text}
 use Rattle.seals.specs.Seal.{magic_number, most_taken, HeadFields, head_at, runs_at, seal_with, runs_behind, untagged_at, tag_bytes, seal_at, seal_text, AreGoodRuns, IsGoodSeal}
 use Rattle.seals.specs.declared.state.SealedState.{SealedState}
 use Rattle.seals.specs.Kept.{seal_in}
-use Rattle.seals.specs.Answer.{tagged_front, IsWhole}
+use Rattle.seals.specs.Answer.{tagged_front, IsWhole, IsUntagged}
 use Rattle.seals.proofs.CodecLaws.{IsCodec, codec-then, IsPicked, codec-pick, codec-tested, keeps_on-both, keeps_on-pick}
 use Rattle.seals.proofs.FieldCodecs.{codec-u32, codec-u64, codec-bytes, keeps_on-u64}
 use Rattle.seals.proofs.HeaderLaws.{IsGoodHeader, codec-header, keeps_on-header}
@@ -207,3 +207,28 @@ whole_tagged functions bytes state count fits whole =
     let tag : whole.tag ≡ functions.tag (seal_text (seal_in state)) = sym whole.tagged ∙ ap functions.tag front in
     let len : length (seal_text (seal_in state) ++ whole.tag) ≡ count = omega (arith, ap length spelled.0, length-append (seal_text (seal_in state) ++ whole.tag) whole.rest, whole.counted) in
     (ap (take count) spelled.0 ∙ (take_at (seal_text (seal_in state) ++ whole.tag) whole.rest count len ∙ ap (λ (t : List ℕ). seal_text (seal_in state) ++ t) tag), spelled.1)
+
+-- ---- more bytes behind a seal
+
+tagged_front-more : (bytes more rest : List ℕ) → tagged_front (bytes ++ more) (rest ++ more) ≡ tagged_front bytes rest
+tagged_front-more bytes more rest =
+    let count : length (bytes ++ more) - (length (rest ++ more) + tag_bytes) ≡ length bytes - (length rest + tag_bytes) = omega (arith, length-append bytes more, length-append rest more) in
+    ap (λ (n : ℕ). take n (bytes ++ more)) count ∙ take-append-le (length bytes - (length rest + tag_bytes)) bytes more (omega arith)
+
+pub whole_more : (functions : DigestFunctions) (bytes more : List ℕ) (state : SealedState) (count : ℕ) → IsWhole functions bytes state count → IsWhole functions (bytes ++ more) state count
+whole_more functions bytes more state count whole = record {
+  tag = whole.tag;
+  rest = whole.rest ++ more;
+  read = keeps_on-seal.found bytes more (seal_in state, whole.tag) whole.rest whole.read;
+  tagged = ap functions.tag (tagged_front-more bytes more whole.rest) ∙ whole.tagged;
+  counted = omega (arith, whole.counted, length-append whole.rest more, length-append bytes more);
+}
+
+pub untagged_more : (functions : DigestFunctions) (bytes more : List ℕ) → IsUntagged functions bytes → IsUntagged functions (bytes ++ more)
+untagged_more functions bytes more untagged = record {
+  seal = untagged.seal;
+  tag = untagged.tag;
+  rest = untagged.rest ++ more;
+  read = keeps_on-seal.found bytes more (untagged.seal, untagged.tag) untagged.rest untagged.read;
+  other = λ is. untagged.other (ap functions.tag (sym (tagged_front-more bytes more untagged.rest)) ∙ is);
+}

@@ -12,7 +12,7 @@ use verifier_cache::ListedEntry;
 
 /// What the lists of a verifier's text are tested by.
 #[derive(Clone, Copy, Debug, PartialEq, Eq)]
-pub struct Bounds {
+pub(crate) struct Bounds {
     pub header: Header,
     /// How many epochs are certified.
     pub certified: u32,
@@ -60,21 +60,21 @@ fn is_no_later(stamp: Stamp, other: Stamp) -> bool
 
 impl Bounds {
     /// The most elements of a sum of the clock's epoch.
-    pub fn most_own(&self) -> u64
+    pub(crate) fn most_own(&self) -> u64
         ensures value { result ≡ most_own self.now }
     {
         u64::from(self.at.counter)
     }
 
     /// The most elements of a sum of the epoch before.
-    pub fn most_before(&self) -> u64
+    pub(crate) fn most_before(&self) -> u64
         ensures value { result ≡ most_before self.now }
     {
         u64::from(self.header.end) + u64::from(self.at.counter)
     }
 
     /// The most elements of a sum of a sealed epoch.
-    pub fn most_sealed(&self) -> u64
+    pub(crate) fn most_sealed(&self) -> u64
         ensures value { result ≡ most_sealed self.now }
     {
         2 * u64::from(self.header.end)
@@ -89,14 +89,14 @@ impl Bounds {
     }
 
     /// How many epochs are sealed and not certified.
-    pub fn sealed_count(&self) -> u64
+    pub(crate) fn sealed_count(&self) -> u64
         ensures value { result ≡ sealed_count self.now }
     {
         u64::from(self.at.epoch).saturating_sub(self.first_open() + 1)
     }
 
     /// Whether an entry may stand behind another, or be the first.
-    pub fn entry_follows(&self, before: Option<&ListedEntry>, one: &ListedEntry) -> bool
+    pub(crate) fn entry_follows(&self, before: Option<&ListedEntry>, one: &ListedEntry) -> bool
         ensures value { result ≡ entry_follows self.now (option_copied before.entry) one.now }
     {
         if self.header.names_paths() {
@@ -107,7 +107,7 @@ impl Bounds {
     }
 
     /// Whether a part may stand behind another, or be the first.
-    pub fn part_follows(&self, before: Option<&Part>, part: &Part) -> bool
+    pub(crate) fn part_follows(&self, before: Option<&Part>, part: &Part) -> bool
         ensures value { result ≡ part_follows self.now (option_copied before.entry) part.now }
     {
         match before {
@@ -127,7 +127,7 @@ impl Bounds {
     }
 
     /// Whether an operation may stand behind another, or be the first.
-    pub fn operation_follows(&self, before: Option<&Operation>, one: &Operation) -> bool
+    pub(crate) fn operation_follows(&self, before: Option<&Operation>, one: &Operation) -> bool
         ensures value { result ≡ operation_follows self.now (option_copied before.entry) one.now }
     {
         self.is_open_operation(one) && is_operation_behind(before, one)

@@ -13,7 +13,7 @@ ghost use Rattle.seals.specs.State.{KeptRun, Seal};
 ghost use Rattle.seals.specs.Kept.{seal_in};
 ghost use Rattle.seals.specs.Run.{run_at, run_text, IsGoodRun};
 ghost use Rattle.seals.specs.Seal.{seal_at, seal_text, tag_bytes, IsGoodSeal};
-ghost use Rattle.seals.specs.Answer.{IsWhole};
+ghost use Rattle.seals.specs.Answer.{IsWhole, IsUntagged};
 ghost use Rattle.seals.specs.Numbered.{numbered};
 ghost use Rattle.seals.specs.Meaning.{HasStood, IsClock, AreByPath, AreWithin, PartsFrom, AreSmall, IsOpen, OperationsRise};
 
@@ -55,10 +55,15 @@ pub fn whole_seals_are_tagged()
         → IsGoodSeal (seal_in state) }
 {}
 
-/// More bytes behind change neither what was read as a seal, nor that the bytes are none.
+/// More bytes behind change neither what was read as a seal, nor that the bytes are none: so an answer to the front of a source stands
+/// whatever follows, but that it is open.
 pub fn seals_keep_on()
     ensures seals { KeepsOn seal_at }
     ensures runs { (header : Header) (certified taken number : ℕ) → KeepsOn (run_at header certified taken number) }
+    ensures whole { (functions : DigestFunctions) (bytes more : List ℕ) (state : SealedState) (count : ℕ)
+        → IsWhole functions bytes state count → IsWhole functions (bytes ++ more) state count }
+    ensures untagged { (functions : DigestFunctions) (bytes more : List ℕ)
+        → IsUntagged functions bytes → IsUntagged functions (bytes ++ more) }
 {}
 
 /// A seal's text that is given another number is the text of the seal with that number, with its tag.

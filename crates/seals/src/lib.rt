@@ -24,7 +24,6 @@ mod state;
 mod writing;
 
 pub use answer::{ReadSeal, SealFront};
-pub use bounds::Bounds;
 pub use laws::{
     bounds_say_more, runs_are_read_back, seals_are_read_back, seals_keep_on,
     seals_take_their_numbers, what_stands_is_good, whole_seals_are_tagged,
