@@ -7,7 +7,8 @@ ghost use Rattle.record_hash.specs.Functions.{DigestFunctions};
 ghost use Rattle.record_text.specs.declared.reader.TextFault.TheVariants.{Truncated};
 ghost use Rattle.record_text.specs.Fields.{KeepsOn};
 ghost use Rattle.receipts.specs.Receipts.{tagged};
-ghost use Rattle.verifier_cache.specs.Listed.{SlotsRise};
+ghost use Rattle.verifier_cache.specs.Cache.{AreDistinct};
+ghost use Rattle.verifier_cache.specs.Listed.{entries_in, SlotsRise};
 ghost use Rattle.seals.specs.declared.state.SealedState.{SealedState};
 ghost use Rattle.seals.specs.State.{KeptRun, Seal};
 ghost use Rattle.seals.specs.Kept.{seal_in};
@@ -83,6 +84,8 @@ pub fn bounds_say_more()
         → length run.entries ≤ header.cache }
     ensures by_path { (header : Header) (certified taken number : ℕ) (run : KeptRun) → IsGoodRun header certified taken number run
         → names_paths header ≡ true → AreByPath run.entries }
+    ensures distinct { (header : Header) (certified taken number : ℕ) (run : KeptRun) → IsGoodRun header certified taken number run
+        → names_paths header ≡ true → AreDistinct (entries_in run.entries) }
     ensures by_slot { (header : Header) (certified taken number : ℕ) (run : KeptRun) → IsGoodRun header certified taken number run
         → names_paths header ≡ false → SlotsRise 0 header.cache run.entries }
     ensures sums { (header : Header) (certified taken number : ℕ) (run : KeptRun) → IsGoodRun header certified taken number run
