@@ -36,11 +36,6 @@ pub record IsAsked (host : Host Content Request) (world : World Content) (asked 
 abbrev pub numbered : ℕ → List Request → List (ℕ × Request)
 numbered phase requests = map (λ request. (phase, request)) requests
 
--- So it is for each worker, with what the tasks of a phase ask of it.
-abbrev pub AreAsked : Host Content Request → World Content → ℕ → List Task → List (List Turn) → Type 0
-AreAsked host world phase tasks turns =
-    (i : ℕ) (d : List Turn) → i < length turns → IsAsked host world (numbered phase (asked_of i tasks)) (get_or turns i d)
-
 -- ---- ends
 
 -- where the clock of the first stopped worker ended, of workers whose numbers begin at one
