@@ -1,5 +1,5 @@
 -- What the code reads and writes of a phase, in the machine's words.
-use Rattle.std.proofs.Common.{◌≡◌, ℕ, zero, suc, ◌+◌, ◌^◌, ◌<◌, ◌≤◌, ◌==◌, Bool, true, false, List, [], ◌∷◌, ◌++◌, map, replicate, length, get_or, Option, None, Result, Ok, if◌then◌else◌, refl, sym, ◌∙◌, ap, subst, All, arith}
+use Rattle.std.proofs.Common.{◌≡◌, ℕ, zero, suc, ◌+◌, ◌-◌, ◌^◌, ◌<◌, ◌≤◌, ◌==◌, Bool, true, false, List, [], ◌∷◌, ◌++◌, map, replicate, length, get_or, Option, None, Result, Ok, if◌then◌else◌, refl, sym, ◌∙◌, ap, subst, All, arith}
 use Rattle.std.specs.List.{AllByRecursion}
 use Rattle.std.proofs.Math.ListN.{get_or-map as get_or-mapped}
 use Rattle.std.proofs.lemmas.List.{get_or-map, length-map, length-replicate}
@@ -38,13 +38,14 @@ use Rattle.shipped_host.specs.ShippedHost.{turn_of, shipped_host}
 use Rattle.host_world.specs.Workers.{shown_worker}
 use Rattle.host_serving.specs.Leading.{Leads}
 use Rattle.host_serving.specs.Standing.{turns_of, BeginsRound, NoneStopped}
+use Rattle.host_serving.proofs.BeforeLemmas.{rolling_last}
 use Rattle.host_serving.proofs.LeadingLaws.{leads-with}
 use Rattle.table_order.specs.Rounds.{AreTermsOf}
 use Rattle.round_workers.specs.declared.turn.Turn.{Turn}
 use Rattle.round_workers.specs.Parts.{asked_in, HasDone, HaveTurns}
 use Rattle.worker_threads.specs.Parts.{asked_of}
-use Rattle.worker_threads.specs.Phase.{numbered, IsPlaceFor}
-use Rattle.worker_threads.specs.Round.{asked_in_round, asked_up_to, begun_at, AreAskedSo, IsRoundServed, NotesEpochs}
+use Rattle.worker_threads.specs.Phase.{numbered, first_stopped, IsPlaceFor}
+use Rattle.worker_threads.specs.Round.{asked_in_round, asked_up_to, begun_at, newest_of, noted_of, AreAskedSo, IsRoundServed, NotesEpochs}
 use Rattle.worker_threads.specs.Participants.{AreToServe, HaveServed}
 use Rattle.worker_threads.proofs.FilledLemmas.{filled_again, filled_count}
 
@@ -308,3 +309,60 @@ hosts_then a b d first second = record {
 -- what is answered
 pub no_end : {X E : Type 0} (end : Option X) → ◌≡◌ {A = Result (Option X) E} (Ok end) (Ok None) → end ≡ None
 no_end end is = cc
+
+-- ---- the phases of a round
+
+pub first_is : (rolling r : Bool) (phase at first : ℕ) → first ≡ (if r then 0 else at) → r ≡ rolling → at ≡ phase → first ≡ (if rolling then 0 else phase)
+first_is rolling r phase at first is same here = is ∙ (λ k. if same k then 0 else here k)
+
+pub first_within : (rolling : Bool) (phase : ℕ) → (if rolling then 0 else phase) ≤ phase
+first_within true phase = omega arith
+first_within false phase = omega arith
+
+pub phases_are : (rolling r : Bool) (phase count most phases : ℕ) → phases ≡ (if r then count else 1) → r ≡ rolling → count ≡ most → phase < most → (rolling ≡ true → most ≤ suc phase)
+    → phases ≡ suc (phase - (if rolling then 0 else phase))
+phases_are rolling r phase count most phases is same seen there last = go rolling (is ∙ ap (λ (b : Bool). if b then count else 1) same) last
+  where
+    go : (b : Bool) → phases ≡ (if b then count else 1) → (b ≡ true → most ≤ suc phase) → phases ≡ suc (phase - (if b then 0 else phase))
+    go true many end = let all = end refl in omega (arith, many, seen, there, all)
+    go false one end = omega (arith, one)
+
+pub phases_there : (rolling : Bool) (phase most : ℕ) → phase < most → (if rolling then 0 else phase) + suc (phase - (if rolling then 0 else phase)) ≤ most
+phases_there true phase most there = omega (arith, there)
+phases_there false phase most there = omega (arith, there)
+
+-- only a rolling host's round has more than one
+pub rolls : (rolling : Bool) (phase more : ℕ) → suc more ≡ suc (phase - (if rolling then 0 else phase)) → 0 < more → rolling ≡ true
+rolls true phase more is some = refl
+rolls false phase more is some = absurd (omega (arith, is, some))
+
+-- The script of a rolling host ends with the world's phase.
+pub last_phase : (functions : DigestFunctions) (settings : Settings) (script : List (List Task)) (logs : List (List Command)) (world : World Content)
+    → IsBehindSetup functions settings script (with_logs logs world) → settings.rolling ≡ true → length script ≤ suc world.phase
+last_phase functions settings script logs world behind rolling =
+    let host = shipped_host functions settings script in
+    let last = subst (λ (w : World Content). length host.script ≤ suc w.phase) (sym behind.is) (rolling_last host rolling behind.events) in
+    let many = length-map script (λ (tasks : List Task). map turn_of tasks) in
+    omega (arith, last, many)
+
+-- ---- what was noted
+
+-- What was noted behind a round, as the later world has it.
+pub notes_are : (host : Host Content Request) (world taken noted later : World Content) (r : Bool) (first : ℕ) (workers : List Worker) (end : Option ClockEnd)
+    → r ≡ host.rolling → first ≡ host.header.first → taken.newest ≡ world.newest → taken.scanned ≡ world.scanned
+    → (r ≡ false → noted ≡ taken)
+    → (r ≡ true → noted ≡ record taken { newest = newest_of first workers; scanned = replicate (length taken.scanned) (noted_of end first (newest_of first workers)) })
+    → later.newest ≡ noted.newest → later.scanned ≡ noted.scanned → workers ≡ later.workers → end ≡ first_stopped 0 later.workers
+    → NotesEpochs host world later
+notes_are host world taken noted later r first workers end mode at newest scanned plain rolling later_newest later_scanned are ended = record {
+  plain = λ is. (
+    later_newest ∙ ap (λ (w : World Content). w.newest) (plain (mode ∙ is)) ∙ newest,
+    later_scanned ∙ ap (λ (w : World Content). w.scanned) (plain (mode ∙ is)) ∙ scanned,
+  );
+  newest = λ is. raw is ∙ (λ k. newest_of (at k) (are k));
+  scanned = λ is. later_scanned ∙ ap (λ (w : World Content). w.scanned) (rolling (mode ∙ is))
+      ∙ (λ k. replicate (length (scanned k)) (noted_of (ended k) (at k) (sym (raw is) k)));
+}
+  where
+    raw : host.rolling ≡ true → later.newest ≡ newest_of first workers
+    raw is = later_newest ∙ ap (λ (w : World Content). w.newest) (rolling (mode ∙ is))

@@ -1,6 +1,6 @@
 -- The round of a rolling host that was served at once: what its table tells leads from the world before it to the one behind it, and the
 -- first end is that of the first worker that is stopped.
-use Rattle.std.proofs.Common.{◌≡◌, ◌⊎◌, inl, inr, ℕ, zero, suc, ◌+◌, ◌-◌, ◌<◌, ◌≤◌, ◌||◌, max, Bool, true, false, List, [], ◌∷◌, ◌++◌, drop, map, length, get_or, slice_get, replicate, Option, Some, None, is_some, refl, sym, ◌∙◌, ap, subst, true≢false, arith}
+use Rattle.std.proofs.Common.{◌≡◌, ◌⊎◌, inl, inr, ℕ, zero, suc, ◌+◌, ◌-◌, ◌<◌, ◌≤◌, ◌||◌, max, Bool, true, false, List, [], ◌∷◌, ◌++◌, drop, map, length, get_or, slice_get, replicate, Option, Some, None, is_some, if◌then◌else◌, refl, sym, ◌∙◌, ap, subst, true≢false, arith}
 use Rattle.std.specs.Option.{ForSome}
 use Rattle.std.specs.List.{AllByRecursion}
 use Rattle.std.proofs.lemmas.Bool.{cases_lt}
@@ -21,7 +21,7 @@ use Rattle.host_core.specs.WorldEvent.{WorldEvent, IsRoundOver, AreEnabled, step
 use Rattle.host_core.proofs.EventLaws.{enabled-append, run-append}
 use Rattle.round_order.specs.Turn.{Turn, on_to, clock_behind, served_behind, content_at, content_behind, in_one_order}
 use Rattle.round_order.specs.Told.{IsLevel, AreTold, IsRaised, HasOneOrder, EndsWith, EndsWhole, EndsStopped, RoundStop, joined, list_of, past_of, finishes_from, round_events, whole_events, stop_events, stopped_events, stops_by}
-use Rattle.round_order.proofs.GoingLaws.{on_to-epoch}
+use Rattle.round_order.proofs.GoingLaws.{on_to-epoch, on_to-there}
 use Rattle.host_shard.specs.declared.content.Content as code
 use Rattle.host_shard.specs.declared.content.Content.TheVariants.{Vacant}
 use Rattle.host_shard.specs.Content.{Content}
@@ -82,8 +82,14 @@ newest-each low (worker ∷ workers) d zero there = let rest = newest-low (max l
 newest-each low (worker ∷ workers) d (suc i) there = newest-each (max low worker.clock.at.epoch) workers d i (omega (arith, there))
 
 -- a clock that was brought to an epoch stands at that epoch of its own
-on_to-again : (epoch : ℕ) (clock : Reading) → clock.at.epoch ≤ epoch → on_to epoch clock ≡ on_to (on_to epoch clock).at.epoch clock
-on_to-again epoch clock within = ap (λ (n : ℕ). on_to n clock) (sym (on_to-epoch epoch clock within))
+on_to-again : (epoch : ℕ) (clock : Reading) → on_to epoch clock ≡ on_to (on_to epoch clock).at.epoch clock
+on_to-again epoch clock = go (cases_lt clock.at.epoch epoch)
+  where
+    go : (clock.at.epoch < epoch) ⊎ (epoch ≤ clock.at.epoch) → on_to epoch clock ≡ on_to (on_to epoch clock).at.epoch clock
+    go (inl less) = ap (λ (n : ℕ). on_to n clock) (sym (on_to-epoch epoch clock (omega (arith, less))))
+    go (inr there) =
+        on_to-there epoch clock there ∙ sym (on_to-there clock.at.epoch clock (omega arith))
+        ∙ ap (λ (c : Reading). on_to c.at.epoch clock) (sym (on_to-there epoch clock there))
 
 module _ (functions : DigestFunctions) (settings : Settings) (script : List (List Task)) (logs : List (List Command)) (world later : World Content)
     (each : length logs ≡ length world.workers) (terms : Terms) (after : List code.Content) (rows : List Row)
@@ -222,6 +228,12 @@ module _ (functions : DigestFunctions) (settings : Settings) (script : List (Lis
       → let events = round_events finals (length before.workers) (first + newest) first (in_one_order (joined lists)) in
       content_at host (run_events host before events) (place_of place) ≡ shown_content (get_or after place Vacant))
       (entered : (i : ℕ) → i < length world.workers → (row_at rows i).entered ≤ newest) where
+    abbrev turn_events : List (WorldEvent Request)
+    turn_events = round_events finals (length before.workers) (first + newest) first (in_one_order (joined lists))
+
+    standing : length world.scanned ≡ length world.workers
+    standing = (stands before behind).marks ∙ count
+
     -- the epoch of a worker's last clock
     pub epoch_left : (i : ℕ) → i < length world.workers → (worker_at host later i).clock.at.epoch ≡ first + (row_at rows i).entered
     epoch_left i there =
@@ -270,9 +282,6 @@ module _ (functions : DigestFunctions) (settings : Settings) (script : List (Lis
         abbrev run : World Content
         run = run_events host before whole
 
-        abbrev turn_events : List (WorldEvent Request)
-        turn_events = round_events finals (length before.workers) (first + newest) first (in_one_order (joined lists))
-
         later_newest : later.newest ≡ first + newest
         later_newest =
             is.notes.newest rolling
@@ -301,9 +310,6 @@ module _ (functions : DigestFunctions) (settings : Settings) (script : List (Lis
         marks_count : length run.scanned ≡ length world.scanned
         marks_count = ends.ends.counts.2
 
-        standing : length world.scanned ≡ length world.workers
-        standing = (stands before behind).marks ∙ count
-
         top_is : first + newest ≡ epoch_of host world
         top_is = ap (λ (n : ℕ). first + n) (all_come within) ∙ is.made.final
 
@@ -321,7 +327,7 @@ module _ (functions : DigestFunctions) (settings : Settings) (script : List (Lis
 
         quiet_run : AllByRecursion IsOfRound whole
         quiet_run = every-append IsOfRound turn_events (finishes_from 0 (length before.workers))
-            (round-of finals (length before.workers) (first + newest) first (in_one_order (joined lists))) (finishes-of 0 (length before.workers))
+            (round-of finals (length before.workers) (first + newest) first (in_one_order (joined lists))) (finishes-of Request 0 (length before.workers))
 
         later_is : later ≡ run_events host world whole
         later_is = world_same functions settings script logs world later each terms after rows is five_before whole (first + newest) pasts ends.ends
@@ -390,14 +396,11 @@ module _ (functions : DigestFunctions) (settings : Settings) (script : List (Lis
     module _ (found : SomeFirst (fresh settings.header) 0 rows later.workers) (least : newest_of settings.header.first later.workers ≡ first + newest)
         (flags : (worker : ℕ) → worker < length rows → stops_by worker (stops_of rows) ≡ is_some (row_at rows worker).stop)
         (ends_all : EndsStopped host before first (first + newest) finals lists pasts (stops_of rows)) where
-      abbrev turn_events : List (WorldEvent Request)
-      turn_events = round_events finals (length before.workers) (first + newest) first (in_one_order (joined lists))
-
       abbrev stopped : List (WorldEvent Request)
       stopped = stopped_events before finals (first + newest) first lists (found.stop ∷ found.others)
 
-      abbrev run : World Content
-      run = run_events host before stopped
+      abbrev halted : World Content
+      halted = run_events host before stopped
 
       abbrev middle : World Content
       middle = run_events host before turn_events
@@ -408,51 +411,48 @@ module _ (functions : DigestFunctions) (settings : Settings) (script : List (Lis
       stopped_newest : later.newest ≡ first + newest
       stopped_newest = is.notes.newest rolling ∙ least
 
-      run_newest : run.newest ≡ first + newest
-      run_newest = go (cases_lt first (first + newest))
+      halted_newest : halted.newest ≡ first + newest
+      halted_newest = go (cases_lt first (first + newest))
         where
-          go : (first < first + newest) ⊎ (first + newest ≤ first) → run.newest ≡ first + newest
+          go : (first < first + newest) ⊎ (first + newest ≤ first) → halted.newest ≡ first + newest
           go (inl less) = ends.raised.newest less
           go (inr same) = (ends.raised.still (omega (arith, same))).0 ∙ (table.newest rolling).0 ∙ omega (arith, same)
-
-      standing : length world.scanned ≡ length world.workers
-      standing = (stands before behind).marks ∙ count
 
       abbrev noted : ℕ
       noted = max (later.newest - 1) settings.header.first
 
-      mark_is : (i : ℕ) → i < length world.workers → noted ≡ scanned_at host run i
+      mark_is : (i : ℕ) → i < length world.workers → noted ≡ scanned_at host halted i
       mark_is i there = go (cases_lt first (first + newest))
         where
-          go : (first < first + newest) ⊎ (first + newest ≤ first) → noted ≡ scanned_at host run i
+          go : (first < first + newest) ⊎ (first + newest ≤ first) → noted ≡ scanned_at host halted i
           go (inl less) = let mark = ends.raised.marks less i (omega (arith, there, count)) in omega (arith, mark, stopped_newest, is_first, less)
           go (inr same) =
               let here : noted ≡ settings.header.first = omega (arith, stopped_newest, is_first, same) in
               here ∙ sym (is.begins.marks rolling i there)
               ∙ ap (λ (marks : List ℕ). get_or marks i settings.header.first) (sym (ends.raised.still (omega (arith, same))).1)
 
-      later_scanned : later.scanned ≡ run.scanned
-      later_scanned =
+      halted_scanned : later.scanned ≡ halted.scanned
+      halted_scanned =
           is.notes.scanned rolling
           ∙ ap (λ (e : Option ClockEnd). replicate (length world.scanned) (noted_of e settings.header.first later.newest)) found.ended
-          ∙ ext_get_or settings.header.first (replicate (length world.scanned) noted) run.scanned
+          ∙ ext_get_or settings.header.first (replicate (length world.scanned) noted) halted.scanned
           (length-replicate (length world.scanned) noted ∙ sym ends.ends.counts.2)
           (λ i within'.
               let there : i < length world.scanned = omega (arith, within', length-replicate (length world.scanned) noted) in
               get_or-replicate (length world.scanned) i noted settings.header.first there ∙ mark_is i (omega (arith, there, standing)))
 
-      flag_run : (i : ℕ) → i < length world.workers → (worker_at host later i).stopped ≡ (worker_at host run i).stopped
+      flag_run : (i : ℕ) → i < length world.workers → (worker_at host later i).stopped ≡ (worker_at host halted i).stopped
       flag_run i there =
           flag_is i there ∙ sym (flags i (omega (arith, there, rows_are functions settings script logs world later each terms after rows is)))
           ∙ ap (stops_by i) found.stops
           ∙ ap (λ (b : Bool). b || stops_by i (found.stop ∷ found.others)) (sym (running_before i ∙ is.running i there))
           ∙ sym (ends.stopped i (omega (arith, there, count)))
 
-      later_is : later ≡ run_events host world stopped
-      later_is = world_same functions settings script logs world later each terms after rows is five_before stopped (first + newest) pasts ends.ends
-          (contents_end (first + newest) run ends.ends) flag_run
+      halted_is : later ≡ run_events host world stopped
+      halted_is = world_same functions settings script logs world later each terms after rows is five_before stopped (first + newest) pasts ends.ends
+          (contents_end (first + newest) halted ends.ends) flag_run
           (run-then-kept host world turn_events (found.stop ∷ found.others) (round-of finals (length before.workers) (first + newest) first (in_one_order (joined lists))))
-          (five_run stopped ends.enabled) (stopped_newest ∙ sym run_newest) later_scanned
+          (five_run stopped ends.enabled) (stopped_newest ∙ sym halted_newest) halted_scanned
 
       -- no clock ended in the turns
       none_ended : first_end host before turn_events ≡ None
@@ -479,7 +479,7 @@ module _ (functions : DigestFunctions) (settings : Settings) (script : List (Lis
       leads_stopped = record {
         events = stopped;
         enabled = enabled-without host logs world stopped ends.enabled;
-        is = later_is;
+        is = halted_is;
         first = sym (first-with host logs world stopped) ∙ first_is;
         form = round-without host logs world stopped (record {
           plain = λ plain. absurd (true≢false (sym rolling ∙ plain));

@@ -54,19 +54,24 @@ module _ (host : Host Content Request) (first i : ℕ) (is_first : first ≡ hos
       → told.AreNext host i served entries × (drop (served_behind served (told.turns_of entries)) (asked host i) ≡ rest)
       × (served_behind served (told.turns_of entries) ≤ length (asked host i))
   are_next served asks rest [] within cut done = (tt, cut ∙ done, within)
-  are_next served asks rest (entry ∷ entries) within cut done = go entry.request done.1
+  are_next served asks rest (entry ∷ entries) within cut done = go (λ n few left. are_next n done.0 rest entries few left done.2) entry.request done.1
     where
-      go : (request : Option Request) → IsNext first asks entry request done.0
+      Rest : Type 0
+      Rest = (n : ℕ) → n ≤ length (asked host i) → drop n (asked host i) ≡ done.0
+          → told.AreNext host i n entries × (drop (served_behind n (told.turns_of entries)) (asked host i) ≡ rest)
+          × (served_behind n (told.turns_of entries) ≤ length (asked host i))
+
+      go : Rest → (request : Option Request) → IsNext first asks entry request done.0
           → (IsAsked host i served entry.clock.at.epoch request × told.AreNext host i (served_more served request) entries)
           × (drop (served_behind (served_more served request) (told.turns_of entries)) (asked host i) ≡ rest)
           × (served_behind (served_more served request) (told.turns_of entries) ≤ length (asked host i))
-      go None next =
-          let more = are_next served done.0 rest entries within (cut ∙ next) done.2 in
+      go behind None next =
+          let more = behind served within (cut ∙ next) in
           ((tt, more.0), more.1, more.2)
-      go (Some request) next =
+      go behind (Some request) next =
           let here : drop served (asked host i) ≡ (next.0, request) ∷ done.0 = cut ∙ next.1 in
-          let more = are_next (suc served) done.0 rest entries (cut-less (asked host i) served (next.0, request) done.0 here)
-          (cut-more (asked host i) served (next.0, request) done.0 here) done.2 in
+          let more = behind (suc served) (cut-less (asked host i) served (next.0, request) done.0 here)
+          (cut-more (asked host i) served (next.0, request) done.0 here) in
           (((next.0, cut-some (asked host i) served (next.0, request) done.0 here, omega (arith, next.2, is_first)), more.0), more.1, more.2)
 
 -- ---- what is asked

@@ -14,37 +14,37 @@ use Rattle.worker_threads.proofs.FilledLemmas.{HaveFive}
 
 -- ---- which events they are
 
+pub finishes-of : (R : Type 0) (i count : ℕ) → AllByRecursion (IsOfRound {R = R}) (finishes_from i count)
+finishes-of R i zero = tt
+finishes-of R i (suc count) = (tt, finishes-of R (suc i) count)
+
+enters-of : (R : Type 0) (finals : ℕ → ℕ) (epoch i count : ℕ) → AllByRecursion (IsOfRound {R = R}) (enters_from finals epoch i count)
+enters-of R finals epoch i zero = tt
+enters-of R finals epoch i (suc count) = go (nat_lt epoch (finals i)) (enters-of R finals epoch (suc i) count)
+  where
+    go : (b : Bool) → AllByRecursion (IsOfRound {R = R}) (enters_from finals epoch (suc i) count)
+        → AllByRecursion (IsOfRound {R = R}) (if b then enters i ∷ enters_from finals epoch (suc i) count else enters_from finals epoch (suc i) count)
+    go true rest = (tt, rest)
+    go false rest = rest
+
+climb-of : (R : Type 0) (finals : ℕ → ℕ) (workers epoch count : ℕ) → AllByRecursion (IsOfRound {R = R}) (climb finals workers epoch count)
+climb-of R finals workers epoch zero = tt
+climb-of R finals workers epoch (suc count) =
+    every-append (IsOfRound {R = R}) (step_up finals workers epoch) (climb finals workers (suc epoch) count)
+    (every-append (IsOfRound {R = R}) (finishes_from 0 workers) (raises 0 ∷ enters_from finals epoch 0 workers) (finishes-of R 0 workers) (tt, enters-of R finals epoch 0 workers))
+    (climb-of R finals workers (suc epoch) count)
+
 module _ {C R : Type 0} where
-  pub finishes-of : (i count : ℕ) → AllByRecursion (IsOfRound {R}) (finishes_from i count)
-  finishes-of i zero = tt
-  finishes-of i (suc count) = (tt, finishes-of (suc i) count)
-
-  enters-of : (finals : ℕ → ℕ) (epoch i count : ℕ) → AllByRecursion (IsOfRound {R}) (enters_from finals epoch i count)
-  enters-of finals epoch i zero = tt
-  enters-of finals epoch i (suc count) = go (nat_lt epoch (finals i)) (enters-of finals epoch (suc i) count)
-    where
-      go : (b : Bool) → AllByRecursion (IsOfRound {R}) (enters_from finals epoch (suc i) count)
-          → AllByRecursion (IsOfRound {R}) (if b then enters i ∷ enters_from finals epoch (suc i) count else enters_from finals epoch (suc i) count)
-      go true rest = (tt, rest)
-      go false rest = rest
-
-  climb-of : (finals : ℕ → ℕ) (workers epoch count : ℕ) → AllByRecursion (IsOfRound {R}) (climb finals workers epoch count)
-  climb-of finals workers epoch zero = tt
-  climb-of finals workers epoch (suc count) =
-      every-append IsOfRound (step_up finals workers epoch) (climb finals workers (suc epoch) count)
-      (every-append IsOfRound (finishes_from 0 workers) (raises 0 ∷ enters_from finals epoch 0 workers) (finishes-of 0 workers) (tt, enters-of finals epoch 0 workers))
-      (climb-of finals workers (suc epoch) count)
-
   act-of : (turn : Turn C R) (request : Option R) → IsOfRound (act_of turn request)
   act-of turn None = tt
   act-of turn (Some request) = tt
 
   -- Those of turns, and of the epochs between them, are of a round.
   pub round-of : (finals : ℕ → ℕ) (workers top epoch : ℕ) (turns : List (Turn C R)) → AllByRecursion IsOfRound (round_events finals workers top epoch turns)
-  round-of finals workers top epoch [] = climb-of finals workers epoch (top - epoch)
+  round-of finals workers top epoch [] = climb-of R finals workers epoch (top - epoch)
   round-of finals workers top epoch (turn ∷ turns) =
       every-append IsOfRound (climb finals workers epoch (turn.clock.at.epoch - epoch)) (done_events turn ++ round_events finals workers top turn.clock.at.epoch turns)
-      (climb-of finals workers epoch (turn.clock.at.epoch - epoch))
+      (climb-of R finals workers epoch (turn.clock.at.epoch - epoch))
       (tt, (act-of turn turn.request, (tt, round-of finals workers top turn.clock.at.epoch turns)))
 
 -- ---- what they leave

@@ -1,5 +1,5 @@
 //! The round of a script, served by all workers at once.
-ghost use Rattle.std.specs.Prelude.{◌≡◌, ◌≤◌, ◌<◌, ℕ, List, IfOk, IfSome, OnOk, Ok, None, length, map, replicate, true, false, if◌then◌else◌};
+ghost use Rattle.std.specs.Prelude.{◌≡◌, ◌+◌, ◌≤◌, ◌<◌, ℕ, List, IfOk, IfSome, OnOk, Ok, None, length, map, replicate, true, false, if◌then◌else◌};
 ghost use Rattle.std.specs.List.{AllByRecursion};
 ghost use Rattle.log_codec.specs.declared.command.Command.{Command};
 ghost use Rattle.slot_rewriting.specs.Writing.{written_logs};
@@ -56,6 +56,7 @@ fn phases_of_round(rolling: bool, phase: usize, requests: &Requests) -> (usize, 
     ensures first { result.0 ≡ (if rolling then 0 else phase) }
     ensures phases { result.1 ≡ (if rolling then length requests.now else 1) }
     ensures some { 0 < result.1 }
+    ensures fits { result.0 + result.1 ≤ 18446744073709551616 }
 {
     if rolling {
         (0, requests.len())

@@ -43,7 +43,7 @@ fn add_turns<'a, D: Digests>(
     ensures asked { OnOk result ((asks : ℕ → List (ℕ × Request))
         → AreAskedSo (host_of (D.functions (digests_of world.now)) world.now) (shown_world world.now) asks (map (λ own. own.items) turns.old.items)
         → AreAskedSo (host_of (D.functions (digests_of world.now)) world.now) (shown_world world.now)
-        (λ i. asks i ++ numbered phase (asked_of i tasks)) (map (λ own. own.items) turns.new.items)) }
+        (λ i. asks i ++ numbered phase (asked_of i tasks.entry)) (map (λ own. own.items) turns.new.items)) }
 {
     for task in tasks {
         let worker = usize::from(task.worker());
@@ -69,6 +69,7 @@ pub(crate) fn turns_by_worker<'a, D: Digests>(
 ) -> Result<Vec<Vec<Turn<'a>>>, Memory>
     requires behind { StandsBehind (D.functions (digests_of world.now)) world.now }
     requires there { first + phases ≤ length requests.now }
+    requires fits { first + phases ≤ 18446744073709551616 }
     requires short { (phase : ℕ) → AllByRecursion (λ task. IsBlob (longest_of (settings_of world.now).header) task.request.value)
         (get_or requests.now phase []) }
     requires workers { (phase : ℕ) → AllByRecursion (λ task. task.worker < workers) (get_or requests.now phase []) }

@@ -3,7 +3,9 @@ use Rattle.host_core.specs.World.{World}
 use Rattle.host_shard.specs.Content.{Content}
 use Rattle.host_table.specs.Services.{row_of}
 use Rattle.host_table.specs.Terms.{phase_of}
-use Rattle.host_world.specs.Behind.{with_logs}
+use Rattle.host_core.specs.Core.{IsStanding}
+use Rattle.host_fits.specs.Mirroring.{PlacesMirror}
+use Rattle.host_world.specs.Behind.{IsBehindSetup, with_logs}
 use Rattle.host_world.proofs.FrontLaws.{length-before_each}
 use Rattle.round_order.specs.Told.{IsLevel}
 use Rattle.shipped_host.specs.ShippedHost.{shipped_host}
@@ -27,7 +29,7 @@ returns c = record {
       (c.phases_at_once_are_lists_of_events.ensures.leads functions settings script logs world later (phase_of terms) after (map row_of rows) digests each behind plain
       (phase_served functions settings script logs world later each terms after rows is even plain)))
       (λ rolling.
-          let stands = λ w. c.worlds_are_as_promised.ensures.standing functions settings script w digests in
+          let stands : (w : World Content) → IsBehindSetup functions settings script w → IsStanding (PlacesMirror functions settings) host w = λ w. c.worlds_are_as_promised.ensures.standing functions settings script w digests in
           let of_round = table functions settings script logs world later each terms after rows is digests behind rolling stands even in
           leads_rolling functions settings script logs world later each terms after rows is even digests behind rolling stands
           (c.tables_tell_of_a_round.ensures.told functions settings script before terms after rows of_round is.closed)
@@ -49,7 +51,7 @@ returns c = record {
       (λ plain. inl (c.phases_at_once_are_lists_of_events.ensures.served functions settings script world later (phase_of terms) after (map row_of rows) plain
       (phase_served functions settings script logs world later each terms after rows is even plain)))
       (λ rolling.
-          let stands = λ w. c.worlds_are_as_promised.ensures.standing functions settings script w digests in
+          let stands : (w : World Content) → IsBehindSetup functions settings script w → IsStanding (PlacesMirror functions settings) host w = λ w. c.worlds_are_as_promised.ensures.standing functions settings script w digests in
           let of_round = table functions settings script logs world later each terms after rows is digests behind rolling stands even in
           ends_rolling functions settings script logs world later each terms after rows is even digests behind rolling stands
           (c.tables_tell_of_a_round.ensures.told functions settings script before terms after rows of_round is.closed)

@@ -21,7 +21,7 @@ pub index_mut-requires : goal.index_mut-requires
 index_mut-requires g c =
     let are : c.loop-task.yielded ++ c.in-Some.task ∷ c.next.new.self ≡ c.args.tasks =
     ap (λ (rest : List Task). c.loop-task.yielded ++ rest) (sym c.in-Some.ensures.steps) ∙ c.loop-task.invariant.all in
-    let within = at_task (λ (t : Task). t.worker < length c.args.turns.items) c.loop-task.yielded c.next.new.self c.args.tasks c.in-Some.task are c.requires.workers in
+    let within = at_task (λ (t : Task). t.worker < length c.args.turns.now.items) c.loop-task.yielded c.next.new.self c.args.tasks c.in-Some.task are c.requires.workers in
     omega (arith, within, c.loop-task.invariant.count, c.from-worker.ensures, c.worker.ensures.value)
 
 pub loop-task-preserved : goal.loop-task-preserved
@@ -33,7 +33,7 @@ loop-task-preserved g c =
     let are : gone ++ task ∷ c.next.new.self ≡ c.args.tasks =
     ap (λ (rest : List Task). gone ++ rest) (sym c.in-Some.ensures.steps) ∙ c.loop-task.invariant.all in
     let short = at_task (λ (t : Task). IsBlob (longest_of (settings_of world).header) t.request.value) gone c.next.new.self c.args.tasks task are c.requires.short in
-    let within = at_task (λ (t : Task). t.worker < length c.args.turns.items) gone c.next.new.self c.args.tasks task are c.requires.workers in
+    let within = at_task (λ (t : Task). t.worker < length c.args.turns.now.items) gone c.next.new.self c.args.tasks task are c.requires.workers in
     let count = c.loop-task.invariant.count in
     let place = rw c.request.ensures.value at c.place_for.ensures.owns in
     record {

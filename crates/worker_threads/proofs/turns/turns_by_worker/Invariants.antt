@@ -9,5 +9,5 @@ abbrev pub invariant-loop-number : goal.invariant-loop-number
 invariant-loop-number g l = record {
   count : length l.turns.items ≡ l.workers;
   asked : AreAskedSo (host_of (g.D.Digests.functions (digests_of l.world)) l.world) (shown_world l.world)
-      (λ i. asked_up_to l.requests l.first i l.counter) (map (λ own. own.items) l.turns.items);
+      (λ i. asked_up_to l.requests l.first i l.number) (map (λ own. own.items) l.turns.items);
 }
