@@ -1,5 +1,5 @@
 -- A world in which a round begins is level: all clocks and all that waits are of the epoch of the round's first phase.
-use Rattle.std.proofs.Common.{◌≡◌, ℕ, suc, ◌+◌, ◌<◌, ◌≤◌, ◌%◌, Bool, true, false, List, [], ◌∷◌, length, if◌then◌else◌, refl, sym, ◌∙◌, ap, mod-lt, arith}
+use Rattle.std.proofs.Common.{◌≡◌, ℕ, ◌+◌, ◌<◌, ◌%◌, Bool, true, false, List, [], ◌∷◌, length, if◌then◌else◌, refl, sym, ◌∙◌, ap, mod-lt, arith}
 use Rattle.std.specs.List.{AllByRecursion}
 use Rattle.log_codec.specs.declared.command.Command.{Command}
 use Rattle.record_text.specs.declared.element.Element.{Element}
@@ -12,7 +12,7 @@ use Rattle.round_order.specs.Told.{IsLevel}
 use Rattle.stamp_order.proofs.InOrderLaws.{every-weaker}
 use Rattle.host_world.specs.Behind.{with_logs}
 use Rattle.host_world.proofs.FrontLaws.{same_unlogged, length-before_each}
-use Rattle.host_serving.specs.Standing.{first_of_round, BeginsRound}
+use Rattle.host_serving.specs.Standing.{BeginsRound}
 use Rattle.worker_threads.specs.Round.{begun_at}
 
 -- what is from an epoch and up to the same is of it

@@ -1,6 +1,5 @@
 -- A round that was served at once, in a host of either mode.
 use Rattle.std.proofs.Common.{◌≡◌, ◌⊎◌, inl, inr, ℕ, suc, ◌+◌, ◌-◌, ◌<◌, ◌≤◌, Bool, true, false, List, [], map, length, get_or, refl, sym, ◌∙◌, ap, subst, is_some, true≢false, arith}
-use Rattle.std.specs.List.{AllByRecursion}
 use Rattle.stamp_order.proofs.InOrderLaws.{every-weaker}
 use Rattle.log_codec.specs.declared.command.Command.{Command}
 use Rattle.merkle_records.specs.Merkle.{GivesDigests}
@@ -10,7 +9,7 @@ use Rattle.record_text.specs.declared.request.Request.{Request}
 use Rattle.script_text.specs.declared.task.Task.{Task}
 use Rattle.host_core.specs.Core.{IsStanding}
 use Rattle.host_core.specs.Host.{Host}
-use Rattle.host_core.specs.World.{Worker, World, fresh, worker_at, epoch_of}
+use Rattle.host_core.specs.World.{World, fresh, worker_at}
 use Rattle.host_core.specs.WorldEvent.{run_events}
 use Rattle.round_order.specs.Turn.{Turn, content_at, content_behind, in_one_order}
 use Rattle.round_order.specs.Told.{IsLevel, AreTold, HasOneOrder, EndsWhole, EndsStopped, joined, past_of, round_events, stops_by}
@@ -22,7 +21,6 @@ use Rattle.host_epochs.specs.declared.views.Row as rounds
 use Rattle.host_epochs.specs.Round.{row_at}
 use Rattle.host_epochs.specs.Terms.{Terms, place_count, first_epoch}
 use Rattle.host_table.specs.declared.views.Row.{Row}
-use Rattle.host_table.specs.Phase as phases
 use Rattle.host_table.specs.Services.{row_of}
 use Rattle.host_table.specs.Terms.{phase_of}
 use Rattle.host_table.proofs.RoundLaws.{round_phase, row_at_phase}
@@ -37,15 +35,14 @@ use Rattle.host_serving.specs.Leading.{LeadsAs}
 use Rattle.host_serving.specs.Form.{AreOfPhase, AreOfRound}
 use Rattle.host_serving.specs.Standing.{first_of_round, IsServedUpTo, EndsRound}
 use Rattle.host_serving.proofs.BeforeLemmas.{first_plain}
-use Rattle.table_order.specs.Rounds.{AreThrough, IsTableOfRound, finals_of, lists_of, pasts_of, stops_of}
+use Rattle.table_order.specs.Rounds.{AreThrough, finals_of, lists_of, pasts_of, stops_of}
 use Rattle.round_workers.specs.Parts as parts
 use Rattle.worker_threads.specs.Parts.{asked_of, HasDone}
 use Rattle.worker_threads.specs.Phase.{IsServedAtOnce, first_stopped}
-use Rattle.worker_threads.specs.Round.{begun_at, newest_of, IsRoundServed}
+use Rattle.worker_threads.specs.Round.{newest_of, IsRoundServed}
 use Rattle.worker_threads.proofs.PlainLemmas.{has_done_plain}
 use Rattle.worker_threads.proofs.RoundAskedLemmas.{asked_plain}
 use Rattle.worker_threads.proofs.RoundStopLemmas.{NoneFirst, SomeFirst}
-use Rattle.worker_threads.proofs.RoundWorldLemmas.{clock_left}
 use Rattle.worker_threads.proofs.RollingLemmas.{is_first, newest-within, newest-low, newest-each, epoch_left, through, leads_whole, served_out, leads_stopped, ends_stopped, first_found}
 
 pub by_mode : {A : Type 0} (b : Bool) → (b ≡ false → A) → (b ≡ true → A) → A

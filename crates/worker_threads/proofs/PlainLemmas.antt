@@ -1,5 +1,5 @@
 -- What a worker did of a round with no further epoch it did of a phase.
-use Rattle.std.proofs.Common.{◌≡◌, ℕ, zero, suc, ◌+◌, ◌-◌, ◌<◌, ◌≤◌, Bool, true, false, List, [], ◌∷◌, ◌++◌, length, map, replicate, Option, Some, None, is_some, refl, sym, ◌∙◌, ap, subst, arith}
+use Rattle.std.proofs.Common.{◌≡◌, ℕ, suc, ◌+◌, ◌-◌, ◌<◌, ◌≤◌, Bool, true, false, List, [], ◌∷◌, ◌++◌, length, replicate, Option, Some, None, is_some, refl, sym, ◌∙◌, ap, subst, arith}
 use Rattle.std.specs.List.{AllByRecursion}
 use Rattle.std.specs.Option.{ForSome}
 use Rattle.std.proofs.lemmas.Option.{none-some, same_Some}
@@ -20,10 +20,8 @@ use Rattle.host_epochs.specs.Scan.{IsStale}
 use Rattle.host_epochs.specs.Terms as epochs
 use Rattle.host_epochs.specs.Told as told
 use Rattle.host_epochs.proofs.WorkLaws.{later_epoch}
-use Rattle.host_table.specs.declared.told.Service.{Service}
 use Rattle.host_table.specs.declared.told.Stop.{Stop}
-use Rattle.host_table.specs.declared.views.Row.{Row}
-use Rattle.host_table.specs.Services.{end_at, end_of, request_in, row_of, service_of, services_of, stop_of}
+use Rattle.host_table.specs.Services.{end_at, end_of, request_in, row_of, services_of, stop_of}
 use Rattle.table_order.specs.Phases.{first_clock}
 use Rattle.table_order.specs.Rounds.{turns_of, BeginsAt}
 use Rattle.round_workers.specs.Parts as parts

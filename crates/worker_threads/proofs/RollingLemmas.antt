@@ -1,26 +1,23 @@
 -- The round of a rolling host that was served at once: what its table tells leads from the world before it to the one behind it, and the
 -- first end is that of the first worker that is stopped.
-use Rattle.std.proofs.Common.{◌≡◌, ◌⊎◌, inl, inr, ℕ, zero, suc, ◌+◌, ◌-◌, ◌<◌, ◌≤◌, ◌||◌, max, Bool, true, false, List, [], ◌∷◌, ◌++◌, drop, map, length, get_or, slice_get, replicate, Option, Some, None, is_some, if◌then◌else◌, refl, sym, ◌∙◌, ap, subst, true≢false, arith}
-use Rattle.std.specs.Option.{ForSome}
+use Rattle.std.proofs.Common.{◌≡◌, ◌⊎◌, inl, inr, ℕ, zero, suc, ◌+◌, ◌-◌, ◌<◌, ◌≤◌, ◌||◌, max, Bool, true, false, List, [], ◌∷◌, ◌++◌, drop, length, get_or, slice_get, replicate, Option, Some, None, is_some, if◌then◌else◌, refl, sym, ◌∙◌, ap, subst, true≢false, arith}
 use Rattle.std.specs.List.{AllByRecursion}
 use Rattle.std.proofs.lemmas.Bool.{cases_lt}
 use Rattle.std.proofs.lemmas.Option.{none-some}
-use Rattle.std.proofs.lemmas.List.{length-map, length-replicate, get_or-replicate, ext_get_or}
-use Rattle.stamp_order.proofs.InOrderLaws.{every-weaker}
+use Rattle.std.proofs.lemmas.List.{length-replicate, get_or-replicate, ext_get_or}
 use Rattle.lamport_clocks.specs.Reading.{Reading}
 use Rattle.log_codec.specs.declared.command.Command.{Command}
 use Rattle.record_hash.specs.Functions.{DigestFunctions}
-use Rattle.record_text.specs.declared.element.Element.{Element}
 use Rattle.record_text.specs.declared.request.Request.{Request}
 use Rattle.merkle_records.specs.Merkle.{GivesDigests}
 use Rattle.script_text.specs.declared.task.Task.{Task}
 use Rattle.host_core.specs.Core.{IsStanding}
 use Rattle.host_core.specs.Host.{Host, asked}
-use Rattle.host_core.specs.World.{Worker, Seats, World, fresh, worker_at, scanned_at, epoch_of, set_up}
-use Rattle.host_core.specs.WorldEvent.{WorldEvent, IsRoundOver, AreEnabled, step, run_events}
+use Rattle.host_core.specs.World.{Worker, World, fresh, worker_at, scanned_at, epoch_of, set_up}
+use Rattle.host_core.specs.WorldEvent.{WorldEvent, IsRoundOver, AreEnabled, run_events}
 use Rattle.host_core.proofs.EventLaws.{enabled-append, run-append}
-use Rattle.round_order.specs.Turn.{Turn, on_to, clock_behind, served_behind, content_at, content_behind, in_one_order}
-use Rattle.round_order.specs.Told.{IsLevel, AreTold, IsRaised, HasOneOrder, EndsWith, EndsWhole, EndsStopped, RoundStop, joined, list_of, past_of, finishes_from, round_events, whole_events, stop_events, stopped_events, stops_by}
+use Rattle.round_order.specs.Turn.{Turn, on_to, clock_behind, served_behind, content_at, in_one_order}
+use Rattle.round_order.specs.Told.{IsLevel, AreTold, HasOneOrder, EndsWith, EndsWhole, EndsStopped, joined, list_of, finishes_from, round_events, whole_events, stop_events, stopped_events, stops_by}
 use Rattle.round_order.proofs.GoingLaws.{on_to-epoch, on_to-there}
 use Rattle.host_shard.specs.declared.content.Content as code
 use Rattle.host_shard.specs.declared.content.Content.TheVariants.{Vacant}
@@ -35,12 +32,11 @@ use Rattle.shipped_host.specs.declared.settings.Settings.{Settings}
 use Rattle.shipped_host.specs.ShippedHost.{shipped_host}
 use Rattle.host_world.specs.declared.fault.ClockEnd.{ClockEnd}
 use Rattle.host_world.specs.Behind.{IsBehindSetup, with_logs}
-use Rattle.host_world.specs.Ending.{end_at}
 use Rattle.host_world.specs.Places.{place_of}
-use Rattle.host_world.proofs.FrontLaws.{length-before_each, clock_with}
+use Rattle.host_world.proofs.FrontLaws.{length-before_each}
 use Rattle.host_serving.specs.Leading.{first_of, first_end, LeadsAs}
-use Rattle.host_serving.specs.Form.{AreOfRound, AreRolling, AreByWorker, rolling_events}
-use Rattle.host_serving.specs.Standing.{asked_by, first_of_round, HasServedUpTo, EndsRound}
+use Rattle.host_serving.specs.Form.{AreOfRound, AreByWorker}
+use Rattle.host_serving.specs.Standing.{asked_by, first_of_round, EndsRound}
 use Rattle.host_serving.proofs.BeforeLemmas.{rolling_last}
 use Rattle.host_serving.proofs.FormLaws.{round-without}
 use Rattle.host_serving.proofs.LeadingLaws.{run-with, first-with, first_end-append}
@@ -55,9 +51,9 @@ use Rattle.worker_threads.proofs.FilledLemmas.{HaveFive}
 use Rattle.worker_threads.proofs.LeadLemmas.{enabled-without}
 use Rattle.worker_threads.proofs.MakingLemmas.{five}
 use Rattle.worker_threads.proofs.RoundAskedLemmas.{cut-none, are_next, asked_whole}
-use Rattle.worker_threads.proofs.RoundShapeLemmas.{finishes-of, round-of, finishes-newest, run-kept, run-then-kept, AreKept}
+use Rattle.worker_threads.proofs.RoundShapeLemmas.{finishes-of, round-of, finishes-newest, run-kept, run-then-kept}
 use Rattle.worker_threads.proofs.RoundStopLemmas.{by_worker_from, NoneFirst, SomeFirst, first_stop}
-use Rattle.worker_threads.proofs.RoundWorldLemmas.{rows_are, list_is, of_world, clock_left, world_same}
+use Rattle.worker_threads.proofs.RoundWorldLemmas.{rows_are, of_world, clock_left, world_same}
 use Rattle.worker_threads.proofs.ShapeLemmas.{IsOfRound}
 use Rattle.stamp_order.proofs.InOrderLaws.{every-append}
 
@@ -320,10 +316,10 @@ module _ (functions : DigestFunctions) (settings : Settings) (script : List (Lis
             ∙ ext_get_or settings.header.first (replicate (length world.scanned) later.newest) run.scanned
             (length-replicate (length world.scanned) later.newest ∙ sym marks_count)
             (λ i within'.
-                let there : i < length world.scanned = omega (arith, within', length-replicate (length world.scanned) later.newest) in
-                get_or-replicate (length world.scanned) i later.newest settings.header.first there
-                ∙ later_newest ∙ top_is ∙ ap (λ (n : ℕ). settings.header.first + n) (sym ends.ends.phase.0)
-                ∙ sym (ends.over i (omega (arith, there, standing, count, ends.ends.counts.0))).2)
+            let there : i < length world.scanned = omega (arith, within', length-replicate (length world.scanned) later.newest) in
+            get_or-replicate (length world.scanned) i later.newest settings.header.first there
+            ∙ later_newest ∙ top_is ∙ ap (λ (n : ℕ). settings.header.first + n) (sym ends.ends.phase.0)
+            ∙ sym (ends.over i (omega (arith, there, standing, count, ends.ends.counts.0))).2)
 
         quiet_run : AllByRecursion IsOfRound whole
         quiet_run = every-append IsOfRound turn_events (finishes_from 0 (length before.workers))
@@ -381,14 +377,14 @@ module _ (functions : DigestFunctions) (settings : Settings) (script : List (Lis
             (subst (λ (n : ℕ). n < length host.script) (sym later_phase) is.begins.served.within)
             (omega (arith, last, later_phase))
             (λ i within'.
-                let there : i < length world.workers = omega (arith, within', is.count) in (
-                  (is.parts i there).so_far.holds ∙ (is.begins.served.each i there).idle,
-                  (is.parts i there).so_far.stuck ∙ (is.begins.served.each i there).going,
-                  subst (λ (n : ℕ). n ≤ length (asked host i))
-                      (sym ((is.parts i there).so_far.served
-                      ∙ ap (λ (n : ℕ). served_behind n (turns_of (row_at rows i).list)) (sym (of_world functions settings script logs world later each terms after rows is (λ w. w.served) i))))
-                      (done_next i there).2,
-                ))
+            let there : i < length world.workers = omega (arith, within', is.count) in (
+              (is.parts i there).so_far.holds ∙ (is.begins.served.each i there).idle,
+              (is.parts i there).so_far.stuck ∙ (is.begins.served.each i there).going,
+              subst (λ (n : ℕ). n ≤ length (asked host i))
+                  (sym ((is.parts i there).so_far.served
+                  ∙ ap (λ (n : ℕ). served_behind n (turns_of (row_at rows i).list)) (sym (of_world functions settings script logs world later each terms after rows is (λ w. w.served) i))))
+                  (done_next i there).2,
+            ))
             round_over)
 
     -- ---- some stopped
@@ -438,8 +434,8 @@ module _ (functions : DigestFunctions) (settings : Settings) (script : List (Lis
           ∙ ext_get_or settings.header.first (replicate (length world.scanned) noted) halted.scanned
           (length-replicate (length world.scanned) noted ∙ sym ends.ends.counts.2)
           (λ i within'.
-              let there : i < length world.scanned = omega (arith, within', length-replicate (length world.scanned) noted) in
-              get_or-replicate (length world.scanned) i noted settings.header.first there ∙ mark_is i (omega (arith, there, standing)))
+          let there : i < length world.scanned = omega (arith, within', length-replicate (length world.scanned) noted) in
+          get_or-replicate (length world.scanned) i noted settings.header.first there ∙ mark_is i (omega (arith, there, standing)))
 
       flag_run : (i : ℕ) → i < length world.workers → (worker_at host later i).stopped ≡ (worker_at host halted i).stopped
       flag_run i there =

@@ -1,8 +1,6 @@
 -- What a round asks of a worker, as the script has it: what was done of it was next, and then this is left.
-use Rattle.std.proofs.Common.{◌≡◌, ℕ, zero, suc, ◌+◌, ◌-◌, ◌<◌, ◌≤◌, Bool, true, false, List, [], ◌∷◌, ◌++◌, map, length, take, drop, get_or, slice_get, Option, Some, None, if◌then◌else◌, refl, sym, ◌∙◌, ap, subst, take_all, append_assoc, append-nil, arith}
-use Rattle.std.proofs.Math.ListN.{get_or-map}
+use Rattle.std.proofs.Common.{◌≡◌, ℕ, zero, suc, ◌+◌, ◌-◌, ◌<◌, ◌≤◌, Bool, true, false, List, [], ◌∷◌, ◌++◌, map, length, take, drop, get_or, slice_get, Option, Some, None, if◌then◌else◌, refl, sym, ◌∙◌, ap, take_all, append_assoc, append-nil, arith}
 use Rattle.std.proofs.lemmas.List.{length-map}
-use Rattle.lamport_clocks.specs.Reading.{Reading}
 use Rattle.record_hash.specs.Functions.{DigestFunctions}
 use Rattle.record_text.specs.declared.request.Request.{Request}
 use Rattle.script_text.specs.declared.task.Task.{Task}
@@ -13,7 +11,6 @@ use Rattle.round_order.specs.Turn.{IsAsked, served_more, served_behind}
 use Rattle.host_epochs.specs.declared.told.Entry.{Entry}
 use Rattle.shipped_host.specs.declared.settings.Settings.{Settings}
 use Rattle.shipped_host.specs.ShippedHost.{turn_of, shipped_host}
-use Rattle.host_serving.specs.Standing.{turns_of}
 use Rattle.table_order.specs.Rounds as told
 use Rattle.round_workers.specs.Parts.{AreDone, IsNext}
 use Rattle.worker_threads.specs.Parts.{asked_of}

@@ -1,5 +1,5 @@
 -- The stops of a round's rows, and the stopped workers: the first of the ones is the first of the others.
-use Rattle.std.proofs.Common.{◌≡◌, ◌⊎◌, inl, inr, ℕ, zero, suc, ◌+◌, ◌<◌, ◌≤◌, Bool, true, false, List, [], ◌∷◌, ◌++◌, length, get_or, Option, Some, None, is_some, if◌then◌else◌, refl, sym, ◌∙◌, ap, true≢false, arith}
+use Rattle.std.proofs.Common.{◌≡◌, ◌⊎◌, inl, inr, ℕ, zero, suc, ◌+◌, ◌<◌, ◌≤◌, Bool, true, false, List, [], ◌∷◌, ◌++◌, length, get_or, Option, Some, None, is_some, if◌then◌else◌, refl, ◌∙◌, ap, arith}
 use Rattle.host_core.specs.World.{Worker}
 use Rattle.round_order.specs.Told.{RoundStop}
 use Rattle.host_epochs.specs.declared.told.Stop.{Stop}

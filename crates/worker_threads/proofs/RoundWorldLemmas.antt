@@ -1,5 +1,5 @@
 -- The world that the code puts together behind a round is the one that the round's events lead to.
-use Rattle.std.proofs.Common.{◌≡◌, ℕ, ◌+◌, ◌/◌, ◌%◌, ◌<◌, Bool, List, [], ◌++◌, map, length, get_or, sym, ◌∙◌, ap, append_assoc, arith}
+use Rattle.std.proofs.Common.{◌≡◌, ℕ, ◌/◌, ◌%◌, ◌<◌, List, [], ◌++◌, map, length, get_or, sym, ◌∙◌, ap, append_assoc, arith}
 use Rattle.std.proofs.Math.ListN.{get_or-map}
 use Rattle.std.proofs.lemmas.List.{length-map, append_cancel_left, ext_get_or}
 use Rattle.lamport_clocks.specs.Reading.{Reading}

@@ -1,5 +1,5 @@
 -- A phase that all workers served at once: where its requests were served, what the table tells of it, and where clocks ended.
-use Rattle.std.specs.Prelude.{◌≡◌, ℕ, suc, ◌<◌, Bool, true, All, List, [], ◌∷◌, length, map, get_or, Option, Some, None, if◌then◌else◌}
+use Rattle.std.specs.Prelude.{◌≡◌, ℕ, suc, ◌<◌, Bool, true, All, List, [], ◌∷◌, length, map, Option, Some, None, if◌then◌else◌}
 use Rattle.record_text.specs.declared.request.Request.{Request}
 use Rattle.script_text.specs.declared.task.Task.{Task}
 use Rattle.host_core.specs.Host.{Host}

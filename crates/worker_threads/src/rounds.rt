@@ -197,7 +197,13 @@ pub fn serve_round_at_once<R: Threads + Wait + Sync, D: Digests + Sync, G: Gate 
     *runs = left.runs;
     *parcels = left.parcels;
     world.take_back(epochs.close(left.hands));
-    note_round(world, settings.rolling, header.first, left.workers.as_slice(), &end);
+    note_round(
+        world,
+        settings.rolling,
+        header.first,
+        left.workers.as_slice(),
+        &end,
+    );
     world.take_workers(left.workers);
     Ok(end)
 }

@@ -79,7 +79,12 @@ pub(crate) fn turns_by_worker<'a, D: Digests>(
 {
     let mut turns = no_turns(alloc, workers)?;
     for number in 0..phases {
-        add_turns(world, requests.phase(first + number), number as u64, &mut turns)?;
+        add_turns(
+            world,
+            requests.phase(first + number),
+            number as u64,
+            &mut turns,
+        )?;
     }
     Ok(turns)
 }

@@ -1,4 +1,4 @@
-use Rattle.std.proofs.Common.{◌≡◌, inl, map, sym, subst, length, arith}
+use Rattle.std.proofs.Common.{inl, map, sym, subst, arith}
 use Rattle.host_core.specs.World.{World}
 use Rattle.host_shard.specs.Content.{Content}
 use Rattle.host_table.specs.Services.{row_of}
@@ -29,16 +29,16 @@ returns c = record {
       (c.phases_at_once_are_lists_of_events.ensures.leads functions settings script logs world later (phase_of terms) after (map row_of rows) digests each behind plain
       (phase_served functions settings script logs world later each terms after rows is even plain)))
       (λ rolling.
-          let stands : (w : World Content) → IsBehindSetup functions settings script w → IsStanding (PlacesMirror functions settings) host w = λ w. c.worlds_are_as_promised.ensures.standing functions settings script w digests in
-          let of_round = table functions settings script logs world later each terms after rows is digests behind rolling stands even in
-          leads_rolling functions settings script logs world later each terms after rows is even digests behind rolling stands
-          (c.tables_tell_of_a_round.ensures.told functions settings script before terms after rows of_round is.closed)
-          (c.a_round_of_a_table_has_one_order.ensures.order functions settings script before terms after rows of_round is.closed)
-          (c.a_round_of_a_table_has_one_order.ensures.contents functions settings script before terms after rows of_round is.closed)
-          (c.a_round_of_a_table_has_one_order.ensures.whole functions settings script before terms after rows of_round is.closed rolling)
-          (c.a_round_of_a_table_has_one_order.ensures.order_to functions settings script before terms after rows of_round is.closed rolling)
-          (c.a_round_of_a_table_has_one_order.ensures.stopped functions settings script before terms after rows of_round is.closed rolling)
-          (c.tables_tell_of_a_round.ensures.flags rows));
+      let stands : (w : World Content) → IsBehindSetup functions settings script w → IsStanding (PlacesMirror functions settings) host w = λ w. c.worlds_are_as_promised.ensures.standing functions settings script w digests in
+      let of_round = table functions settings script logs world later each terms after rows is digests behind rolling stands even in
+      leads_rolling functions settings script logs world later each terms after rows is even digests behind rolling stands
+      (c.tables_tell_of_a_round.ensures.told functions settings script before terms after rows of_round is.closed)
+      (c.a_round_of_a_table_has_one_order.ensures.order functions settings script before terms after rows of_round is.closed)
+      (c.a_round_of_a_table_has_one_order.ensures.contents functions settings script before terms after rows of_round is.closed)
+      (c.a_round_of_a_table_has_one_order.ensures.whole functions settings script before terms after rows of_round is.closed rolling)
+      (c.a_round_of_a_table_has_one_order.ensures.order_to functions settings script before terms after rows of_round is.closed rolling)
+      (c.a_round_of_a_table_has_one_order.ensures.stopped functions settings script before terms after rows of_round is.closed rolling)
+      (c.tables_tell_of_a_round.ensures.flags rows));
   done = λ functions settings script logs world later terms after rows digests each behind is.
       let before : World Content = with_logs logs world in
       let host = shipped_host functions settings script in
@@ -51,14 +51,14 @@ returns c = record {
       (λ plain. inl (c.phases_at_once_are_lists_of_events.ensures.served functions settings script world later (phase_of terms) after (map row_of rows) plain
       (phase_served functions settings script logs world later each terms after rows is even plain)))
       (λ rolling.
-          let stands : (w : World Content) → IsBehindSetup functions settings script w → IsStanding (PlacesMirror functions settings) host w = λ w. c.worlds_are_as_promised.ensures.standing functions settings script w digests in
-          let of_round = table functions settings script logs world later each terms after rows is digests behind rolling stands even in
-          ends_rolling functions settings script logs world later each terms after rows is even digests behind rolling stands
-          (c.tables_tell_of_a_round.ensures.told functions settings script before terms after rows of_round is.closed)
-          (c.a_round_of_a_table_has_one_order.ensures.order functions settings script before terms after rows of_round is.closed)
-          (c.a_round_of_a_table_has_one_order.ensures.contents functions settings script before terms after rows of_round is.closed)
-          (c.a_round_of_a_table_has_one_order.ensures.whole functions settings script before terms after rows of_round is.closed rolling)
-          (c.a_round_of_a_table_has_one_order.ensures.order_to functions settings script before terms after rows of_round is.closed rolling)
-          (c.a_round_of_a_table_has_one_order.ensures.stopped functions settings script before terms after rows of_round is.closed rolling)
-          (c.tables_tell_of_a_round.ensures.flags rows));
+      let stands : (w : World Content) → IsBehindSetup functions settings script w → IsStanding (PlacesMirror functions settings) host w = λ w. c.worlds_are_as_promised.ensures.standing functions settings script w digests in
+      let of_round = table functions settings script logs world later each terms after rows is digests behind rolling stands even in
+      ends_rolling functions settings script logs world later each terms after rows is even digests behind rolling stands
+      (c.tables_tell_of_a_round.ensures.told functions settings script before terms after rows of_round is.closed)
+      (c.a_round_of_a_table_has_one_order.ensures.order functions settings script before terms after rows of_round is.closed)
+      (c.a_round_of_a_table_has_one_order.ensures.contents functions settings script before terms after rows of_round is.closed)
+      (c.a_round_of_a_table_has_one_order.ensures.whole functions settings script before terms after rows of_round is.closed rolling)
+      (c.a_round_of_a_table_has_one_order.ensures.order_to functions settings script before terms after rows of_round is.closed rolling)
+      (c.a_round_of_a_table_has_one_order.ensures.stopped functions settings script before terms after rows of_round is.closed rolling)
+      (c.tables_tell_of_a_round.ensures.flags rows));
 }

@@ -1,4 +1,4 @@
-use Rattle.std.proofs.Common.{◌≡◌, ℕ, sym, ◌∙◌, ap, subst, arith}
+use Rattle.std.proofs.Common.{◌≡◌, ℕ, sym, ◌∙◌, subst, arith}
 use Rattle.host_core.specs.World.{World}
 use Rattle.host_epochs.specs.Terms.{IsMaking, epoch_in}
 use Rattle.host_shard.specs.Content.{Content}

@@ -1,4 +1,4 @@
-use Rattle.std.proofs.Common.{◌≡◌, ℕ, sym, ◌∙◌, ap, subst, arith}
+use Rattle.std.proofs.Common.{◌≡◌, sym, ◌∙◌, ap, subst, arith}
 use Rattle.lamport_clocks.specs.Reading.{Reading}
 use Rattle.host_core.specs.World.{World}
 use Rattle.host_epochs.specs.Terms.{IsClockOf, first_epoch}

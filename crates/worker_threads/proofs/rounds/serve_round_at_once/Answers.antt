@@ -1,4 +1,4 @@
-use Rattle.std.proofs.Common.{◌≡◌, ℕ, suc, ◌+◌, ◌-◌, ◌*◌, ◌<◌, ◌≤◌, Bool, true, false, List, [], map, length, get_or, Option, if◌then◌else◌, refl, sym, ◌∙◌, ap, subst, arith}
+use Rattle.std.proofs.Common.{◌≡◌, ℕ, suc, ◌-◌, ◌*◌, ◌<◌, ◌≤◌, List, [], map, length, get_or, sym, ◌∙◌, ap, subst, arith}
 use Rattle.std.proofs.lemmas.List.{length-map}
 use Rattle.std.specs.List.{AllByRecursion}
 use Rattle.lamport_clocks.specs.Header.{IsHeader}
@@ -16,7 +16,7 @@ use Rattle.host_shard.specs.Content.{Content}
 use Rattle.host_shard.specs.Shown.{shown_content}
 use Rattle.host_epochs.specs.Hands.{row_of}
 use Rattle.host_epochs.specs.Table.{table, terms}
-use Rattle.host_epochs.specs.Terms.{Terms, IsMaking, epoch_in, first_epoch}
+use Rattle.host_epochs.specs.Terms.{Terms, IsMaking, first_epoch}
 use Rattle.shipped_host.specs.declared.settings.Settings.{Settings}
 use Rattle.shipped_host.specs.ShippedHost.{turn_of}
 use Rattle.host_world.specs.Behind.{host_of, with_logs}
