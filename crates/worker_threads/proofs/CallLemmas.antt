@@ -1,5 +1,5 @@
 -- What the code reads and writes of a phase, in the machine's words.
-use Rattle.std.proofs.Common.{◌≡◌, ℕ, zero, suc, ◌^◌, ◌<◌, ◌≤◌, ◌==◌, Bool, true, false, List, [], ◌∷◌, ◌++◌, map, replicate, length, get_or, Option, None, Result, Ok, if◌then◌else◌, refl, sym, ◌∙◌, ap, subst, All, arith}
+use Rattle.std.proofs.Common.{◌≡◌, ℕ, zero, suc, ◌+◌, ◌-◌, ◌^◌, ◌<◌, ◌≤◌, ◌==◌, Bool, true, false, List, [], ◌∷◌, ◌++◌, map, replicate, length, get_or, Option, None, Result, Ok, if◌then◌else◌, refl, sym, ◌∙◌, ap, subst, All, arith}
 use Rattle.std.specs.List.{AllByRecursion}
 use Rattle.std.proofs.Math.ListN.{get_or-map as get_or-mapped}
 use Rattle.std.proofs.lemmas.List.{get_or-map, length-map, length-replicate}
@@ -12,6 +12,7 @@ use Rattle.record_text.specs.Longest.{longest_of}
 use Rattle.record_text.specs.Value.{IsBlob}
 use Rattle.record_text.specs.Tree.{wide_of}
 use Rattle.script_text.specs.declared.task.Task.{Task}
+use Rattle.stamp_order.proofs.InOrderLaws.{every-append, every-weaker}
 use Rattle.atomic_table.specs.Seated.{TableId}
 use Rattle.host_core.specs.Host.{Host}
 use Rattle.host_core.specs.World.{Seats, Worker, World, fresh, worker_at, set_up}
@@ -25,11 +26,6 @@ use Rattle.host_epochs.specs.Calls.{AreAll, IsNew}
 use Rattle.host_epochs.specs.Hands as hands
 use Rattle.host_epochs.specs.Round as rounds
 use Rattle.host_epochs.specs.Terms as epochs
-use Rattle.host_table.specs.declared.views.Row.{Row}
-use Rattle.host_table.specs.Phase.{row_at}
-use Rattle.host_table.specs.Services.{row_of}
-use Rattle.host_table.specs.Terms.{IsClockOf, IsPlaceOf, phase_of}
-use Rattle.host_table.proofs.PhaseLaws.{clock_back}
 use Rattle.host_world.specs.declared.fault.ClockEnd.{ClockEnd}
 use Rattle.shipped_host.specs.declared.settings.Settings.{Settings}
 use Rattle.host_world.specs.declared.worker.Worker as code
@@ -41,18 +37,17 @@ use Rattle.host_world.specs.Shown.{shown_world, digests_of, requests_of}
 use Rattle.shipped_host.specs.ShippedHost.{turn_of, shipped_host}
 use Rattle.host_world.specs.Workers.{shown_worker}
 use Rattle.host_serving.specs.Leading.{Leads}
-use Rattle.host_serving.specs.Standing.{turns_of, IsServedUpTo, NoneStopped}
+use Rattle.host_serving.specs.Standing.{turns_of, BeginsRound, NoneStopped}
+use Rattle.host_serving.proofs.BeforeLaws.{rolling_last}
 use Rattle.host_serving.proofs.LeadingLaws.{leads-with}
-use Rattle.table_order.specs.Phases.{AreTermsOf}
+use Rattle.table_order.specs.Rounds.{AreTermsOf}
 use Rattle.round_workers.specs.declared.turn.Turn.{Turn}
-use Rattle.round_workers.specs.Parts.{asked_in, HaveTurns}
-use Rattle.round_workers.specs.Parts as parts
-use Rattle.worker_threads.specs.Parts.{asked_of, HasDone}
-use Rattle.worker_threads.specs.Phase.{numbered, AreAsked, IsPlaceFor, IsServedAtOnce}
+use Rattle.round_workers.specs.Parts.{asked_in, HasDone, HaveTurns}
+use Rattle.worker_threads.specs.Parts.{asked_of}
+use Rattle.worker_threads.specs.Phase.{numbered, first_stopped, IsPlaceFor}
+use Rattle.worker_threads.specs.Round.{asked_in_round, asked_up_to, begun_at, newest_of, noted_of, AreAskedSo, IsRoundServed, NotesEpochs}
 use Rattle.worker_threads.specs.Participants.{AreToServe, HaveServed}
 use Rattle.worker_threads.proofs.FilledLemmas.{filled_again, filled_count}
-use Rattle.worker_threads.proofs.PlainLemmas.{has_done_plain}
-use Rattle.host_table.proofs.RoundLaws.{round_phase, row_at_phase}
 
 -- ---- what is asked
 
@@ -105,24 +100,36 @@ workers_in functions settings script phase count all =
     go [] below = tt
     go (task ∷ tasks) below = (below.0, go tasks below.1)
 
+-- what so many phases ask is of one of them, with keys in range
+up_to_below : (limit first i count : ℕ) (script : List (List Task)) → ((phase : ℕ) → AllByRecursion (λ (t : Task). t.request.key < limit) (get_or script phase []))
+    → AllByRecursion (λ (turn : ℕ × Request). (turn.0 < count) × (turn.1.key < limit)) (asked_up_to script first i count)
+up_to_below limit first i zero script keys = tt
+up_to_below limit first i (suc count) script keys =
+    every-append (λ (turn : ℕ × Request). (turn.0 < suc count) × (turn.1.key < limit)) (asked_up_to script first i count)
+    (numbered count (asked_of i (get_or script (first + count) [])))
+    (every-weaker (λ (turn : ℕ × Request). (turn.0 < count) × (turn.1.key < limit)) (λ (turn : ℕ × Request). (turn.0 < suc count) × (turn.1.key < limit))
+    (λ turn is. (let less = is.0 in omega (arith, less), is.1)) (asked_up_to script first i count) (up_to_below limit first i count script keys))
+    (every-weaker (λ (turn : ℕ × Request). (turn.0 ≡ count) × (turn.1.key < limit)) (λ (turn : ℕ × Request). (turn.0 < suc count) × (turn.1.key < limit))
+    (λ turn is. (let same = is.0 in omega (arith, same), is.1)) (numbered count (asked_of i (get_or script (first + count) [])))
+    (numbered_below limit count (asked_of i (get_or script (first + count) [])) (asked_below limit i (get_or script (first + count) []) (keys (first + count)))))
+
 -- The places of the turns are those of their keys, and their phase is one of the round.
-pub have_turns : (host : Host Content Request) (world : World Content) (script : List (List Task)) (phase : ℕ) (terms : epochs.Terms) (turns : List (List Turn))
-    → AreInRange host.header script → length turns ≡ terms.workers → phase ≤ terms.more → AreAsked host world phase (get_or script world.phase []) turns
-    → ((place : ℕ) (request : Request) → request.key < 2 ^ key_bits (wide_of host.header) → IsPlaceFor host world request place → IsPlaceOf (phase_of terms) place request.key)
+pub have_turns : (host : Host Content Request) (world : World Content) (script : List (List Task)) (first count : ℕ) (terms : epochs.Terms) (turns : List (List Turn))
+    → AreInRange host.header script → length turns ≡ terms.workers → count ≤ suc terms.more → AreAskedSo host world (λ i. asked_up_to script first i count) turns
+    → ((place : ℕ) (request : Request) → request.key < 2 ^ key_bits (wide_of host.header) → IsPlaceFor host world request place → epochs.IsPlaceOf terms place request.key)
     → HaveTurns terms turns
-have_turns host world script phase terms turns keys many within are owned = record {
+have_turns host world script first count terms turns keys many within are owned = record {
   many = many;
   places = λ i d there k turn below.
       let own = get_or turns i d in
       let asked = are i d there in
       let limit = 2 ^ key_bits (wide_of host.header) in
-      let small = asked_below limit i (get_or script world.phase []) (keys_in host.header script world.phase keys) in
-      let has = turn_has (λ (t : ℕ × Request). (t.0 ≡ phase) × (t.1.key < limit)) own k turn
-      (subst (AllByRecursion (λ (t : ℕ × Request). (t.0 ≡ phase) × (t.1.key < limit))) (sym asked.requests)
-      (numbered_below limit phase (asked_of i (get_or script world.phase [])) small)) below in
+      let has = turn_has (λ (t : ℕ × Request). (t.0 < count) × (t.1.key < limit)) own k turn
+      (subst (AllByRecursion (λ (t : ℕ × Request). (t.0 < count) × (t.1.key < limit))) (sym asked.requests)
+      (up_to_below limit first i count script (λ phase. keys_in host.header script phase keys))) below in
       record {
         at = owned (get_or own k turn).place (get_or own k turn).task.request has.1 (asked.places k turn below);
-        phase = subst (λ (n : ℕ). n ≤ terms.more) (sym has.0) within;
+        phase = let less = has.0 in omega (arith, less, within);
       };
 }
 
@@ -142,16 +149,38 @@ module _ (world : World Content) where
       ap (λ (w : World Content). length (all_contents w.shards)) (two ∙ ap (λ (w : World Content). record w { workers = [] }) one)
       ∙ filled_count world.shards (replicate (length (all_contents world.shards)) vacant) vacant_count
 
-  pub later_is : (lent left taken later : World Content) (after : List Content) (workers : List Worker) → lent ≡ lending world → left ≡ record lent { workers = [] }
-      → taken ≡ record left { shards = filled left.shards after } → later ≡ record taken { workers = workers }
-      → later ≡ record world { shards = filled world.shards after; workers = workers }
-  later_is lent left taken later after workers one two three four =
-      four
-      ∙ ap (λ (w : World Content). record w { workers = workers }) three
-      ∙ ap (λ (w : World Content). record w { shards = filled w.shards after; workers = workers }) two
-      ∙ ap (λ (w : World Content). record w { shards = filled w.shards after; workers = workers }) one
-      ∙ ap (λ (shards : List (Seats Content)). record world { shards = shards; workers = workers })
-      (filled_again world.shards (replicate (length (all_contents world.shards)) vacant) after vacant_count)
+  module _ (lent left taken noted later : World Content) (after : List Content) (workers : List Worker) (one : lent ≡ lending world) (two : left ≡ record lent { workers = [] })
+      (three : taken ≡ record left { shards = filled left.shards after })
+      (kept : noted ≡ record taken { newest = noted.newest; scanned = noted.scanned }) (four : later ≡ record noted { workers = workers }) where
+    pub taken_is : taken ≡ record world { shards = filled world.shards after; workers = [] }
+    taken_is =
+        three
+        ∙ ap (λ (w : World Content). record w { shards = filled w.shards after }) two
+        ∙ ap (λ (w : World Content). record w { shards = filled w.shards after; workers = [] }) one
+        ∙ ap (λ (shards : List (Seats Content)). record world { shards = shards; workers = [] })
+        (filled_again world.shards (replicate (length (all_contents world.shards)) vacant) after vacant_count)
+
+    pub later_is : later ≡ record world { shards = filled world.shards after; workers = workers; newest = later.newest; scanned = later.scanned }
+    later_is =
+        four
+        ∙ ap (λ (w : World Content). record w { workers = workers }) kept
+        ∙ ap (λ (w : World Content). record w { workers = workers; newest = noted.newest; scanned = noted.scanned }) taken_is
+        ∙ (λ k. record world {
+          shards = filled world.shards after;
+          workers = workers;
+          newest = sym (ap (λ (w : World Content). w.newest) four) k;
+          scanned = sym (ap (λ (w : World Content). w.scanned) four) k;
+        })
+
+-- what stays is noted as it was
+pub noted_plain : (taken noted : World Content) → noted ≡ taken → noted ≡ record taken { newest = noted.newest; scanned = noted.scanned }
+noted_plain taken noted same =
+    same ∙ (λ k. record taken { newest = sym (ap (λ (w : World Content). w.newest) same) k; scanned = sym (ap (λ (w : World Content). w.scanned) same) k })
+
+pub noted_rolling : (taken noted : World Content) (newest : ℕ) (scanned : List ℕ) → noted ≡ record taken { newest = newest; scanned = scanned }
+    → noted ≡ record taken { newest = noted.newest; scanned = noted.scanned }
+noted_rolling taken noted newest scanned same =
+    same ∙ (λ k. record taken { newest = sym (ap (λ (w : World Content). w.newest) same) k; scanned = sym (ap (λ (w : World Content). w.scanned) same) k })
 
 -- ---- the workers
 
@@ -176,35 +205,36 @@ some_of (worker ∷ workers) i there = worker
 
 -- ---- ready to serve
 
--- The workers are to serve, where their clocks are of the table.
+-- The workers are to serve, where their clocks are of the table, in the epoch of its making.
 pub to_serve : (host : Host Content Request) (world : World Content) (terms : epochs.Terms) (table : TableId) (workers : List code.Worker) (hs : List Hand) (number : ℕ)
-    → terms.more ≡ 0 → map shown_worker workers ≡ world.workers → terms.workers ≡ number → length world.workers ≡ number → AreAll table number hs → All IsNew hs
-    → NoneStopped host world → ((i : ℕ) → i < length world.workers → IsClockOf (phase_of terms) (worker_at host world i).clock) → AreToServe terms table workers hs
-to_serve host world terms table workers hs number one same told count all new running clocks = record {
+    → map shown_worker workers ≡ world.workers → terms.workers ≡ number → length world.workers ≡ number → AreAll table number hs → All IsNew hs
+    → NoneStopped host world
+    → ((i : ℕ) → i < length world.workers → epochs.IsClockOf terms (worker_at host world i).clock × ((worker_at host world i).clock.at.epoch ≡ epochs.first_epoch terms))
+    → AreToServe terms table workers hs
+to_serve host world terms table workers hs number same told count all new running clocks = record {
   all = subst (λ (n : ℕ). AreAll table n hs) (sym told) all;
   count = shown_count workers world.workers same ∙ count ∙ sym told;
   new = new;
   running = shown_all (λ w. w.stopped ≡ false) workers world.workers (fresh host.header) same running;
-  clocks = shown_all (λ w. epochs.IsClockOf terms w.clock) workers world.workers (fresh host.header) same
-      (λ i there. clock_back terms one (worker_at host world i).clock (clocks i there));
-  epochs = shown_all (λ w. w.clock.at.epoch ≡ epochs.first_epoch terms) workers world.workers (fresh host.header) same (λ i there. (clocks i there).epoch);
+  clocks = shown_all (λ w. epochs.IsClockOf terms w.clock) workers world.workers (fresh host.header) same (λ i there. (clocks i there).0);
+  epochs = shown_all (λ w. w.clock.at.epoch ≡ epochs.first_epoch terms) workers world.workers (fresh host.header) same (λ i there. (clocks i there).1);
 }
 
 -- ---- served
 
--- What was served at the table is a phase served at once.
+-- What was served at the table is a round served at once.
 pub served_at_once : (functions : DigestFunctions) (settings : Settings) (script : List (List Task)) (world later : World Content) (terms : epochs.Terms) (table : TableId)
-    (after : List content.Content) (workers new : List code.Worker) (hs : List Hand) (turns : List (List Turn)) → terms.more ≡ 0
-    → IsServedUpTo (shipped_host functions settings script) world world.phase 0 → NoneStopped (shipped_host functions settings script) world
-    → AreTermsOf (shipped_host functions settings script) settings.absent world (phase_of terms)
-    → ((i : ℕ) → i < length world.workers → IsClockOf (phase_of terms) (worker_at (shipped_host functions settings script) world i).clock)
+    (after : List content.Content) (workers new : List code.Worker) (hs : List Hand) (turns : List (List Turn))
+    → BeginsRound (shipped_host functions settings script) world → NoneStopped (shipped_host functions settings script) world
+    → AreTermsOf (shipped_host functions settings script) settings.absent world terms
+    → epochs.first_epoch terms ≡ begun_at (shipped_host functions settings script) world
     → rounds.IsRound terms after (map hands.row_of hs)
     → map shown_worker workers ≡ world.workers → length turns ≡ length workers
-    → AreAsked (shipped_host functions settings script) world 0 (get_or script world.phase []) turns → HaveServed terms table turns workers new hs
-    → later ≡ record world { shards = filled world.shards (map shown_content after); workers = map shown_worker new }
-    → IsServedAtOnce (shipped_host functions settings script) settings.absent (get_or script world.phase []) world later (phase_of terms) after
-    (map row_of (map hands.row_of hs))
-served_at_once functions settings script world later terms table after workers new hs turns one begins running made clocks closed same many are served is =
+    → AreAskedSo (shipped_host functions settings script) world (asked_in_round (shipped_host functions settings script) script world) turns
+    → HaveServed terms table turns workers new hs → NotesEpochs (shipped_host functions settings script) world later
+    → later ≡ record world { shards = filled world.shards (map shown_content after); workers = map shown_worker new; newest = later.newest; scanned = later.scanned }
+    → IsRoundServed (shipped_host functions settings script) settings.absent script world later terms after (map hands.row_of hs)
+served_at_once functions settings script world later terms table after workers new hs turns begins running made epoch closed same many are served notes is =
     let host = shipped_host functions settings script in
     let rows = map hands.row_of hs in
     let new_are : map shown_worker new ≡ later.workers = sym (ap (λ (w : World Content). w.workers) is) in
@@ -213,25 +243,27 @@ served_at_once functions settings script world later terms table after workers n
       begins = begins;
       running = running;
       made = made;
-      closed = round_phase terms one after rows closed;
+      epoch = epoch;
+      closed = closed;
       count = sym (shown_count new later.workers new_are) ∙ served.count ∙ count;
       parts = λ i there.
           let within : i < length workers = omega (arith, there, count) in
           let some = some_of workers i within in
-          let tasks = get_or script world.phase [] in
           let old_is = shown_at workers world.workers same i some (fresh settings.header) within in
           let new_is = shown_at new later.workers new_are i some (fresh settings.header) (omega (arith, within, served.count)) in
-          let known : i < terms.workers = (let told = made.workers in omega (arith, there, told)) in
-          let part = subst (λ (asks : List (ℕ × Request)). parts.HasDone (epochs.first_epoch terms) terms.more asks (rounds.row_at rows i)
+          let part = subst (λ (asks : List (ℕ × Request)). HasDone (epochs.first_epoch terms) terms.more asks (rounds.row_at rows i)
           (shown_worker (get_or workers i some)) (shown_worker (get_or new i some)))
           (are i [] (omega (arith, within, many))).requests (served.parts i some within) in
-          let here : (shown_worker (get_or workers i some)).clock.at.epoch ≡ epochs.first_epoch terms = ap (λ (w : Worker). w.clock.at.epoch) (sym old_is) ∙ (clocks i there).epoch in
-          subst (λ (w : Worker). HasDone (asked_of i tasks) (row_at (map row_of rows) i) (worker_at host world i) w) (sym new_is)
-          (subst (λ (w : Worker). HasDone (asked_of i tasks) (row_at (map row_of rows) i) w (shown_worker (get_or new i some))) (sym old_is)
-          (subst (λ (row : Row). HasDone (asked_of i tasks) row (shown_worker (get_or workers i some)) (shown_worker (get_or new i some))) (sym (row_at_phase rows i))
-          (has_done_plain terms one i (asked_of i tasks) (rounds.row_at rows i) (shown_worker (get_or workers i some)) (shown_worker (get_or new i some))
-          (closed.own i known) here part)));
-      is = is ∙ ap (λ (ws : List Worker). record world { shards = filled world.shards (map shown_content after); workers = ws }) new_are;
+          let asks = asked_in_round host script world i in
+          subst (λ (w : Worker). HasDone (epochs.first_epoch terms) terms.more asks (rounds.row_at rows i) (worker_at host world i) w) (sym new_is)
+          (subst (λ (w : Worker). HasDone (epochs.first_epoch terms) terms.more asks (rounds.row_at rows i) w (shown_worker (get_or new i some))) (sym old_is) part);
+      notes = notes;
+      is = is ∙ ap (λ (ws : List Worker). record world {
+        shards = filled world.shards (map shown_content after);
+        workers = ws;
+        newest = later.newest;
+        scanned = later.scanned;
+      }) new_are;
     }
 
 -- ---- what goes on
@@ -277,3 +309,60 @@ hosts_then a b d first second = record {
 -- what is answered
 pub no_end : {X E : Type 0} (end : Option X) → ◌≡◌ {A = Result (Option X) E} (Ok end) (Ok None) → end ≡ None
 no_end end is = cc
+
+-- ---- the phases of a round
+
+pub first_is : (rolling r : Bool) (phase at first : ℕ) → first ≡ (if r then 0 else at) → r ≡ rolling → at ≡ phase → first ≡ (if rolling then 0 else phase)
+first_is rolling r phase at first is same here = is ∙ (λ k. if same k then 0 else here k)
+
+pub first_within : (rolling : Bool) (phase : ℕ) → (if rolling then 0 else phase) ≤ phase
+first_within true phase = omega arith
+first_within false phase = omega arith
+
+pub phases_are : (rolling r : Bool) (phase count most phases : ℕ) → phases ≡ (if r then count else 1) → r ≡ rolling → count ≡ most → phase < most → (rolling ≡ true → most ≤ suc phase)
+    → phases ≡ suc (phase - (if rolling then 0 else phase))
+phases_are rolling r phase count most phases is same seen there last = go rolling (is ∙ ap (λ (b : Bool). if b then count else 1) same) last
+  where
+    go : (b : Bool) → phases ≡ (if b then count else 1) → (b ≡ true → most ≤ suc phase) → phases ≡ suc (phase - (if b then 0 else phase))
+    go true many end = let all = end refl in omega (arith, many, seen, there, all)
+    go false one end = omega (arith, one)
+
+pub phases_there : (rolling : Bool) (phase most : ℕ) → phase < most → (if rolling then 0 else phase) + suc (phase - (if rolling then 0 else phase)) ≤ most
+phases_there true phase most there = omega (arith, there)
+phases_there false phase most there = omega (arith, there)
+
+-- only a rolling host's round has more than one
+pub rolls : (rolling : Bool) (phase more : ℕ) → suc more ≡ suc (phase - (if rolling then 0 else phase)) → 0 < more → rolling ≡ true
+rolls true phase more is some = refl
+rolls false phase more is some = absurd (omega (arith, is, some))
+
+-- The script of a rolling host ends with the world's phase.
+pub last_phase : (functions : DigestFunctions) (settings : Settings) (script : List (List Task)) (logs : List (List Command)) (world : World Content)
+    → IsBehindSetup functions settings script (with_logs logs world) → settings.rolling ≡ true → length script ≤ suc world.phase
+last_phase functions settings script logs world behind rolling =
+    let host = shipped_host functions settings script in
+    let last = subst (λ (w : World Content). length host.script ≤ suc w.phase) (sym behind.is) (rolling_last host rolling behind.events) in
+    let many = length-map script (λ (tasks : List Task). map turn_of tasks) in
+    omega (arith, last, many)
+
+-- ---- what was noted
+
+-- What was noted behind a round, as the later world has it.
+pub notes_are : (host : Host Content Request) (world taken noted later : World Content) (r : Bool) (first : ℕ) (workers : List Worker) (end : Option ClockEnd)
+    → r ≡ host.rolling → first ≡ host.header.first → taken.newest ≡ world.newest → taken.scanned ≡ world.scanned
+    → (r ≡ false → noted ≡ taken)
+    → (r ≡ true → noted ≡ record taken { newest = newest_of first workers; scanned = replicate (length taken.scanned) (noted_of end first (newest_of first workers)) })
+    → later.newest ≡ noted.newest → later.scanned ≡ noted.scanned → workers ≡ later.workers → end ≡ first_stopped 0 later.workers
+    → NotesEpochs host world later
+notes_are host world taken noted later r first workers end mode at newest scanned plain rolling later_newest later_scanned are ended = record {
+  plain = λ is. (
+    later_newest ∙ ap (λ (w : World Content). w.newest) (plain (mode ∙ is)) ∙ newest,
+    later_scanned ∙ ap (λ (w : World Content). w.scanned) (plain (mode ∙ is)) ∙ scanned,
+  );
+  newest = λ is. raw is ∙ (λ k. newest_of (at k) (are k));
+  scanned = λ is. later_scanned ∙ ap (λ (w : World Content). w.scanned) (rolling (mode ∙ is))
+      ∙ (λ k. replicate (length (scanned k)) (noted_of (ended k) (at k) (sym (raw is) k)));
+}
+  where
+    raw : host.rolling ≡ true → later.newest ≡ newest_of first workers
+    raw is = later_newest ∙ ap (λ (w : World Content). w.newest) (rolling (mode ∙ is))

@@ -42,7 +42,7 @@ use Rattle.worker_threads.proofs.StopLemmas.{NoneFirst, SomeFirst, first_stop, r
 use Rattle.worker_threads.proofs.WorldLemmas.{rows_are, of_world, clock_left, world_same}
 
 -- What is enabled with logs in front is without them.
-enabled-without : {C R : Type 0} (host : Host C R) (logs : List (List Command)) (world : World C) (events : List (WorldEvent R))
+pub enabled-without : {C R : Type 0} (host : Host C R) (logs : List (List Command)) (world : World C) (events : List (WorldEvent R))
     → AreEnabled host (with_logs logs world) events → AreEnabled host world events
 enabled-without host logs world [] enabled = tt
 enabled-without host logs world (event ∷ events) enabled = (

@@ -1,5 +1,5 @@
--- How the phases of workers in threads are proved, in reading order: what the script asks, what turns do to a world, the law of a phase,
--- a round that is one, and the code.
+-- How the rounds of workers in threads are proved, in reading order: what the script asks, what turns do to a world, the law of a phase,
+-- how a round begins, the law of a round in either mode, and the code.
 mod TurnLemmas
 mod AskedLemmas
 mod ShapeLemmas
@@ -13,6 +13,13 @@ mod SeatLemmas
 mod MakingLemmas
 mod TableLemmas
 mod PlainLemmas
+mod BeginLemmas
+mod RoundAskedLemmas
+mod RoundStopLemmas
+mod RoundShapeLemmas
+mod RoundWorldLemmas
+mod RollingLemmas
+mod ModeLemmas
 mod ThreadLemmas
 mod SendLemmas
 mod FeedLemmas

@@ -1,12 +1,10 @@
 -- A table of what a world's places have is one of the world: its workers' clocks are of it, and so are the places of keys.
-use Rattle.std.proofs.Common.{◌≡◌, ◌⊎◌, inl, inr, ℕ, suc, ◌*◌, ◌/◌, ◌%◌, ◌^◌, ◌<◌, ◌≤◌, Bool, false, List, [], ◌∷◌, map, length, get_or, Option, Some, refl, sym, ◌∙◌, ap, subst, arith}
-use Rattle.std.specs.List.{AllByRecursion}
+use Rattle.std.proofs.Common.{◌≡◌, ◌⊎◌, inl, inr, ℕ, zero, suc, ◌*◌, ◌/◌, ◌%◌, ◌^◌, ◌<◌, ◌≤◌, Bool, List, map, length, get_or, refl, sym, ◌∙◌, ap, subst, arith}
 use Rattle.std.proofs.Math.ListN.{get_or-map}
 use Rattle.std.proofs.lemmas.Bool.{and_parts, cases_lt}
 use Rattle.std.proofs.lemmas.List.{length-map, get_or_past}
 use Rattle.tree_keys.specs.Path.{key_bits}
 use Rattle.record_hash.specs.Functions.{DigestFunctions}
-use Rattle.record_text.specs.declared.element.Element.{Element}
 use Rattle.record_text.specs.declared.request.Request.{Request}
 use Rattle.record_text.specs.Longest.{longest_blob, longest_of}
 use Rattle.record_text.specs.Tree.{wide_of}
@@ -15,28 +13,26 @@ use Rattle.host_core.specs.Host.{Host}
 use Rattle.host_core.specs.World.{World, worker_at, shard_at, epoch_of}
 use Rattle.host_order.specs.Serving.{content_at}
 use Rattle.host_shard.specs.declared.content.Content as code
-use Rattle.host_shard.specs.declared.content.Content.TheVariants.{Cold, Hot, Vacant}
+use Rattle.host_shard.specs.declared.content.Content.TheVariants.{Hot, Vacant}
 use Rattle.host_shard.specs.declared.content.HotRecord.{HotRecord}
-use Rattle.host_shard.specs.Shard.{Shard}
-use Rattle.host_shard.specs.Content.{Content, cold, hot, vacant, pending}
+use Rattle.host_shard.specs.Content.{Content, hot, vacant}
 use Rattle.host_shard.specs.Shown.{shown_content}
-use Rattle.host_laws.specs.Served.{waiting}
 use Rattle.host_plan.specs.Plan.{Owns}
-use Rattle.host_table.specs.Terms.{Terms, first_at, epoch_in, IsPlaceOf, IsClockOf}
+use Rattle.host_epochs.specs.Terms.{Terms, first_at, first_epoch, final_epoch, place_count, IsPlaceOf, IsClockOf}
 use Rattle.shipped_host.specs.declared.settings.Settings.{Settings}
 use Rattle.host_world.specs.Lending.{all_contents}
-use Rattle.host_core.specs.Core.{IsInPhase, IsStanding}
-use Rattle.host_core.specs.Deeds.{IsStamped}
+use Rattle.host_core.specs.Core.{IsStanding}
 use Rattle.host_fits.specs.Mirroring.{PlacesMirror}
 use Rattle.host_fits.proofs.StandingLaws.{tree_there}
 use Rattle.host_world.specs.Places.{place_of}
 use Rattle.shipped_host.specs.Seated.{SeatsMirror}
 use Rattle.shipped_host.specs.ShippedHost.{shipped_host, serves_key, is_blob}
-use Rattle.shipped_host.proofs.PlaceLaws.{waits_there}
-use Rattle.shipped_host.proofs.LongerLaws.{longest_fits, owns_longer}
+use Rattle.shipped_host.proofs.LongerLaws.{longest_fits, owns_longer, seats_longer}
 use Rattle.shipped_host.proofs.SeatLaws.{seat_serves, stage_mirrors, stage_at}
 use Rattle.move_laws.proofs.DescentLaws.{apart_by_number}
-use Rattle.table_order.specs.Phases.{AreTermsOf}
+use Rattle.round_fits.specs.Rounds.{HasNothingHot}
+use Rattle.table_order.specs.Rounds.{AreTermsOf}
+use Rattle.round_workers.specs.Sharing.{IsColdAt}
 use Rattle.worker_threads.specs.Phase.{IsPlaceFor}
 use Rattle.worker_threads.proofs.FilledLemmas.{HaveFive, all_count, all_at}
 use Rattle.worker_threads.proofs.SeatLemmas.{serves_alone}
@@ -66,62 +62,50 @@ module _ (functions : DigestFunctions) (settings : Settings) (script : List (Lis
         ∙ ap (λ (xs : List Content). get_or xs place vacant) (sym lent)
         ∙ get_or-map shown_content contents place Vacant
 
-    -- ---- the epoch
-
-    module _ (in_phase : IsInPhase host world) (phase : world.closing ≡ false) where
-      waits_in : (place : ℕ) → place < length contents → (element : Element) → pending (shown_content (get_or contents place Vacant)) ≡ Some element
-          → element.stamp.epoch ≡ epoch_of host world
-      waits_in place there element found =
-          let here : place / 5 < length world.shards = omega (arith, there, as_many) in
-          let waits = waits_there (IsStamped host (epoch_of host world)) (shard_at world (place / 5)).contents (place % 5) ((in_phase phase).1 (place / 5) here) in
-          (subst (λ (o : Option Element). AllByRecursion (IsStamped host (epoch_of host world)) (waiting o)) (ap pending (lent_at place there) ∙ found) waits).0.1
-
-      pub epoch_is : 0 < length contents → epoch_in contents ≡ epoch_of host world
-      epoch_is some = go contents refl
-        where
-          first_shard : 0 < length world.shards
-          first_shard = omega (arith, some, as_many)
-
-          at_first : (first : code.Content) (rest : List code.Content) → contents ≡ first ∷ rest → (element : Element) → pending (shown_content first) ≡ Some element
-              → element.stamp.epoch ≡ epoch_of host world
-          at_first first rest is element found =
-              waits_in 0 some element (ap (λ (xs : List code.Content). pending (shown_content (get_or xs 0 Vacant))) is ∙ found)
-
-          no_vacant : (shard : Shard) → vacant ≡ cold shard → ⊥
-          no_vacant shard same = cc
-
-          go : (xs : List code.Content) → contents ≡ xs → epoch_in xs ≡ epoch_of host world
-          go [] is = absurd (omega (arith, some, ap (λ (ys : List code.Content). length ys) is))
-          go (Cold shard ∷ rest) is = at_first (Cold shard) rest is _ refl
-          go (Hot found ∷ rest) is = at_first (Hot found) rest is _ refl
-          go (Vacant ∷ rest) is =
-              let mirrors = (standing.mirrored 0 first_shard).mirrors in
-              absurd (no_vacant mirrors.shard
-              (sym (ap (λ (xs : List code.Content). shown_content (get_or xs 0 Vacant)) is) ∙ sym (lent_at 0 some)
-              ∙ ap (λ (xs : List Content). get_or xs 0 vacant) mirrors.is))
+  -- A clock of the epoch in which a table was made is of the table.
+  pub clock_of : (terms : Terms) → terms.header ≡ settings.header → (i : ℕ) → i < length world.workers
+      → (worker_at host world i).clock.at.epoch ≡ first_epoch terms → IsClockOf terms (worker_at host world i).clock
+  clock_of terms header i there here = record {
+    first = (standing.clocks i there).first ∙ sym (ap (λ h. h.first) header);
+    end = (standing.clocks i there).end ∙ sym (ap (λ h. h.end) header);
+    from = omega (arith, here);
+    to = omega (arith, here);
+  }
 
   module _ (terms : Terms) (lent : map shown_content terms.contents ≡ all_contents world.shards) where
-    -- The workers' clocks stand in its phase.
-    pub clock_of : IsInPhase host world → world.closing ≡ false → 0 < length terms.contents → terms.header ≡ settings.header
-        → (i : ℕ) → i < length world.workers → IsClockOf terms (worker_at host world i).clock
-    clock_of in_phase phase some header i there = record {
-      first = (standing.clocks i there).first ∙ sym (ap (λ h. h.first) header);
-      end = (standing.clocks i there).end ∙ sym (ap (λ h. h.end) header);
-      epoch = (in_phase phase).0 i there ∙ sym (epoch_is terms.contents lent in_phase phase some);
-    }
-
     -- It is a table of the world.
-    pub terms_of_world : terms.header ≡ settings.header → terms.digest ≡ functions.digest → terms.absent ≡ settings.absent → terms.workers ≡ length world.workers → AreTermsOf host settings.absent world terms
-    terms_of_world header digest told workers = record {
+    pub terms_of_world : terms.header ≡ settings.header → terms.digest ≡ functions.digest → terms.absent ≡ settings.absent → terms.workers ≡ length world.workers
+        → final_epoch terms ≡ epoch_of host world → AreTermsOf host settings.absent world terms
+    terms_of_world header digest told workers final = record {
       header = header;
       digest = digest;
       absent_is = told;
       workers = workers;
       places = as_many terms.contents lent;
       contents = lent_at terms.contents lent;
+      final = final;
     }
 
     -- ---- places
+
+    -- Where no record is hot, a place has a shard where it is the first of one, and is vacant else.
+    pub is_cold : HasNothingHot world → (place : ℕ) → place < place_count terms → IsColdAt place (shown_content (first_at terms place))
+    is_cold none place there =
+        subst (IsColdAt place) (lent_at terms.contents lent place there) (go (place % 5) refl)
+      where
+        within : place / 5 < length world.shards
+        within = omega (arith, there, as_many terms.contents lent)
+
+        seats : List Content
+        seats = (shard_at world (place / 5)).contents
+
+        mirrors : SeatsMirror longest_blob functions.digest seats
+        mirrors = seats_longer (longest_of settings.header) longest_blob (longest_fits settings.header) functions.digest seats (standing.mirrored (place / 5) within).mirrors
+
+        go : (seat : ℕ) → place % 5 ≡ seat → IsColdAt place (get_or seats (place % 5) vacant)
+        go zero is =
+            subst (IsColdAt place) (sym (ap (λ (n : ℕ). get_or seats n vacant) is ∙ ap (λ (cs : List Content). get_or cs 0 vacant) mirrors.is)) (is, mirrors.mirrored.fits)
+        go (suc seat) is = subst (IsColdAt place) (sym (ap (λ (n : ℕ). get_or seats n vacant) is ∙ none (place / 5) seat)) tt
 
     -- The place of a request is the key's.
     pub place_is : (place : ℕ) (request : Request) → request.key < 2 ^ key_bits (wide_of settings.header) → IsPlaceFor host world request place → IsPlaceOf terms place request.key

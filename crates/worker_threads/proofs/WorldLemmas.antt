@@ -34,12 +34,12 @@ use Rattle.worker_threads.proofs.ShapeLemmas.{AreShaped, shaped-count, shaped-se
 use Rattle.worker_threads.proofs.StopLemmas.{commands_told, clock_told, stopped_by_row}
 
 -- workers that show the same are the same
-same_worker : (a b : Worker) → a.log ≡ b.log → a.clock ≡ b.clock → a.served ≡ b.served → a.holds ≡ b.holds → a.stopped ≡ b.stopped → a.stuck ≡ b.stuck → a ≡ b
+pub same_worker : (a b : Worker) → a.log ≡ b.log → a.clock ≡ b.clock → a.served ≡ b.served → a.holds ≡ b.holds → a.stopped ≡ b.stopped → a.stuck ≡ b.stuck → a ≡ b
 same_worker a b log clock served holds stopped stuck =
     λ k. record { log = log k; clock = clock k; served = served k; holds = holds k; stopped = stopped k; stuck = stuck k }
 
 -- and so are worlds
-same_world : {C : Type 0} (a b : World C) → a.shards ≡ b.shards → a.workers ≡ b.workers → a.phase ≡ b.phase → a.closing ≡ b.closing → a.over ≡ b.over
+pub same_world : {C : Type 0} (a b : World C) → a.shards ≡ b.shards → a.workers ≡ b.workers → a.phase ≡ b.phase → a.closing ≡ b.closing → a.over ≡ b.over
     → a.newest ≡ b.newest → a.scanned ≡ b.scanned → a ≡ b
 same_world a b shards workers phase closing over newest scanned =
     λ k. record { shards = shards k; workers = workers k; phase = phase k; closing = closing k; over = over k; newest = newest k; scanned = scanned k }

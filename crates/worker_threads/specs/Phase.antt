@@ -1,5 +1,5 @@
 -- A phase that all workers served at once: where its requests were served, what the table tells of it, and where clocks ended.
-use Rattle.std.specs.Prelude.{◌≡◌, ℕ, suc, ◌<◌, Bool, true, All, List, [], ◌∷◌, length, map, get_or, Option, Some, None, if◌then◌else◌}
+use Rattle.std.specs.Prelude.{◌≡◌, ℕ, suc, ◌<◌, Bool, true, All, List, [], ◌∷◌, length, map, Option, Some, None, if◌then◌else◌}
 use Rattle.record_text.specs.declared.request.Request.{Request}
 use Rattle.script_text.specs.declared.task.Task.{Task}
 use Rattle.host_core.specs.Host.{Host}
@@ -35,11 +35,6 @@ pub record IsAsked (host : Host Content Request) (world : World Content) (asked 
 -- requests, each with the number of its phase
 abbrev pub numbered : ℕ → List Request → List (ℕ × Request)
 numbered phase requests = map (λ request. (phase, request)) requests
-
--- So it is for each worker, with what the tasks of a phase ask of it.
-abbrev pub AreAsked : Host Content Request → World Content → ℕ → List Task → List (List Turn) → Type 0
-AreAsked host world phase tasks turns =
-    (i : ℕ) (d : List Turn) → i < length turns → IsAsked host world (numbered phase (asked_of i tasks)) (get_or turns i d)
 
 -- ---- ends
 

@@ -48,7 +48,7 @@ newest_of newest (worker ∷ workers) = newest_of (max newest worker.clock.at.ep
 -- the last epoch of which each worker noted that its shards are of it: the newest, or where a clock ended the one before, if one was entered
 abbrev pub noted_of : Option ClockEnd → ℕ → ℕ → ℕ
 noted_of None first newest = newest
-noted_of (Some end) first newest = max first (newest - 1)
+noted_of (Some end) first newest = max (newest - 1) first
 
 -- Behind a round of a rolling host the newest epoch is the newest of its workers', and each has noted the last epoch to which all came.
 pub record NotesEpochs {C R : Type 0} (host : Host C R) (world later : World C) : Type 0 where

@@ -1,31 +1,25 @@
 //! Why a phase that all workers served at once was one list of events. These functions do nothing: their contracts are the laws.
-ghost use Rattle.std.specs.Prelude.{◌≡◌, ℕ, ◌^◌, ◌<◌, ◌≤◌, false, List, [], length, map, get_or};
-ghost use Rattle.tree_keys.specs.Path.{key_bits};
+ghost use Rattle.std.specs.Prelude.{◌≡◌, false, List, [], length, get_or};
 ghost use Rattle.log_codec.specs.declared.command.Command.{Command};
 ghost use Rattle.merkle_records.specs.Merkle.{GivesDigests};
 ghost use Rattle.record_hash.specs.Functions.{DigestFunctions};
-ghost use Rattle.record_text.specs.declared.request.Request.{Request};
-ghost use Rattle.record_text.specs.Tree.{wide_of};
 ghost use Rattle.script_text.specs.declared.task.Task.{Task};
-ghost use Rattle.host_core.specs.World.{World, worker_at};
+ghost use Rattle.host_core.specs.World.{World};
 ghost use Rattle.host_shard.specs.declared.content.Content as code;
 ghost use Rattle.host_shard.specs.Content.{Content};
-ghost use Rattle.host_shard.specs.Shown.{shown_content};
 ghost use Rattle.host_table.specs.declared.views.Row.{Row};
-ghost use Rattle.host_table.specs.Terms.{Terms, IsClockOf, IsMaking, IsPlaceOf};
+ghost use Rattle.host_table.specs.Terms.{Terms};
 ghost use Rattle.shipped_host.specs.declared.settings.Settings.{Settings};
 ghost use Rattle.host_world.specs.Behind.{IsBehindSetup, with_logs};
-ghost use Rattle.host_world.specs.Lending.{all_contents};
 ghost use Rattle.shipped_host.specs.ShippedHost.{shipped_host};
 ghost use Rattle.host_serving.specs.Leading.{LeadsAs};
 ghost use Rattle.host_serving.specs.Form.{AreOfPhase};
-ghost use Rattle.host_serving.specs.Standing.{IsServedOut, IsServedUpTo};
-ghost use Rattle.table_order.specs.Phases.{AreTermsOf};
-ghost use Rattle.worker_threads.specs.Phase.{IsPlaceFor, IsServedAtOnce, first_stopped};
+ghost use Rattle.host_serving.specs.Standing.{IsServedOut};
+ghost use Rattle.worker_threads.specs.Phase.{IsServedAtOnce, first_stopped};
 
 use host_fits::the_shipped_host_is_steady;
 use host_world::worlds_are_as_promised;
-use table_order::{a_phase_of_a_table_has_one_order, tables_tell_of_a_phase, worlds_make_tables};
+use table_order::{a_phase_of_a_table_has_one_order, tables_tell_of_a_phase};
 
 /// What workers at a table did of a phase was one list of events: these lead from the world that the table was made of to the one
 /// with the contents that it gave and the workers as they are then, and the first end is that of the first worker that is

@@ -1,57 +1,53 @@
-use Rattle.std.proofs.Common.{◌≡◌, ◌<◌, List, [], ◌∷◌, ◌++◌, append_assoc, append-nil, sym, ◌∙◌, ap, arith}
-use Rattle.std.proofs.lemmas.List.{length-set}
+use Rattle.std.proofs.Common.{◌≡◌, ℕ, suc, ◌+◌, ◌++◌, ◌<◌, List, [], map, sym, ◌∙◌, subst, arith}
+use Rattle.std.specs.List.{AllByRecursion}
 use Rattle.std.proofs.lemmas.List.Elements.{All-from_recursion, All-map}
 use Rattle.record_text.specs.Longest.{longest_of}
 use Rattle.record_text.specs.Value.{IsBlob}
 use Rattle.script_text.specs.declared.task.Task.{Task}
 use Rattle.host_world.specs.Behind.{host_of}
 use Rattle.host_world.specs.Shown.{shown_world, digests_of, settings_of}
-use Rattle.worker_threads.proofs.TurnLemmas.{at_task, none-asked, turn-pushed}
+use Rattle.worker_threads.specs.Parts.{asked_of}
+use Rattle.worker_threads.specs.Phase.{numbered}
+use Rattle.worker_threads.specs.Round.{AreAskedSo, asked_up_to}
+use Rattle.worker_threads.proofs.TurnLemmas.{none-asked}
 use Rattle.worker_threads.proofs.turns.turns_by_worker.Goals as goal
 
-pub loop-task-init : goal.loop-task-init
-loop-task-init g c =
+pub loop-number-init : goal.loop-number-init
+loop-number-init g c =
     let world = c.args.world.now in
     record {
       count = c.in_ok-turns.ensures.count;
-      all = c.into_iter-task-iterator.ensures.into_iter_gives;
-      asked = none-asked (host_of (g.D.Digests.functions (digests_of world)) world) (shown_world world) c.args.phase _
+      asked = none-asked (host_of (g.D.Digests.functions (digests_of world)) world) (shown_world world) _
           (All-map (λ own. own ≡ []) (λ own. own.items) c.in_ok-turns.turns.items
           (All-from_recursion (λ own. own.items ≡ []) c.in_ok-turns.turns.items c.in_ok-turns.ensures.none));
     }
 
-pub index_mut-requires : goal.index_mut-requires
-index_mut-requires g c =
-    let are : c.loop-task.yielded ++ c.in-Some.task ∷ c.next.new.self ≡ c.args.tasks =
-    ap (λ (rest : List Task). c.loop-task.yielded ++ rest) (sym c.in-Some.ensures.steps) ∙ c.loop-task.invariant.all in
-    let within = at_task (λ (t : Task). t.worker < c.args.workers) c.loop-task.yielded c.next.new.self c.args.tasks c.in-Some.task are c.requires.workers in
-    omega (arith, within, c.loop-task.invariant.count, c.loop-task.turns.ok.0, c.from-worker.ensures, c.worker.ensures.value)
+pub overflow_add-first : goal.overflow_add-first
+overflow_add-first g c = omega (arith, c.requires.fits, c.loop-number-test.true)
 
-pub loop-task-preserved : goal.loop-task-preserved
-loop-task-preserved g c =
+pub add_turns-requires-clause-short : goal.add_turns-requires-clause-short
+add_turns-requires-clause-short g c =
+    subst (λ (tasks : List Task). AllByRecursion (λ (task : Task). IsBlob (longest_of (settings_of c.args.world.now).header) task.request.value) tasks)
+    (sym c.phase.ensures.value) (c.requires.short (c.args.first + c.loop-number.number))
+
+pub add_turns-requires-clause-workers : goal.add_turns-requires-clause-workers
+add_turns-requires-clause-workers g c =
+    subst (λ (n : ℕ). AllByRecursion (λ (task : Task). task.worker < n) c.phase.result) (sym c.loop-number.invariant.count)
+    (subst (λ (tasks : List Task). AllByRecursion (λ (task : Task). task.worker < c.args.workers) tasks)
+    (sym c.phase.ensures.value) (c.requires.workers (c.args.first + c.loop-number.number)))
+
+pub loop-number-preserved : goal.loop-number-preserved
+loop-number-preserved g c =
     let world = c.args.world.now in
-    let gone = c.loop-task.yielded in
-    let task = c.in-Some.task in
-    let turns = c.loop-task.turns.items in
-    let are : gone ++ task ∷ c.next.new.self ≡ c.args.tasks =
-    ap (λ (rest : List Task). gone ++ rest) (sym c.in-Some.ensures.steps) ∙ c.loop-task.invariant.all in
-    let short = at_task (λ (t : Task). IsBlob (longest_of (settings_of world).header) t.request.value) gone c.next.new.self c.args.tasks task are c.requires.short in
-    let within = at_task (λ (t : Task). t.worker < c.args.workers) gone c.next.new.self c.args.tasks task are c.requires.workers in
-    let count = c.loop-task.invariant.count in
-    let place = rw c.request.ensures.value at c.place_for.ensures.owns in
+    let host = host_of (g.D.Digests.functions (digests_of world)) world in
+    let script = c.args.requests.now in
+    let number = c.loop-number.number in
+    let turns = map (λ own. own.items) c.add_turns.new.turns.items in
+    let next : suc number ≡ number + 1 = omega arith in
     record {
-      count = length-set turns c.from-worker.result c.push.new.self ∙ count;
-      all = append_assoc gone (task ∷ []) c.next.new.self ∙ are;
-      asked = turn-pushed (host_of (g.D.Digests.functions (digests_of world)) world) (shown_world world) (λ own. own.items) gone turns c.index_mut.result.now
-          c.push.new.self c.from-worker.result (record { place = c.place_for.result; phase = c.args.phase; task = task }) (c.from-worker.ensures ∙ c.worker.ensures.value) (omega (arith, within, count))
-          c.index_mut.ensures.value c.in_ok-push.ensures.items (record { there = c.place_for.ensures.there; owns = place short }) c.loop-task.invariant.asked;
-    }
-
-pub returns : goal.returns
-returns g c =
-    let all : c.loop-task.yielded ≡ c.args.tasks =
-    sym (append-nil c.loop-task.yielded) ∙ ap (λ (rest : List Task). c.loop-task.yielded ++ rest) (sym c.in-None.ensures.steps.0) ∙ c.loop-task.invariant.all in
-    record {
-      count = c.loop-task.invariant.count;
-      asked = λ i d there. rw (sym all) (c.loop-task.invariant.asked i d there);
+      count = c.in_ok-add_turns.ensures.count ∙ c.loop-number.invariant.count;
+      asked = subst (λ (n : ℕ). AreAskedSo host (shown_world world) (λ i. asked_up_to script c.args.first i n) turns) next
+          (subst (λ (tasks : List Task). AreAskedSo host (shown_world world) (λ i. asked_up_to script c.args.first i number ++ numbered number (asked_of i tasks)) turns)
+          c.phase.ensures.value
+          (c.in_ok-add_turns.ensures.asked (λ i. asked_up_to script c.args.first i number) c.loop-number.invariant.asked));
     }

@@ -1,7 +1,7 @@
 use Rattle.std.proofs.Common.{◌≡◌, drop, map}
 use Rattle.host_world.specs.Workers.{shown_worker}
 use Rattle.worker_threads.specs.Phase.{first_stopped}
-use Rattle.worker_threads.proofs.phases.first_end_of.Given as goal
+use Rattle.worker_threads.proofs.rounds.first_end_of.Given as goal
 
 -- no worker so far is stopped
 abbrev pub invariant-loop-number : goal.invariant-loop-number
