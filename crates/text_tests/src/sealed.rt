@@ -1,4 +1,6 @@
 //! Seals that were spelled by hand and tagged by Python's `hmac`, and others that are nearly such.
+ghost use Rattle.std.specs.Prelude.{◌≤◌, length};
+
 use crate::rows::{bytes_of, field, same_bytes};
 use fv_outside::{MemoryCounter, MemoryVault};
 use lamport_clocks::{Header, Stamp};
@@ -125,14 +127,15 @@ fn a_front_leaves_it_open(rt: HostRuntime) {
 }
 
 // The seal of a bundle of one verifier that has done nothing, made before its number is known, and as it is with this number.
-fn two_seals(rt: &impl Abort, alloc: Global, number: u64) -> (Vec<u8>, Vec<u8>) {
+fn two_seals(rt: &impl Abort, alloc: Global, number: u64) -> (Vec<u8>, Vec<u8>)
+    ensures whole { 44 ≤ length result.0.items }
+{
     let digests = digests_of(rt, alloc, first_row());
     let before = write_seal(alloc, &digests, &empty_state(rt, alloc, 0));
     let with_number = write_seal(alloc, &digests, &empty_state(rt, alloc, number));
-    (
-        before.expect(rt, "memory"),
-        with_number.expect(rt, "memory"),
-    )
+    let before = before.expect(rt, "memory");
+    assert!(rt; before.len() >= 44, "a seal is longer");
+    (before, with_number.expect(rt, "memory"))
 }
 
 #[test]
