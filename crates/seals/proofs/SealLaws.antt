@@ -6,7 +6,6 @@ use Rattle.std.specs.List.{flat_map}
 use Rattle.std.proofs.lemmas.Bool.{leb-true, le-leb, eqb-true}
 use Rattle.std.proofs.lemmas.List.{take_at, take-append-le}
 use Rattle.lamport_clocks.specs.declared.header.Header.{Header}
-use Rattle.lamport_clocks.specs.Header.{IsHeader}
 use Rattle.record_hash.specs.Functions.{DigestFunctions}
 use Rattle.receipts.specs.Receipts.{tagged}
 use Rattle.record_text.specs.declared.reader.TextFault.TheVariants.{Truncated}
@@ -44,10 +43,6 @@ codec-head =
     codec-then _ _ _ _ (λ counter f. to_be_bytes w64 f.0 ++ (header_text f.1.0 ++ to_be_bytes w32 f.1.1)) (λ counter f. (IsTrue (at_most most_taken f.0) × (f.0 < 2 ^ 64)) × (IsGoodHeader f.1.0 × (f.1.1 < 2 ^ 32))) codec-u64 (λ counter small.
     codec-then _ _ _ _ (λ taken f. header_text f.0 ++ to_be_bytes w32 f.1) (λ taken f. IsGoodHeader f.0 × (f.1 < 2 ^ 32)) (codec-tested (at_most most_taken) u64_at (to_be_bytes w64) (λ n. n < 2 ^ 64) codec-u64) (λ taken few.
     codec-then _ _ _ _ (λ header certified. to_be_bytes w32 certified) (λ header certified. certified < 2 ^ 32) codec-header (λ header ranges. codec-u32))))
-
--- a header that was read is in its ranges
-pub head_ranges : (bytes : List ℕ) (f : HeadFields) (rest : List ℕ) → AreBytes bytes → head_at bytes ≡ Ok (f, rest) → IsHeader f.1.1.1.0
-head_ranges bytes f rest fits e = (codec-head.begins bytes f rest fits e).1.1.1.1.0.ranges
 
 keeps_on-head : KeepsOn head_at
 unfolding head_at

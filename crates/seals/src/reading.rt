@@ -83,7 +83,6 @@ fn read_header<'a>(bytes: &'a [u8], reader: &mut Reader<'a>) -> Result<Header, T
 // What is kept of each verifier.
 #[tactic(auto, unfolding(crate::specs::Seal::runs_at))]
 fn read_runs(alloc: Global, head: &Head, reader: &mut Reader<'_>) -> Result<Vec<RunState>, Fault>
-    requires small { head.now.header.end ≤ 16777215 }
     ensures reads { Reads (λ made. map kept_in made.items) result reader.new
         (runs_at head.now.header head.now.certified head.now.taken 0 head.now.header.verifiers reader.old) }
 {
