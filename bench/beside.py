@@ -16,7 +16,7 @@ program checks with four verifiers as with one, by wall time.
 import os
 import sys
 
-from bench import bundles
+from bench import bundles, results
 from bench.run import words
 from bench.runs import HOST, script_of
 from bench.spent import instructions, least
@@ -33,18 +33,20 @@ def bundle(folder, mix, verifiers, size):
     return path
 
 
-def tell(name, both, scale):
-    """Prints a line of the old and the new program."""
+def tell(name, both, scale, **shape):
+    """Prints a line of the old and the new program. Their rows say of what shape their input is."""
     old, new = both
     pairs = (old.processor, new.processor), (old.wall, new.wall)
     times = [f"{scale * a:8.2f} {scale * b:8.2f} {b / a:6.3f}" for a, b in pairs]
     print(f"{name:30} {'  '.join(times)}", flush=True)
+    for number, it in enumerate(both):
+        results.row(call=name.split()[0], program=number, **shape, seconds=it.wall, processor=it.processor)
 
 
 def measure(programs, command, path, turns):
     """Prints a line of a bundle; what both programs take."""
     both = least([(words(program, command), path) for program in programs], turns)
-    tell(f"{command} {os.path.basename(path)}", both, 1e9 / os.path.getsize(path))
+    tell(f"{command} {os.path.basename(path)}", both, 1e9 / os.path.getsize(path), **results.shape_of(path))
     return both
 
 
@@ -59,15 +61,18 @@ def count(programs, command, path):
 def measure_host(programs, folder, more, turns):
     """Prints a line of a script and one of a load."""
     load = ["--seed", "1", "--ops", str(REQUESTS), "--keys", str(KEYS)]
+    shape = {"load": " ".join(more) or "plain", "requests": REQUESTS, "workers": 1, "keys": KEYS}
     for command, own, given in (("run", [], script_of(folder, KEYS, REQUESTS)), ("gen", load, os.devnull)):
         asked = [command, *HOST, *own, *more]
-        tell(" ".join([command, *more]), least([([program, *asked], given) for program in programs], turns), 1e6 / REQUESTS)
+        both = least([([program, *asked], given) for program in programs], turns)
+        tell(" ".join([command, *more]), both, 1e6 / REQUESTS, **shape)
 
 
 def main():
     folder, programs = sys.argv[1], [os.path.abspath(path) for path in sys.argv[2:4]]
     size, turns = (int(word) for word in sys.argv[4:6] + [SIZE, TURNS][len(sys.argv[4:6]) :])
     os.makedirs(folder, exist_ok=True)
+    results.keep("beside", folder, *programs)
     print("                               proc.old      new  ratio  wall old      new  ratio")
     for mix in (bundles.cold, bundles.hot):
         one, four = (measure(programs, "check", bundle(folder, mix, verifiers, size), turns) for verifiers in (1, 4))

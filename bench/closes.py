@@ -11,6 +11,7 @@ Run it when nothing else is at work on the machine.
 import os
 import sys
 
+from bench import results
 from bench.runs import KEY
 from bench.spent import least
 
@@ -34,12 +35,15 @@ def main():
     folder, programs = sys.argv[1], [os.path.abspath(program) for program in sys.argv[2:4]]
     records, turns = (int(word) for word in (sys.argv[4:] + ["100000", "5"][len(sys.argv) - 4 :])[:2])
     os.makedirs(folder, exist_ok=True)
+    results.keep("closes", folder, *programs)
     paths = write_scripts(folder, records)
     for name, more in (("plain", []), ("--hot 2", ["--hot", "2"])):
         host = ["run", *KEY, "--verifiers", "1", "--shards", "16", *more]
         taken = least([([program, *host], path) for program in programs for path in paths], turns)
         old, new = ((1e6 * (taken[at + 1].processor - taken[at].processor) / EPOCHS) for at in (0, 2))
         print(f"{records} records, {name:8} {old:9.1f} {new:9.1f} microseconds an epoch, {new / old:6.3f}", flush=True)
+        for number, close in enumerate((old, new)):
+            results.row(call="a close", load=name, program=number, keys=records, shards=16, processor=close / 1e6)
     return 0
 
 

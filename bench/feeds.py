@@ -13,6 +13,7 @@ PROGRAM is crates/fastver_cli/out/fastver_cli where none is named. Run it when n
 import os
 import sys
 
+from bench import results
 from bench.runs import KEY, PROGRAM, peak_memory, timed
 from bench.workers import script_of
 
@@ -60,12 +61,16 @@ def measure(program, folder, name, hot, every, requests):
             f" {checks[workers] / best[workers]:9.2f} {memory[workers] / 1024:6.1f} MiB",
             flush=True,
         )
+        call, _, load = name.partition(" ")
+        shape = {"requests": requests, "workers": workers, "every": every, "keys": KEYS, "shards": SHARDS}
+        results.row(call=call, load=load, **shape, seconds=best[workers], memory=memory[workers])
 
 
 def main():
     folder, program = sys.argv[1], os.path.abspath(sys.argv[2] if len(sys.argv) > 2 else PROGRAM)
     requests = int(sys.argv[3]) if len(sys.argv) > 3 else 200000
     os.makedirs(folder, exist_ok=True)
+    results.keep("feeds", folder, program)
     print("load             every workers  seconds  a second  faster verifying memory")
     for name, hot, every in LOADS:
         measure(program, folder, name, hot, every, requests)

@@ -26,6 +26,7 @@ import subprocess
 import sys
 from collections import Counter
 
+from bench import results
 from bench.runs import KEY, PROGRAM, timed
 from tools.slow.bundles import read_bundle
 from tools.slow.load import draws
@@ -112,6 +113,9 @@ def measure_load(program, folder, workers, keys, shards, every):
     plain_first, plain, hot_first, hot = best(*[(each, script) for each in words for script in scripts])
     rates = f"{REQUESTS / plain:9.0f} {REQUESTS / hot:8.0f} {plain / hot:6.2f} {(plain - plain_first) / (hot - hot_first):6.2f}"
     print(f"{keys:7} {shards:6} {every:8} {threshold_of(keys, every):9} {rates}", flush=True)
+    shape = {"requests": REQUESTS, "workers": workers, "every": every, "keys": keys, "shards": shards}
+    for name, seconds in (("plain", plain), ("hot", hot)):
+        results.row(call="run", load=name, **shape, seconds=seconds)
     return plain / hot
 
 
@@ -193,6 +197,7 @@ def main():
     folder, program = sys.argv[1], os.path.abspath(sys.argv[2] if len(sys.argv) > 2 else PROGRAM)
     workers = int(sys.argv[3]) if len(sys.argv) > 3 else 1
     os.makedirs(folder, exist_ok=True)
+    results.keep("hot", folder, program)
     print("   keys shards an epoch threshold  plain, a second hot  times  later")
     times = {at: measure_load(program, folder, workers, *at) for at in LOADS}
     print("   keys shards run      for       values, they   the host  elements")

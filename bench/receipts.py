@@ -14,6 +14,7 @@ import shutil
 import subprocess
 import sys
 
+from bench import results
 from bench.runs import KEY, PROGRAM, peak_memory, timed
 from bench.split import split
 
@@ -38,10 +39,12 @@ def vault_of(program, folder, requests):
 def main():
     folder, program = sys.argv[1], os.path.abspath(sys.argv[2] if len(sys.argv) > 2 else PROGRAM)
     os.makedirs(folder, exist_ok=True)
+    results.keep("receipts", folder, program)
     vault, ways = vault_of(program, folder, REQUESTS), {"without": [], "with": ["--receipts"]}
     turns = [[timed([program, "check", *KEY, *more], vault) for more in ways.values()] for _ in range(TURNS)]
     for way, seconds in zip(ways, map(min, zip(*turns))):
         print(f"check {way} receipts: {1e6 * seconds / REQUESTS:.2f} microseconds an operation", flush=True)
+        results.row(call="check", load=f"{way} receipts", requests=REQUESTS, seconds=seconds)
     if shutil.which("valgrind") is not None:
         small = vault_of(program, folder, PROFILED)
         for way, more in ways.items():
@@ -50,6 +53,7 @@ def main():
     for requests in LOADS:
         seconds, peak = timed([program, *load(requests)], os.devnull), peak_memory([program, *load(requests)], os.devnull)
         print(f"gen of {requests} requests: {seconds:.2f} seconds, {requests / seconds:.0f} a second, peak {peak / 1024:.0f} MiB", flush=True)
+        results.row(call="gen", requests=requests, workers=1, every=10000, keys=1000, shards=16, seconds=seconds, memory=peak)
     return 0
 
 

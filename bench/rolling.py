@@ -15,6 +15,7 @@ import subprocess
 import sys
 import time
 
+from bench import results
 from bench.runs import KEY, PROGRAM
 
 WORKERS, EPOCHS, SHARDS, KEYS, SEED, TURNS = (1, 4), (1000, 10000, 100000), 16, 1000, 1, 5
@@ -54,6 +55,7 @@ def main():
     folder, program = sys.argv[1], sys.argv[2] if len(sys.argv) > 2 else PROGRAM
     requests = int(sys.argv[3]) if len(sys.argv) > 3 else 100000
     os.makedirs(folder, exist_ok=True)
+    results.keep("rolling", folder, program)
     print("an epoch  workers    plain  rolling    times  processors: plain  rolling")
     for every in EPOCHS:
         for workers in WORKERS:
@@ -63,6 +65,9 @@ def main():
                 rolling.append(taken(program, script, workers, ["--rolling"]))
             (wall, spent), (rolled, used) = min(plain), min(rolling)
             print(f"{every:8} {workers:8} {wall:8.3f} {rolled:8.3f} {wall / rolled:8.2f} {spent / wall:18.2f} {used / rolled:8.2f}", flush=True)
+            shape = {"requests": requests, "workers": workers, "every": every, "keys": KEYS, "shards": SHARDS}
+            for load, (seconds, processor) in (("plain", min(plain)), ("rolling", min(rolling))):
+                results.row(call="run", load=load, **shape, seconds=seconds, processor=processor)
     return 0
 
 

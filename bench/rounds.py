@@ -14,6 +14,7 @@ import sys
 import time
 from typing import NamedTuple
 
+from bench import results
 from bench.runs import KEY
 
 SHARDS, KEYS, SEED = 16, 1000, 1
@@ -60,19 +61,23 @@ def measure(programs, folder, name, requests, every, workers, turns):
         for program in programs if turn % 2 == 0 else reversed(programs):
             runs[program].append(taken(words_of(program, vault, requests, every, workers)))
             os.remove(vault)
-    for label, program in zip(("old", "new"), programs):
+    shape = {"requests": requests, "workers": workers, "every": every, "keys": KEYS, "shards": SHARDS}
+    for number, (label, program) in enumerate(zip(("old", "new"), programs)):
         least = Taken(*map(min, zip(*runs[program])))
         print(
             f"{name:10} {workers:7} {label:5} {least.wall:8.3f} {requests / least.wall:9.0f} {least.processor:9.3f} {least.system:7.3f} {least.faults:9}"
             f" {least.memory / 1024:8.1f} {least.memory * 1024 / requests:10.0f} {least.processor / least.wall:6.2f}",
             flush=True,
         )
+        took = {"seconds": least.wall, "processor": least.processor, "memory": least.memory}
+        results.row(call="gen", program=number, **shape, **took)
 
 
 def main():
     folder, programs = sys.argv[1], [os.path.abspath(program) for program in sys.argv[2:4]]
     turns = int(sys.argv[4]) if len(sys.argv) > 4 else 5
     os.makedirs(folder, exist_ok=True)
+    results.keep("rounds", folder, *programs)
     print("load       workers build  seconds  a second processor  system    faults      MiB  a request   used")
     for name, requests, every, workers in LOADS:
         for count in workers:

@@ -17,6 +17,8 @@ import subprocess
 import sys
 import time
 
+from bench import results
+
 PROGRAM = "crates/fastver_cli/out/fastver_cli"
 SMALL, LARGE = "-01-MiB", "-16-MiB"
 KINDS = ["cold-01-verifiers", "cold-04-verifiers", "hot-01-verifiers", "hot-04-verifiers"]
@@ -57,24 +59,26 @@ def measure(program, command, folder, name):
     size = os.path.getsize(bundle)
     a_byte, a_command = 1e9 * seconds / size, 1e9 * seconds / commands
     print(f"{name:36} {command} {size:9} {commands:8} {seconds:8.3f} {a_byte:8.1f} {a_command:10.0f} {peak:9}")
+    results.row(call=command, **results.shape_of(bundle), commands=commands, seconds=seconds, memory=peak)
     statuses = [status for _, status in runs]
     if any(statuses):
         print(f"  answered {statuses}")
     return seconds, a_byte, commands, peak, not any(statuses)
 
 
-def a_command(checks, kind, cache):
-    """The nanoseconds of a command once the cache is full."""
-    (seconds, commands), (begun, first) = checks[kind + cache], checks[kind + cache + BEGUN]
-    return 1e9 * (seconds - begun) / (commands - first)
+def a_command(checks, folder, name):
+    """The nanoseconds of a command once the cache is full, which are kept as a row too."""
+    seconds, commands = (whole - begun for whole, begun in zip(checks[name], checks[name + BEGUN]))
+    results.row(call="check", **results.once_full(os.path.join(folder, name)), commands=commands, seconds=seconds)
+    return 1e9 * seconds / commands
 
 
-def tell_full(checks):
+def tell_full(checks, folder):
     """Prints the time of a command by the entries of a full cache; how many kinds take too long with the most."""
     slow = 0
     for kind in FULL:
         if all(kind + cache + ending in checks for cache in CACHES for ending in ("", BEGUN)):
-            times = [a_command(checks, kind, cache) for cache in CACHES]
+            times = [a_command(checks, folder, kind + cache) for cache in CACHES]
             told = ", ".join(f"{time:.0f} ns with{cache}".replace("-", " ") for time, cache in zip(times, CACHES))
             print(f"{kind}: a command takes {told}: {times[-1] / times[0]:.2f} times as long with the most as with the fewest")
             slow += times[-1] > 3 * times[0]
@@ -111,6 +115,7 @@ def main():
     top = os.path.join(os.path.dirname(os.path.abspath(__file__)), "..")
     program = os.path.abspath(sys.argv[2]) if len(sys.argv) > 2 else os.path.join(top, PROGRAM)
     names = sorted(file[: -len(".commands")] for file in os.listdir(folder) if file.endswith(".commands"))
+    results.keep("run", folder, program)
     fails, audits, checks, a_byte, peaks = 0, {}, {}, {}, {}
     print("bundle                               command   bytes commands  seconds  ns/byte ns/command  peak KiB")
     for name in names:
@@ -125,7 +130,7 @@ def main():
             ratio = audits[kind + LARGE] / audits[kind + SMALL]
             print(f"{kind}: an audit of 16 MiB takes {ratio:.2f} times as long a byte as one of 1 MiB")
     fails += tell_audits(audits, a_byte)
-    fails += tell_full(checks)
+    fails += tell_full(checks, folder)
     fails += tell_streamed(checks, peaks)
     return 1 if fails or not names else 0
 

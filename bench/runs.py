@@ -17,6 +17,7 @@ import subprocess
 import sys
 import time
 
+from bench import results
 from bench.split import split
 from tools.slow import load
 
@@ -76,6 +77,9 @@ def measure(program, folder, keys, requests):
     turns = [(timed(run, script), timed(check, vault)) for _ in range(3)]
     (ran, checked), peak, size = map(min, zip(*turns)), peak_memory(run, script), os.path.getsize(vault)
     print(f"{keys:8} {requests:8} {size:11} {ran:8.3f} {requests / ran:10.0f} {peak:9} {checked:8.3f} {ran / checked:9.2f}", flush=True)
+    shape = {"requests": requests, "workers": 1, "every": EVERY, "keys": keys}
+    results.row(call="run", **shape, seconds=ran, memory=peak)
+    results.row(call="check", load="a vault", **shape, bytes=size, seconds=checked)
     os.remove(vault)
     return ran, checked
 
@@ -100,6 +104,7 @@ def main():
     folder, program = sys.argv[1], os.path.abspath(sys.argv[2] if len(sys.argv) > 2 else PROGRAM)
     sizes = [int(word) for word in sys.argv[3:]] or REQUESTS
     os.makedirs(folder, exist_ok=True)
+    results.keep("runs", folder, program)
     print("    keys requests vault bytes  seconds   a second  peak KiB check s  by check")
     times = {(keys, requests): measure(program, folder, keys, requests) for keys in KEYS for requests in sizes}
     slow = tell(times)

@@ -18,7 +18,7 @@ import os
 import subprocess
 import sys
 
-from bench import versions
+from bench import results, versions
 from bench.runs import HOST, KEY, PROGRAM, script_of
 from bench.spent import least
 
@@ -50,6 +50,8 @@ def measure(program, turns, base):
     ratios = taken[2] / taken[1], taken[3] / taken[0], taken[4] / taken[1], walls[3] / walls[0], walls[4] / walls[1]
     times = " ".join(f"{1e9 * it / commands:8.0f}" for it in taken)
     print(f"{os.path.basename(base):28} {times} {' '.join(f'{it:7.2f}' for it in ratios)}", flush=True)
+    for ((_, call, *_), path), it in zip(runs, both):
+        results.row(call=call, **results.shape_of(path), commands=commands, seconds=it.wall, processor=it.processor)
     return ratios[0], max(ratios[1:])
 
 
@@ -65,6 +67,8 @@ def measure_widths(program, turns, folder):
     taken = [it.processor for it in least([([program, "check", *KEY], vault) for vault in vaults], turns)]
     short, long = (1e9 * it / os.path.getsize(vault) for it, vault in zip(taken, vaults))
     print(f"{'a byte, 64 and 128 bits':28} {short:8.1f} {long:8.1f} {long / short:7.2f}", flush=True)
+    for vault, it in zip(vaults, taken):
+        results.row(call="check", **results.shape_of(vault), processor=it)
     return long / short
 
 
@@ -72,6 +76,7 @@ def main():
     folder, program = sys.argv[1], os.path.abspath(sys.argv[2] if len(sys.argv) > 2 else PROGRAM)
     size, turns = (int(word) for word in sys.argv[3:5] + [SIZE, TURNS][len(sys.argv[3:5]) :])
     os.makedirs(folder, exist_ok=True)
+    results.keep("upgrades", folder, program)
     print("log                           check 1        2        3 upgrade 1     2  3 by 2  upgrades by checks, and by wall time")
     found = [measure(program, turns, versions.whole(folder, mix, verifiers, size)) for mix, verifiers in versions.WHOLE]
     ratios = [max(it[0] for it in found), measure_widths(program, turns, folder), max(it[1] for it in found)]

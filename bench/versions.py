@@ -19,7 +19,7 @@ import os
 import random
 import sys
 
-from bench import bundles
+from bench import bundles, results
 from bench.rewriting import rewrite
 from bench.runs import HOST, KEY, PROGRAM, forget_vault, script_of
 from bench.spent import least
@@ -94,6 +94,9 @@ def measure(program, turns, base, begun=None):
     sizes = [os.path.getsize(path) for path in paths_of(base)]
     times = f"{1e9 * old.processor / commands:8.0f} {1e9 * new.processor / commands:8.0f} {new.processor / old.processor:7.2f} {new.wall / old.wall:7.2f}"
     print(f"{os.path.basename(base):42} {commands:8} {times} {sizes[1] / sizes[0]:6.2f}", flush=True)
+    for path, it in zip(paths_of(base), taken):
+        shape = results.once_full(path) if begun else results.shape_of(path)
+        results.row(call="check", **shape, commands=commands, seconds=it.wall, processor=it.processor)
     return new.processor / old.processor
 
 
@@ -105,6 +108,8 @@ def measure_run(program, turns, folder):
     os.remove(vault)
     times = f"{1e9 * old.processor / REQUESTS:8.0f} {1e9 * new.processor / REQUESTS:8.0f} {new.processor / old.processor:7.2f} {new.wall / old.wall:7.2f}"
     print(f"{'run, a request':42} {REQUESTS:8} {times}", flush=True)
+    for version, it in enumerate((old, new), 1):
+        results.row(call="run", version=version, requests=REQUESTS, workers=1, keys=KEYS, seconds=it.wall, processor=it.processor)
     return new.processor / old.processor
 
 
@@ -112,6 +117,7 @@ def main():
     folder, program = sys.argv[1], os.path.abspath(sys.argv[2] if len(sys.argv) > 2 else PROGRAM)
     size, turns = (int(word) for word in sys.argv[3:5] + [SIZE, TURNS][len(sys.argv[3:5]) :])
     os.makedirs(folder, exist_ok=True)
+    results.keep("versions", folder, program)
     print("log                                        commands version 1        2   ratio by wall  bytes")
     ratios = {cache: max(measure(program, turns, *full(folder, mix, cache, size)) for mix in FULL) for cache in MOST}
     for mix, verifiers in WHOLE:

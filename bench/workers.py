@@ -14,6 +14,7 @@ import os
 import random
 import sys
 
+from bench import results
 from bench.runs import KEY, PROGRAM, timed
 
 WORKERS, SHARDS, KEYS, EVERY, SEED, TURNS = (1, 2, 4), 16, 1000, 10000, 1, 3
@@ -67,12 +68,15 @@ def measure(program, folder, load, hot, requests):
         serial = f"{(ratio - 1 / workers) / (1 - 1 / workers):7.2f}" if workers > 1 else "      -"
         name = f"{load} {' '.join(hot)}".strip()
         print(f"{name:14} {workers:7} {best[workers]:8.3f} {requests / best[workers]:10.0f} {1 / ratio:7.2f} {checks[workers]:8.3f} {serial}", flush=True)
+        shape = {"requests": requests, "workers": workers, "every": EVERY, "keys": KEYS, "shards": SHARDS}
+        results.row(call="run", load=name, **shape, seconds=best[workers])
 
 
 def main():
     folder, program = sys.argv[1], os.path.abspath(sys.argv[2] if len(sys.argv) > 2 else PROGRAM)
     requests = int(sys.argv[3]) if len(sys.argv) > 3 else 100000
     os.makedirs(folder, exist_ok=True)
+    results.keep("workers", folder, program)
     print("load           workers  seconds   a second  faster  check s  serial")
     for load in LOADS:
         for hot in ([], ["--hot", "2"]):

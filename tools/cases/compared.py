@@ -35,9 +35,12 @@ def files_in(folder):
     return found
 
 
-def got_from(program, asked, given, environment=None):
-    """What a program answers in a folder of its own."""
+def got_from(program, asked, given, environment=None, files=None):
+    """What a program answers in a folder of its own, in which there are these files."""
     with tempfile.TemporaryDirectory() as folder:
+        for name, data in (files or {}).items():
+            with open(os.path.join(folder, name), "wb") as file:
+                file.write(data)
         around = {"cwd": folder, "env": environment, "timeout": SECONDS}
         try:
             ran = subprocess.run([program, *asked], input=given, capture_output=True, check=False, **around)

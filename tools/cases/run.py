@@ -46,9 +46,10 @@ def is_due(folder, name):
 def differs(program, folder, name):
     words, vault = words_of(folder, name), read_if_made(folder, name + ".vault")
     with open(os.path.join(folder, name), "rb") as given, tempfile.TemporaryDirectory() as logs:
-        path = os.path.join(logs, "vault")
+        path, home = os.path.join(logs, "vault"), os.path.join(logs, "home")
+        os.mkdir(home)
         more = [] if vault is None else ["--logs", path]
-        run = subprocess.run([program, *words, *more], stdin=given, capture_output=True, timeout=120)
+        run = subprocess.run([program, *words, *more], stdin=given, capture_output=True, timeout=120, cwd=home)
         logged = read_if_made(path)
     same_vault = logged == (None if vault == b"none" else vault)
     return not same_vault or (run.stdout, run.returncode, run.stderr) != answer_of(folder, name)

@@ -1,4 +1,4 @@
-"""Random scripts, each with the words of `run` that it is served by.
+"""Random scripts, each with the words of `run` that it is served by, and lines that a client is to sign.
 
 There are few keys, so that requests meet, but for some scripts that begin with many keys of a shard; counters that end early and
 epochs that end late, so that clocks end; and scripts with a line that is none.
@@ -12,6 +12,7 @@ TAILS = [0, 1, 5, 2**53]  # of keys, behind their shard's frontier
 MANY = 64  # keys of one shard, so that fewer than one in sixteen are touched in a later phase
 VALUES = [".", "00", "61", "6162", "ff" * 64]
 LONG_VALUES = ["ff" * 255, "00" * 65]  # from version 3 on
+CLIENTS = [0, 1, 65535]  # that sign
 WRONG_LINES = [
     b"",
     b" ",
@@ -144,3 +145,17 @@ def random_run(chance, workers, hot, shared, version=1):
         lines.insert(chance.randrange(len(lines) + 1), chance.choice(wrong))
     ending = b"" if lines and chance.random() < 0.2 else b"\n"
     return words, b"\n".join(lines) + ending if lines else b""
+
+
+def random_signing(chance):
+    """The words of `sign`, and lines to be signed, most of them with rising numbers. A few have a line that is none."""
+    key, bits, number, lines = chance.randbytes(chance.choice([16, 32, 64])).hex(), chance.choice([64, 128]), 0, []
+    for _ in range(chance.choice([0, 1, 4, 12])):
+        number += chance.choice([1, 1, 7, 2**40]) if chance.random() < 0.97 else 0
+        lines.append(request_line(chance, number, 1, [0], bits, [*TAILS, 2**bits - 1], VALUES + LONG_VALUES))
+    if chance.random() < 0.3:
+        wrong = chance.choice(WRONG_LINES).replace(b"0 ", b"18446744073709551615 ", 1)  # none for another cause than its number
+        lines.insert(chance.randrange(len(lines) + 1), wrong)
+    words = ["--bits", str(bits)] if bits == 128 or chance.random() < 0.5 else []
+    ending = b"" if chance.random() < 0.2 else b"\n"
+    return ["sign", "--key", key, "--client", str(chance.choice(CLIENTS)), *words], b"\n".join(lines) + ending if lines else b""

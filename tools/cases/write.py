@@ -8,7 +8,7 @@ verifiers, between which records move under stamps. The first two of version 1 a
 Every third bundle is also audited, and every third followed and upgraded. For each bundle of version 1, and for each third one of
 a later version, there is a script, once the program has what it asks for: of one worker, of several where the program takes that
 many, each with shards of its own, and of hot records where there are any. A few cases more are of words, most of them refused, one
-of them no text. It says how many cases it wrote, and fails where that is none.
+of them no text, and of lines that a client is to sign. It says how many cases it wrote, and fails where that is none.
 """
 import os
 import random
@@ -16,11 +16,13 @@ import sys
 
 from tools.cases.later import LATER, MOST_WORKERS, wanted
 from tools.cases.player import Player, framed
-from tools.cases.scripts import random_run, wrong_lines
+from tools.cases.scripts import random_run, random_signing, wrong_lines
 from tools.cases.words import CASES, SCRIPT
 from tools.slow.bundles import Header, magic_of
 from tools.slow.commands import COMMANDS
 from tools.slow.digests import ShaDigests
+
+SIGNINGS = 60  # how many cases there are of lines that a client signs
 
 
 def other_magic(chance, bundle):
@@ -125,6 +127,9 @@ def main():
     for number, (asked, given) in enumerate(CASES):
         write_case(folder, f"words-{number:03}", asked, given)
     print(f"{folder}: {len(CASES)} cases of words")
+    for number in range(SIGNINGS):
+        write_case(folder, f"sign-{number:03}", *random_signing(chance))
+    print(f"{folder}: {SIGNINGS} cases of lines that a client signs")
     return 0 if sum(counts) > 0 else 1
 
 

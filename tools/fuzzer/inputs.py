@@ -7,8 +7,9 @@ from typing import NamedTuple
 
 from tools.cases import scripts, write
 from tools.cases.compared import VAULT
+from tools.cases.seals import front_ends
 from tools.cases.words import BUNDLE, CASES, RECEIPT, SCRIPT, TO_SIGN
-from tools.fuzzer.changes import BUNDLE_CHANGES, behind_header, frames_of
+from tools.fuzzer.changes import BUNDLE_CHANGES, behind_header
 from tools.fuzzer.edges import BLOBS, BYTE_CHANGES, LIST_CHANGES, changed_item, cut, edge, flip, flip_bit, often
 from tools.slow import fastver, host, receipts, schedules, seals
 from tools.slow.commands import COMMANDS
@@ -98,19 +99,12 @@ def sealings(chance, _):
     return ["check", "--key", key, "--seal", VAULT], bundle
 
 
-def cut_at_frame(chance, bundle):
-    """A bundle in two, the first of which ends behind a frame."""
-    ends = [behind_header(bundle)]
-    for _, _, body in frames_of(bundle):
-        ends.append(ends[-1] + 6 + len(body))
-    at = chance.choice([ends[-1], *ends])
-    return bundle[:at], bundle[at:]
-
-
 def resumings(chance, _):
     """A seal of a bundle's beginning, changed most times, and the frames behind it."""
     key, bundle = any_bundle(chance)
-    digests, (front, rest) = ShaDigests(bytes.fromhex(key)), cut_at_frame(chance, bundle)
+    digests, ends = ShaDigests(bytes.fromhex(key)), front_ends(bundle)
+    end = chance.choice([*ends, *ends[-1:]] or [len(bundle)])
+    front, rest = bundle[:end], bundle[end:]
     found = findings(digests, front)
     if not found.verifiers:
         return ["resume", "--key", key], bundle
@@ -240,7 +234,7 @@ def random_word(chance, name):
     """What may follow an option."""
     if name == "--key":
         return chance.choice([random_key(chance).hex(), random_key(chance).hex().upper(), "0" * edge(chance, 1), "0g" * 16, ""])
-    if name == "--logs":
+    if name in ("--logs", "--seal"):
         return chance.choice(PATHS)
     return chance.choice([*NUMBERS, *NO_NUMBERS, str(edge(chance, 8)), *map(str, RANGES.get(name, (1, 2)))])
 
@@ -248,7 +242,7 @@ def random_word(chance, name):
 def needed_words(chance, command):
     """The options of a command that it must have, and some of the others, with values that it takes."""
     good = {"--key": random_key(chance).hex(), "--verifiers": "1", "--shards": "2", "--seed": "7", "--ops": "3", "--logs": VAULT}
-    good |= {"--format": chance.choice("1234"), "--bits": chance.choice(["64", "128"])}
+    good |= {"--format": chance.choice("1234"), "--bits": chance.choice(["64", "128"]), "--seal": VAULT}
     words = []
     for name, default in OPTIONS[command].items():
         if default is NEEDED or chance.random() < 0.4:

@@ -21,7 +21,8 @@ from collections import Counter
 from typing import NamedTuple
 
 from tools.cases.compared import VAULT, differing, got_from, meeting, misjudged, wanted_for
-from tools.slow import fastver, receipts, words
+from tools.cases.seals import front_ends
+from tools.slow import fastver, receipts, seals, words
 from tools.slow.bundles import Header, frame_text, header_text
 from tools.slow.commands import command_text
 from tools.slow.digests import ShaDigests
@@ -106,8 +107,14 @@ def evidence(epoch=0, flipped=0):
     return f"receipt {receipt.hex()}\ncertificate {certificate}\n".encode()
 
 
+def sealed_front(bundle, size):
+    """A seal of the number 0 of a bundle's first bytes, and the rest behind it."""
+    digests = ShaDigests(bytes(16))
+    return seals.write_seal(digests, findings(digests, bundle[:size]), 0, size) + bundle[size:]
+
+
 def reader_rows():
-    """Checks, audits, follows, upgrades and acceptances."""
+    """Checks, audits, follows, upgrades, seals and acceptances."""
     with open(BUNDLE, "rb") as file:
         bundle = file.read()
     hot = run_row("", TOGETHER, "--hot", "2", workers=2)
@@ -130,6 +137,14 @@ def reader_rows():
         Row("upgrade of two workers", ["upgrade", *KEY], vault),
         Row("upgrade of two workers, slots", ["upgrade", *KEY], by_slots),
         Row("upgrade of what is unbalanced", ["upgrade", *KEY], unbalanced()),
+        Row("seal", ["check", *KEY, "--seal", VAULT], bundle),
+        Row("seal of two workers", ["check", *KEY, "--seal", VAULT], vault),
+        Row("seal of a cut bundle", ["check", *KEY, "--seal", VAULT], bundle[:-1]),
+        Row("seal of what is unbalanced", ["check", *KEY, "--seal", VAULT], unbalanced()),
+        Row("resume", ["resume", *KEY], sealed_front(bundle, len(bundle))),
+        Row("resume of two workers", ["resume", *KEY], sealed_front(vault, front_ends(vault)[2])),
+        Row("resume of two workers, slots", ["resume", *KEY], sealed_front(by_slots, front_ends(by_slots)[1])),
+        Row("resume, bad seal", ["resume", *KEY], sealed_front(vault, front_ends(vault)[2])[:300]),
         Row("accept", ["accept", *KEY], evidence()),
         Row("accept, not tagged", ["accept", *KEY], evidence(flipped=1)),
         Row("accept, not certified", ["accept", *KEY], evidence(epoch=1)),
@@ -172,7 +187,7 @@ def host_rows():
 
 def front_of(row, wanted, vault):
     """Of what there may be a front where memory was wanting, with this in the vault, if it is there."""
-    if row.words[0] == "check" and wanted.status != 1:
+    if row.words[0] in ("check", "resume") and wanted.status != 1:
         return wanted.output[: wanted.output[:-1].rfind(b"\n") + 1]
     if row.words[0] == "run" and vault is not None:
         digests = ShaDigests(bytes(16))
@@ -191,6 +206,8 @@ def starved(row, wanted, met, got):
         wrong.append(f"{got.output} was written with {vault} in the vault")
     if vault is not None and (whole is None or not met and not whole.startswith(vault)):
         wrong.append(f"{vault} is in the vault")
+    if fastver.DEVICE in got.files:
+        wrong.append("the counter was raised")
     return wrong
 
 

@@ -276,7 +276,7 @@ DEVICE = "fastver.counter"  # the file that stands for it where the environment 
 
 
 def device_path():
-    return os.environ.get("FASTVER_COUNTER", DEVICE)
+    return os.environ.get("FASTVER_COUNTER") or DEVICE
 
 
 def read_device():

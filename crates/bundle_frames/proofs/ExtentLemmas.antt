@@ -52,7 +52,7 @@ cond-moved true x y x' y' first next here there = here
 cond-moved false x y x' y' first next here there = there
 
 -- the end is the same from a later byte on, if nothing before that is bad
-end_in-moved : (header : Option Header) (first k : ℕ) (bad : Option ℕ) (bytes : List ℕ) → k ≤ length bytes → ((at : ℕ) → bad ≡ Some at → first + k ≤ at)
+pub end_in-moved : (header : Option Header) (first k : ℕ) (bad : Option ℕ) (bytes : List ℕ) → k ≤ length bytes → ((at : ℕ) → bad ≡ Some at → first + k ≤ at)
     → first + end_in header (option_map (λ at. at - first) bad) bytes ≡ first + k + end_in header (option_map (λ at. at - (first + k)) bad) (drop k bytes)
 end_in-moved header first k None bytes within later = omega (arith, length-drop k bytes)
 end_in-moved header first k (Some at) bytes within later =
@@ -72,7 +72,7 @@ frames_behind-bad offset None more at later is = let same : offset ≡ at = cc i
 frames_behind-bad offset (Some frame) more at later is = later frame is
 
 -- a frame that is bad does not begin before the first
-frames_up_to-bad : (count verifiers offset : ℕ) (bytes : List ℕ) (at : ℕ) → (frames_up_to count verifiers offset bytes).bad ≡ Some at → offset ≤ at
+pub frames_up_to-bad : (count verifiers offset : ℕ) (bytes : List ℕ) (at : ℕ) → (frames_up_to count verifiers offset bytes).bad ≡ Some at → offset ≤ at
 unfolding frames_up_to
 frames_up_to-bad zero verifiers offset bytes at is = absurd (cc)
 frames_up_to-bad (suc count) verifiers offset [] at is = absurd (cc)

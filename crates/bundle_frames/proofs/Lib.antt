@@ -8,5 +8,6 @@ pub mod FindsLaws
 mod JoinedLaws
 mod ExtentLemmas
 mod ReaderLemmas
+pub mod ResumedLaws
 pub mod TextLaws
 pub mod SpelledLaws

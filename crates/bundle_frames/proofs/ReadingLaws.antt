@@ -76,7 +76,7 @@ ReadsAs-back P n (Some bytes) (Some rest) f g read reads holds =
 
 -- ---- where reading ends
 
-start-end : (header : Option Header) (bad : Option ℕ) (bytes : List ℕ) → end_in header bad bytes ≡ 0 + end_in header (option_map (λ at. at - 0) bad) bytes
+pub start-end : (header : Option Header) (bad : Option ℕ) (bytes : List ℕ) → end_in header bad bytes ≡ 0 + end_in header (option_map (λ at. at - 0) bad) bytes
 start-end header None bytes = omega arith
 start-end header (Some at) bytes =
     let same : at ≡ at - 0 = omega arith in

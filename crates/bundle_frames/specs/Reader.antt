@@ -14,13 +14,13 @@ reading_of r = record {
   limit = r.limit;
 }
 
--- The room is one piece's, the places are in it, and no more was taken than may be. As long as reading goes on, all that
+-- The room has a piece at least, the places are in it, and no more was taken than may be. As long as reading goes on, all that
 -- was taken is split or unread.
 pub record IsReader (r : Inside) : Type 0 where
-  pub room : vec_len r.room ≡ 65536
+  pub room : 65536 ≤ vec_len r.room
   pub from : r.from ≤ r.until
   pub until : r.until ≤ vec_len r.room
   pub split : position r.splitter + r.until ≤ r.taken + r.from
   pub due : IsDue r.splitter → position r.splitter + r.until ≡ r.taken + r.from
   pub within : r.taken ≤ r.limit
-  pub limit : r.limit ≤ 2 ^ 40
+  pub limit : r.limit ≤ 2 ^ 41

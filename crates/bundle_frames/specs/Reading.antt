@@ -1,12 +1,12 @@
 -- How far a bundle was read from a source, and what is ahead.
-use Rattle.std.specs.Prelude.{◌≡◌, ℕ, ◌≤◌, List, [], ◌∷◌, ◌++◌, length, take, drop, ⊤, Option, Some, None, Result, Ok, Err}
+use Rattle.std.specs.Prelude.{◌≡◌, ℕ, ◌+◌, ◌≤◌, List, [], ◌∷◌, ◌++◌, length, take, drop, ⊤, Option, Some, None, Result, Ok, Err}
 use Rattle.lamport_clocks.specs.declared.header.Header.{Header}
 use Rattle.bundle_frames.specs.declared.coming.Next.{Next}
 use Rattle.bundle_frames.specs.declared.coming.Next.TheVariants.{Head, Frame, End}
 use Rattle.fv_outside.specs.declared.failure.Failure.{Failure}
 use Rattle.bundle_frames.specs.Bundle.{Bundle, with_frames}
 use Rattle.bundle_frames.specs.Extent.{end_behind}
-use Rattle.bundle_frames.specs.Progress.{Progress, start, rest_of}
+use Rattle.bundle_frames.specs.Progress.{Progress, start, start_behind, rest_of}
 
 -- How far the bundle was split, and the bytes that were read and are not split yet; how many were read in all, and
 -- how many may be.
@@ -19,6 +19,12 @@ pub record Reading : Type 0 where
 -- before the first byte
 abbrev pub opening_reading : ℕ → Reading
 opening_reading limit = record { progress = start; unread = []; taken = 0; limit = limit }
+
+-- Behind so many bytes of a bundle with this header, which are whole frames to their end, where these that follow were read and are not
+-- split yet. All of them count among the bytes that were read, and among those that may be.
+abbrev pub resumed_reading : Header → ℕ → ℕ → List ℕ → Reading
+resumed_reading header offset limit unread =
+    record { progress = start_behind header offset; unread = unread; taken = offset + length unread; limit = limit }
 
 -- what is left of the bundle, where these bytes follow those that were read
 abbrev pub ahead : Reading → List ℕ → Bundle

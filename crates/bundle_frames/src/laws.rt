@@ -3,7 +3,9 @@ ghost use Rattle.std.specs.Prelude.{◌≡◌, ℕ, ◌^◌, ◌<◌, ◌≤◌,
 ghost use Rattle.std.specs.List.{AllByRecursion};
 ghost use Rattle.lamport_clocks.specs.declared.header.Header.{Header};
 ghost use Rattle.lamport_clocks.specs.Header.{IsHeader};
-ghost use Rattle.bundle_frames.specs.Bundle.{Frame, header_bytes, header_text, header_in, frame_text, frame_in, frame_bytes, IsFrame, longest_body, bundle_of, bundle_text, frames_up_to, frames_from};
+ghost use Rattle.bundle_frames.specs.Bundle.{Frame, header_bytes, header_text, header_in, frame_text, frame_in, frame_bytes, IsFrame, longest_body, bundle_of, with_frames, bundle_text, frames_up_to, frames_from};
+ghost use Rattle.bundle_frames.specs.Extent.{reading_end};
+ghost use Rattle.bundle_frames.specs.Reading.{resumed_reading, ahead, end_ahead};
 
 /// A header in its ranges is read back from its text, whatever follows. What is read is spelled so, and in
 /// its ranges. The text has as many bytes as its version says.
@@ -57,4 +59,19 @@ pub fn whole_bundles_go_on()
     ensures bad { (bytes more : List ℕ) (header : Header)
         → (bundle_of bytes).header ≡ Some header → (bundle_of bytes).bad ≡ None
         → (bundle_of (bytes ++ more)).bad ≡ (frames_from header.verifiers (length bytes) more).bad }
+{}
+
+/// A reader that is resumed behind a bundle of which nothing is bad has the frames ahead with which these bytes go on. Its reading
+/// ends where that of all bytes does, and no byte sooner than where it was resumed.
+pub fn resumed_readings_go_on()
+    ensures ahead { (bytes unread more : List ℕ) (header : Header) (limit : ℕ)
+        → (bundle_of bytes).header ≡ Some header → (bundle_of bytes).bad ≡ None
+        → bundle_of (bytes ++ (unread ++ more))
+        ≡ with_frames (bundle_of bytes).frames (ahead (resumed_reading header (length bytes) limit unread) more) }
+    ensures extent { (bytes unread more : List ℕ) (header : Header) (limit : ℕ)
+        → (bundle_of bytes).header ≡ Some header → (bundle_of bytes).bad ≡ None
+        → reading_end (bytes ++ (unread ++ more)) ≡ end_ahead (resumed_reading header (length bytes) limit unread) more }
+    ensures no_sooner { (bytes more : List ℕ) (header : Header)
+        → (bundle_of bytes).header ≡ Some header → (bundle_of bytes).bad ≡ None
+        → length bytes ≤ reading_end (bytes ++ more) }
 {}

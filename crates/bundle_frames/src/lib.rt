@@ -25,7 +25,7 @@ pub use found::{Fed, Found};
 pub use frame_buffer::FrameBuffer;
 pub use laws::{
     bundles_are_read_back, bytes_bound_the_frames, frames_are_read_back, headers_are_read_back,
-    whole_bundles_go_on,
+    resumed_readings_go_on, whole_bundles_go_on,
 };
 pub use reader::{BundleReader, PIECE_BYTES};
 pub use splitter::Splitter;

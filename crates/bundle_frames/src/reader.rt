@@ -1,5 +1,5 @@
 //! A bundle, read from a source piece by piece, header and frame by frame.
-ghost use Rattle.std.specs.Prelude.{◌≡◌, ◌≢◌, ℕ, ◌+◌, ◌-◌, ◌^◌, ◌<◌, ◌≤◌, List, [], length, true, false, take, IfOk, IfSome, IsSomeAnd, OnErr, Ok, Err, Some, None, vec_len};
+ghost use Rattle.std.specs.Prelude.{◌≡◌, ◌≢◌, ℕ, ◌+◌, ◌-◌, ◌^◌, ◌<◌, ◌≤◌, List, [], length, slice_range, true, false, take, IfOk, IfSome, IsSomeAnd, OnErr, Ok, Err, Some, None, vec_len};
 ghost use Rattle.std.specs.Io.KnownBytes.{IsAtEnd};
 ghost use Rattle.fv_outside.specs.Consumed.{ReadsOn};
 ghost use Rattle.fv_outside.specs.Failures.{FailsBySource};
@@ -21,7 +21,7 @@ pub const PIECE_BYTES: usize = 65_536;
 /// Reads a bundle from a source, header and frame by frame, and no more than so many bytes. Contracts
 /// see it as a `Reading`.
 ///
-/// It takes its memory when it is made.
+/// It takes its memory when it is made, or is given the room that it reads into.
 #[derive(Drop)]
 pub struct BundleReader {
     splitter: Splitter,
@@ -52,11 +52,11 @@ impl BundleReader {
     ghost use Rattle.bundle_frames.specs.Bundle.{IsFrame};
     ghost use Rattle.bundle_frames.specs.Extent.{IsDue};
     ghost use Rattle.bundle_frames.specs.Progress.{position, rest_of};
-    ghost use Rattle.bundle_frames.specs.Reading.{opening_reading, ahead, end_ahead, next_then, header_then, came_then, header_known, IsSpent, HasRead, ReadsAs};
+    ghost use Rattle.bundle_frames.specs.Reading.{opening_reading, resumed_reading, ahead, end_ahead, next_then, header_then, came_then, header_known, IsSpent, HasRead, ReadsAs};
 
     /// A reader that has read nothing, and reads no more than so many bytes.
     pub fn new(alloc: Global, limit: u64) -> Result<BundleReader, Memory>
-        requires limit { limit ≤ 2 ^ 40 }
+        requires limit { limit ≤ 2 ^ 41 }
         ensures opening { IfOk result (λ reader. reader ≡ opening_reading limit) }
         ensures due { IfOk result (λ reader. IsDue reader.progress) }
     {
@@ -68,6 +68,37 @@ impl BundleReader {
             from: 0,
             until: 0,
             taken: 0,
+            limit,
+        })
+    }
+
+    /// A reader that goes on behind so many bytes of a bundle with this header, which were a header and whole frames. What follows
+    /// them was read into this room already, from one place up to another, and is read from there. All count among the bytes that it
+    /// took, and within the limit.
+    pub fn resume(
+        alloc: Global,
+        header: &Header,
+        offset: u64,
+        limit: u64,
+        room: Vec<u8>,
+        from: usize,
+        until: usize,
+    ) -> Result<BundleReader, Memory>
+        requires room { 65536 ≤ vec_len room }
+        requires from { from ≤ until }
+        requires until { until ≤ vec_len room }
+        requires within { offset + (until - from) ≤ limit }
+        requires limit { limit ≤ 2 ^ 41 }
+        ensures resumed { IfOk result (λ reader. reader ≡ resumed_reading header.now offset limit (slice_range room.items from until)) }
+        ensures due { IfOk result (λ reader. IsDue reader.progress) }
+    {
+        let splitter = Splitter::resume(alloc, header, offset)?;
+        Ok(BundleReader {
+            splitter,
+            room,
+            from,
+            until,
+            taken: offset + (until - from) as u64,
             limit,
         })
     }
@@ -240,6 +271,13 @@ impl BundleReader {
         ensures rest { self.new ≡ record self.old { progress = record self.old.progress { body = [] } } }
     {
         self.splitter.hand_over(frame);
+    }
+
+    /// How many bytes were read.
+    pub fn taken(&self) -> u64
+        ensures value { result ≡ self.now.taken }
+    {
+        self.taken
     }
 
     /// The offset of the header or frame that is bad, or that is cut if the bundle ends here.

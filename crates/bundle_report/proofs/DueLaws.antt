@@ -12,6 +12,7 @@ use Rattle.record_text.specs.declared.operation.Operation.{Operation}
 use Rattle.verifier_run.specs.Course.{Course}
 use Rattle.verifier_run.specs.Order.{OneOfEach, clock_of, sealed_next}
 use Rattle.verifier_run.specs.Progress.{Progress, opening_progress}
+use Rattle.verifier_run.specs.Likeness.{AreLike}
 use Rattle.verifier_run.proofs.RunLaws.{fed_nothing}
 use Rattle.bundle_report.specs.declared.judged.Judged.{Judged}
 use Rattle.bundle_report.specs.Logs.{empty_logs, joined_from}
@@ -22,6 +23,7 @@ use Rattle.bundle_report.specs.Judged.{none_judged, judged_by, judged_from, judg
 use Rattle.bundle_report.specs.SoFar.{lines_from, runs_from, runs_behind, opening_runs, verdict_at, HaveRead}
 use Rattle.bundle_report.proofs.CertifyLaws.{judged-count}
 use Rattle.bundle_report.proofs.LeftLaws.{run_of, whole_of, whole-parts, each_of}
+use Rattle.bundle_report.proofs.LikeRunsLaws.{runs-like}
 use Rattle.bundle_report.proofs.LinesLaws.{lines-are, lines-behind}
 use Rattle.bundle_report.proofs.SoFarLaws.{taken-more, lines-taken, counted-within}
 
@@ -96,7 +98,7 @@ module _ (scheme : Scheme) (header : Header) (logs : List (List ℕ)) where
       go (Missing verifier) same further at within = absurd (omega (arith, within))
 
 -- Runs with all that is certified taken out of them have taken the logs so far.
-taken_whole : (scheme : Scheme) (header : Header) (logs : List (List ℕ)) → IsHeader header → length logs ≡ header.verifiers
+pub taken_whole : (scheme : Scheme) (header : Header) (logs : List (List ℕ)) → IsHeader header → length logs ≡ header.verifiers
     → let count = (judged header.verifiers (courses_of scheme header logs)).count in
     HaveRead scheme header logs (record { count = count; unbalanced = None }) (runs_from scheme header count 0 logs)
 taken_whole scheme header [] good whole = absurd (omega (arith, whole, good.some_verifiers))
@@ -107,7 +109,7 @@ taken_whole scheme header (log ∷ logs) good whole =
     record {
       header_good = good;
       whole = whole;
-      runs_are = refl;
+      runs_are = runs-like scheme header (judged header.verifiers (courses_of scheme header (log ∷ logs))).count 0 (log ∷ logs);
       balanced = λ index below.
           let there : 0 + index ≡ index = omega arith in
           ap (verdict_at scheme header (log ∷ logs)) (sym there)
@@ -131,7 +133,7 @@ due-stays {A} tell scheme header logs frames good whole =
 
 -- ---- before the first byte
 
-empty-length : (count : ℕ) → length (empty_logs count) ≡ count
+pub empty-length : (count : ℕ) → length (empty_logs count) ≡ count
 empty-length zero = refl
 empty-length (suc count) = ap suc (empty-length count)
 
@@ -148,7 +150,9 @@ pub taken-none : (scheme : Scheme) (header : Header) → IsHeader header
 taken-none scheme header good = record {
   header_good = good;
   whole = empty-length header.verifiers;
-  runs_are = runs_opening scheme header 0 header.verifiers;
+  runs_are =
+      subst (AreLike (runs_from scheme header 0 0 (empty_logs header.verifiers))) (sym (runs_opening scheme header 0 header.verifiers))
+      (runs-like scheme header 0 0 (empty_logs header.verifiers));
   balanced = λ index below. absurd (omega (arith, below));
   uneven = tt;
 }

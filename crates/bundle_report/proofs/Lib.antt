@@ -5,6 +5,7 @@ mod PartLemmas
 mod EpochOperationsLemmas
 mod RunReportLemmas
 mod RunEndLemmas
+pub mod BoundedLaws
 mod SmallPartLemmas
 mod OrderSumLemmas
 mod EpochPartLemmas
@@ -13,8 +14,7 @@ mod CertifiedCountLemmas
 pub mod CertifyLaws
 pub mod KeepingLaws
 pub mod LeftLaws
-pub mod OrderLaws
-pub mod PartLaws
+pub mod LikeRunsLaws
 mod MoreLaws
 pub mod SoFarLaws
 pub mod LinesLaws

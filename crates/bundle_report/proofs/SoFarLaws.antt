@@ -15,6 +15,7 @@ use Rattle.verifier_run.specs.Course.{Course}
 use Rattle.record_text.specs.declared.refusal.Refusal.{Refusal}
 use Rattle.log_codec.specs.Log.{read_log}
 use Rattle.verifier_run.specs.Progress.{Progress, ended}
+use Rattle.verifier_run.specs.Likeness.{AreLike}
 use Rattle.verifier_run.proofs.RunLaws.{log_is_ended, ended_left}
 use Rattle.verifier_run.specs.Order.{OneOfEach, clock_of, sealed_next}
 use Rattle.bundle_report.specs.declared.judged.Judged.{Judged}
@@ -29,6 +30,7 @@ use Rattle.bundle_report.proofs.RunReportLemmas.{told_from}
 use Rattle.bundle_report.proofs.CertifyLaws.{judged-end}
 use Rattle.bundle_report.proofs.EpochVerdictLemmas.{all_seal, verdict-balanced, verdict-unbalanced}
 use Rattle.bundle_report.proofs.LeftLaws.{run_of, whole_of, whole-parts, each_of}
+use Rattle.bundle_report.proofs.LikeRunsLaws.{like-refused, like-behind, like-ended}
 use Rattle.bundle_report.proofs.MoreLaws.{AreLong, long-sealed, long-none, parts-stay, runs-stay, lines-stay}
 
 -- ---- the first run
@@ -213,7 +215,7 @@ verdict-stays : (scheme : Scheme) (header : Header) (logs : List (List ℕ)) (fr
 verdict-stays scheme header logs frames index long =
     ap (verdict_of header.verifiers (header.first + index)) (parts-stay scheme header frames index 0 logs long)
 
-joined-length : (number : ℕ) (logs : List (List ℕ)) (frames : List Frame) → length (joined_from number logs frames) ≡ length logs
+pub joined-length : (number : ℕ) (logs : List (List ℕ)) (frames : List Frame) → length (joined_from number logs frames) ≡ length logs
 joined-length number [] frames = refl
 joined-length number (log ∷ logs) frames = ap suc (joined-length (suc number) logs frames)
 
@@ -227,8 +229,8 @@ taken-more scheme header logs so_far runs frames taken =
       header_good = taken.header_good;
       whole = joined-length 0 logs frames ∙ taken.whole;
       runs_are =
-          ap (λ (rs : List (Progress Operation)). runs_behind scheme 0 rs frames) taken.runs_are
-          ∙ runs-stay scheme header frames so_far.count 0 logs long;
+          subst (λ (rs : List (Progress Operation)). AreLike rs (runs_behind scheme 0 runs frames)) (runs-stay scheme header frames so_far.count 0 logs long)
+          (like-behind scheme 0 (runs_from scheme header so_far.count 0 logs) runs frames taken.runs_are);
       balanced = λ index below.
           verdict-stays scheme header logs frames index (sealed_at index (taken.balanced index below)) ∙ taken.balanced index below;
       uneven = stays so_far.unbalanced taken.uneven;
@@ -282,7 +284,9 @@ pub end-taken : (scheme : Scheme) (header : Header) (logs : List (List ℕ)) (so
     → end_by so_far.count so_far.unbalanced (refused_log 0 (map (λ run. run.course) (runs_ended runs))) bad
     ≡ end_of scheme header (map (read_log scheme.format) logs) (histories_in scheme header (map (read_log scheme.format) logs)) bad
 end-taken scheme header logs so_far runs bad taken all =
-    ap (λ (rs : List (Progress Operation)). end_by so_far.count so_far.unbalanced (refused_log 0 (map (λ run. run.course) (runs_ended rs))) bad) taken.runs_are
-    ∙ ap (λ (refused : Option RefusedLog). end_by so_far.count so_far.unbalanced refused bad) (refused_from scheme header so_far.count 0 logs)
+    ap (λ (refused : Option RefusedLog). end_by so_far.count so_far.unbalanced refused bad)
+    (like-refused 0 (runs_ended (runs_from scheme header so_far.count 0 logs)) (runs_ended runs)
+    (like-ended (runs_from scheme header so_far.count 0 logs) runs taken.runs_are)
+    ∙ refused_from scheme header so_far.count 0 logs)
     ∙ ap (λ (j : Judged). end_by j.count j.unbalanced (refused_log 0 (courses_of scheme header logs)) bad) all
     ∙ judged-end scheme header logs bad taken.header_good taken.whole

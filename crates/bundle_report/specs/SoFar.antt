@@ -15,6 +15,7 @@ use Rattle.verifier_run.specs.Kept.{keeps_operations}
 use Rattle.verifier_run.specs.Course.{Course}
 use Rattle.verifier_run.specs.Taken.{left_of}
 use Rattle.verifier_run.specs.Progress.{Progress, opening_progress, fed, ended}
+use Rattle.verifier_run.specs.Likeness.{AreLike}
 use Rattle.soundness.specs.Certified.{epochs_from}
 use Rattle.bundle_report.specs.declared.judged.Judged.{Judged}
 use Rattle.bundle_report.specs.declared.judged.Uneven.{Uneven}
@@ -63,19 +64,14 @@ abbrev pub IsUneven : Scheme → Header → List (List ℕ) → ℕ → Uneven �
 IsUneven scheme header logs index uneven =
     (uneven.epoch ≡ header.first + index) × (verdict_at scheme header logs index ≡ Unbalanced uneven.added uneven.evicted)
 
--- The runs have taken these logs so far. The epochs that are counted are balanced, and taken out of the runs; and where
--- the next is said to be unbalanced, it is.
+-- The runs have taken these logs so far, in whatever order their caches list entries by path. The epochs that are counted are
+-- balanced, and taken out of the runs; and where the next is said to be unbalanced, it is.
 pub record HaveRead (scheme : Scheme) (header : Header) (logs : List (List ℕ)) (so_far : Judged) (runs : List (Progress Operation)) : Type 0 where
   pub header_good : IsHeader header
   pub whole : length logs ≡ header.verifiers
-  pub runs_are : runs ≡ runs_from scheme header so_far.count 0 logs
+  pub runs_are : AreLike (runs_from scheme header so_far.count 0 logs) runs
   pub balanced : (index : ℕ) → index < so_far.count → verdict_at scheme header logs index ≡ Balanced
   pub uneven : IfSome so_far.unbalanced (IsUneven scheme header logs so_far.count)
-
--- there are logs that the runs have taken so far
-abbrev pub HaveLogs : Judged → List (Progress Operation) → Type 0
-HaveLogs so_far runs =
-    (scheme : Scheme) × (header : Header) × (logs : List (List ℕ)) × HaveRead scheme header logs so_far runs
 
 -- ---- more of the logs
 

@@ -1,5 +1,5 @@
 -- The operations that runs have up to an epoch stand in order each, and together they are those of all runs.
-use Rattle.std.proofs.Common.{◌≡◌, ℕ, nat_le, List, [], ◌∷◌, ◌++◌, map, refl, sym, ◌∙◌, ap, subst}
+use Rattle.std.proofs.Common.{◌≡◌, ℕ, ◌+◌, nat_le, List, [], ◌∷◌, ◌++◌, map, refl, sym, ◌∙◌, ap, subst}
 use Rattle.std.specs.List.{AllByRecursion, flat_map}
 use Rattle.std.proofs.lemmas.List.Elements.{filter-append}
 use Rattle.record_text.specs.declared.operation.Operation.{Operation}
@@ -8,27 +8,22 @@ use Rattle.stamp_order.specs.Operations.{moment_of}
 use Rattle.stamp_order.specs.Lists.{all_of, AreMerged}
 use Rattle.stamp_order.proofs.InOrderLaws.{IsInOrder-filter}
 use Rattle.stamp_order.proofs.MomentLaws.{comes_before-order}
-use Rattle.verifier_run.specs.Progress.{Progress}
 use Rattle.verifier_run.specs.Taken.{taken_by}
 use Rattle.bundle_report.specs.declared.judged.Judged.{Judged}
 use Rattle.bundle_report.specs.RunReport.{operations_among}
-use Rattle.bundle_report.specs.SoFar.{HaveLogs}
-use Rattle.bundle_report.proofs.OrderLaws.{runs-in_order}
+use Rattle.resumed_runs.proofs.JudgedLaws.{can-in_order}
 use Rattle.certified_epochs.specs.declared.fed_run.FedRun.{FedRun}
-use Rattle.certified_epochs.specs.Turn.{StandInOrder}
+use Rattle.certified_epochs.specs.Turn.{StandInOrder, CanCertify}
 
--- ---- of logs
+-- ---- of runs
 
 of_runs : (runs : List FedRun) → AllByRecursion (λ run. IsMerged moment_of run.course.items) (map (λ fed. fed.run) runs) → StandInOrder runs
 of_runs [] order = tt
 of_runs (fed ∷ runs) order = (order.0, of_runs runs order.1)
 
--- Runs that have taken logs have their operations in order.
-pub fed-in_order : (so_far : Judged) (runs : List FedRun) → HaveLogs so_far (map (λ fed. fed.run) runs) → StandInOrder runs
-fed-in_order so_far runs have =
-    of_runs runs
-    (subst (AllByRecursion (λ (run : Progress Operation). IsMerged moment_of run.course.items)) (sym have.3.runs_are)
-    (runs-in_order have.0 have.1 so_far.count 0 have.2))
+-- Runs that can be certified have their operations in order.
+pub fed-in_order : (so_far : Judged) (runs : List FedRun) → CanCertify so_far (map (λ fed. fed.run) runs) → StandInOrder runs
+fed-in_order so_far runs can = of_runs runs (can-in_order (can.first + so_far.count) 0 (map (λ fed. fed.run) runs) can.each)
 
 -- ---- up to an epoch
 

@@ -16,23 +16,23 @@ use Rattle.stamp_order.specs.Operations.{moment_of, merged_up_to}
 use Rattle.verifier_run.specs.Course.{Course}
 use Rattle.verifier_run.specs.Progress.{Progress}
 use Rattle.verifier_run.specs.Taken.{left_of}
+use Rattle.verifier_run.specs.Likeness.{AreLike}
 use Rattle.bundle_report.specs.declared.judged.Judged.{Judged}
 use Rattle.bundle_report.specs.declared.judged.Uneven.{Uneven}
 use Rattle.bundle_report.specs.Report.{EpochTold}
 use Rattle.bundle_report.specs.RunReport.{courses_of, parts_at, operations_among}
-use Rattle.bundle_report.specs.Judged.{judged, judged_by, CanBeJudged, first_parts, refused_log, end_by}
+use Rattle.bundle_report.specs.Judged.{judged, judged_by, first_parts, refused_log, end_by}
 use Rattle.log_codec.specs.Log.{read_log}
 use Rattle.report_text.specs.declared.ending.BundleEnd.{BundleEnd}
 use Rattle.bundle_report.specs.declared.refused_log.RefusedLog.{RefusedLog}
 use Rattle.bundle_report.specs.BundleReport.{end_of, histories_at}
-use Rattle.bundle_report.specs.SoFar.{runs_ended, lines_told, lines_from, runs_from, verdict_at, IsUneven, HaveRead, HaveLogs}
-use Rattle.bundle_report.proofs.CertifyLaws.{can_be_judged, courses-length}
+use Rattle.bundle_report.specs.SoFar.{runs_ended, lines_told, lines_from, runs_from, verdict_at, IsUneven, HaveRead}
 use Rattle.bundle_report.proofs.LeftLaws.{run_of, left-parts, next-parts, next-operations, runs-length, runs-more}
-use Rattle.bundle_report.proofs.PartLaws.{later-parts}
+use Rattle.bundle_report.proofs.LikeRunsLaws.{like-first_parts, like-verdict, like-operations, like-left}
 use Rattle.bundle_report.proofs.LinesLaws.{lines-more, lines-behind}
 use Rattle.bundle_report.proofs.SoFarLaws.{end-taken, counted-within, behind, next-tells, uneven-judged}
 use Rattle.certified_epochs.specs.declared.fed_run.FedRun.{FedRun}
-use Rattle.certified_epochs.specs.Turn.{courses_in, IsVerdictAt, AreVerdictsOn, next_epoch, parts_left, Turned, no_turn, turn_by, turn_at, turn}
+use Rattle.certified_epochs.specs.Turn.{courses_in, IsVerdictAt, next_epoch, parts_left, Turned, no_turn, turn_by, turn_at, turn}
 
 -- ---- what a turn tells
 
@@ -74,13 +74,13 @@ module _ (scheme : Scheme) (header : Header) (log : List ℕ) (logs : List (List
 
   epoch_is : next_epoch runs ≡ option_map (λ part. part.epoch) (slice_get (drop so_far.count parts) 0)
   epoch_is =
-      ap next_epoch taken.runs_are
-      ∙ ap (λ (ps : List Part). option_map (λ (part : Part). part.epoch) (slice_get ps 0)) (left-parts scheme header 0 log so_far.count)
+      ap (λ (ps : List Part). option_map (λ (part : Part). part.epoch) (slice_get ps 0))
+      (like-first_parts (runs_from scheme header so_far.count 0 all) runs taken.runs_are ∙ left-parts scheme header 0 log so_far.count)
 
   -- the verdict on it
   verdict_is : verdict_of (length runs) epoch (parts_at 0 (courses_in runs)) ≡ verdict_at scheme header all so_far.count
   verdict_is =
-      ap (λ (rs : List (Progress Operation)). verdict_of (length rs) epoch (parts_at 0 (courses_in rs))) taken.runs_are
+      like-verdict epoch 0 (runs_from scheme header so_far.count 0 all) runs taken.runs_are
       ∙ ap (λ (n : ℕ). verdict_of n epoch (parts_at 0 (courses_in (runs_from scheme header so_far.count 0 all))))
       (runs-length scheme header so_far.count 0 all ∙ taken.whole)
       ∙ ap (verdict_of header.verifiers epoch) (next-parts scheme header so_far.count 0 all)
@@ -88,7 +88,7 @@ module _ (scheme : Scheme) (header : Header) (log : List ℕ) (logs : List (List
   -- its lines
   text_is : {A : Type 0} (tell : EpochTold A) → tell epoch (merged_up_to epoch (operations_among (courses_in runs))) ≡ lines_told tell courses epoch
   text_is tell =
-      ap (λ (rs : List (Progress Operation)). tell epoch (merged_up_to epoch (operations_among (courses_in rs)))) taken.runs_are
+      ap (λ (ops : List Operation). tell epoch (merged_up_to epoch ops)) (like-operations (runs_from scheme header so_far.count 0 all) runs taken.runs_are)
       ∙ ap (λ (ops : List Operation). tell epoch (merged moment_of ops)) (next-operations scheme header so_far.count 0 all)
 
   -- it is balanced
@@ -97,7 +97,9 @@ module _ (scheme : Scheme) (header : Header) (log : List ℕ) (logs : List (List
     taken = record {
       header_good = taken.header_good;
       whole = taken.whole;
-      runs_are = ap (map (left_of epoch)) taken.runs_are ∙ runs-more scheme header so_far.count 0 all;
+      runs_are =
+          subst (λ (rs : List (Progress Operation)). AreLike rs (map (left_of epoch) runs)) (runs-more scheme header so_far.count 0 all)
+          (like-left epoch (runs_from scheme header so_far.count 0 all) runs taken.runs_are);
       balanced = λ index below. by index below (cases_lt index so_far.count);
       uneven = subst (λ (o : Option Uneven). IfSome o (IsUneven scheme header all (suc so_far.count))) (sym even) tt;
     };
@@ -172,21 +174,6 @@ turn-tells tell scheme header (log ∷ logs) so_far runs taken even =
     (sym (epoch_is scheme header log logs so_far runs taken even))
     (by_parts scheme header log logs so_far runs taken even tell (drop so_far.count (run_of scheme header 0 log).course.parts) refl)
 
--- The parts of the next epoch can be judged.
-pub next-judged : (so_far : Judged) (runs : List (Progress Operation)) → HaveLogs so_far runs
-    → CanBeJudged (length runs) (parts_at 0 (courses_in runs))
-next-judged so_far runs have =
-    let scheme = have.0 in
-    let header = have.1 in
-    let logs = have.2 in
-    let taken = have.3 in
-    subst (λ (rs : List (Progress Operation)). CanBeJudged (length rs) (parts_at 0 (courses_in rs))) (sym taken.runs_are)
-    (subst (λ (parts : List Part). CanBeJudged (length (runs_from scheme header so_far.count 0 logs)) parts)
-    (sym (next-parts scheme header so_far.count 0 logs))
-    (subst (λ (n : ℕ). CanBeJudged n (parts_at so_far.count (courses_of scheme header logs)))
-    (courses-length scheme header 0 logs ∙ sym (runs-length scheme header so_far.count 0 logs))
-    (can_be_judged scheme header logs taken.header_good taken.whole so_far.count)))
-
 -- ---- the turn that the code makes
 
 -- the courses of runs that are fed
@@ -196,7 +183,7 @@ fed_courses runs = map (λ fed. fed.run.course) runs
 abbrev pub runs_of : List FedRun → List (Progress Operation)
 runs_of runs = map (λ fed. fed.run) runs
 
-courses_same : (runs : List FedRun) → courses_in (runs_of runs) ≡ fed_courses runs
+pub courses_same : (runs : List FedRun) → courses_in (runs_of runs) ≡ fed_courses runs
 courses_same [] = refl
 courses_same (fed ∷ runs) = ap (λ (courses : List (Course Operation)). fed.run.course ∷ courses) (courses_same runs)
 
@@ -204,16 +191,9 @@ left_same : (epoch : ℕ) (runs : List FedRun) → map (left_of epoch) (runs_of 
 left_same epoch [] = refl
 left_same epoch (fed ∷ runs) = ap (λ (rs : List (Progress Operation)). left_of epoch fed.run ∷ rs) (left_same epoch runs)
 
-runs_many : (runs : List FedRun) → length (runs_of runs) ≡ length runs
+pub runs_many : (runs : List FedRun) → length (runs_of runs) ≡ length runs
 runs_many [] = refl
 runs_many (fed ∷ runs) = ap suc (runs_many runs)
-
--- The parts of the next epoch can be judged.
-pub fed-judged : (so_far : Judged) (runs : List FedRun) → HaveLogs so_far (runs_of runs) → CanBeJudged (length runs) (parts_at 0 (fed_courses runs))
-fed-judged so_far runs have =
-    subst (λ (n : ℕ). CanBeJudged n (parts_at 0 (fed_courses runs))) (runs_many runs)
-    (subst (λ (courses : List (Course Operation)). CanBeJudged (length (runs_of runs)) (parts_at 0 courses)) (courses_same runs)
-    (next-judged so_far (runs_of runs) have))
 
 -- The verdict on gathered parts is that of the runs.
 pub gathered-verdict : (runs : List FedRun) (epoch : ℕ) (parts : List Part) (verdict : Verdict) → parts ≡ parts_at 0 (fed_courses runs)
@@ -225,59 +205,11 @@ gathered-verdict runs epoch parts verdict gathered is =
 
 -- ---- verdicts that are handed in
 
--- The epoch of the next part is as many behind the first as are counted.
-next_is : (scheme : Scheme) (header : Header) (logs : List (List ℕ)) (so_far : Judged) (runs : List (Progress Operation)) (epoch : ℕ)
-    → HaveRead scheme header logs so_far runs → so_far.unbalanced ≡ None → next_epoch runs ≡ Some epoch → epoch ≡ header.first + so_far.count
-next_is scheme header [] so_far runs epoch taken even is = absurd (omega (arith, taken.whole, taken.header_good.some_verifiers))
-next_is scheme header (log ∷ logs) so_far runs epoch taken even is =
-    go (drop so_far.count (run_of scheme header 0 log).course.parts) refl
-  where
-    at : next_epoch runs ≡ option_map (λ part. part.epoch) (slice_get (drop so_far.count (run_of scheme header 0 log).course.parts) 0)
-    at = epoch_is scheme header log logs so_far runs taken even
-
-    go : (parts : List Part) → drop so_far.count (run_of scheme header 0 log).course.parts ≡ parts → epoch ≡ header.first + so_far.count
-    go [] none =
-        let absent = at ∙ ap (λ (ps : List Part). option_map (λ (p : Part). p.epoch) (slice_get ps 0)) none in
-        absurd (cc)
-    go (part ∷ parts) some =
-        let there = at ∙ ap (λ (ps : List Part). option_map (λ (p : Part). p.epoch) (slice_get ps 0)) some in
-        let own : part.epoch ≡ epoch = cc in
-        let next = next-tells scheme header log logs so_far runs taken (part ∷ parts) some in
-        sym own ∙ next.0
-
 -- what is known of one that is handed in for the epoch that comes
 pub handed-at : {V : Type 0} (P : ℕ → V → Type 0) (e : ℕ) (found : Option ℕ) (handed : Option V) → found ≡ Some e
     → IfSome handed (λ verdict. (other : ℕ) → found ≡ Some other → P other verdict) → IfSome handed (P e)
 handed-at P e found None is known = tt
 handed-at P e found (Some verdict) is known = known e is
-
--- A verdict by the runs is what the logs tell that they have taken.
-verdict_told : (scheme : Scheme) (header : Header) (logs : List (List ℕ)) (so_far : Judged) (runs : List (Progress Operation)) (index : ℕ)
-    → HaveRead scheme header logs so_far runs
-    → verdict_of (length runs) (header.first + so_far.count + index) (parts_at index (courses_in runs)) ≡ verdict_at scheme header logs (so_far.count + index)
-verdict_told scheme header logs so_far runs index taken =
-    let same : header.first + so_far.count + index ≡ header.first + (so_far.count + index) = omega arith in
-    let epoch = header.first + (so_far.count + index) in
-    ap (λ (e : ℕ). verdict_of (length runs) e (parts_at index (courses_in runs))) same
-    ∙ ap (λ (rs : List (Progress Operation)). verdict_of (length rs) epoch (parts_at index (courses_in rs))) taken.runs_are
-    ∙ ap (λ (n : ℕ). verdict_of n epoch (parts_at index (courses_in (runs_from scheme header so_far.count 0 logs))))
-    (runs-length scheme header so_far.count 0 logs ∙ taken.whole)
-    ∙ ap (verdict_of header.verifiers epoch) (later-parts scheme header so_far.count index 0 logs)
-
--- Of verdicts on the next epochs, the one at the place up to which certifying has come is that on the next.
-pub settled-next : (scheme : Scheme) (header : Header) (logs : List (List ℕ)) (start now : Judged) (first runs : List (Progress Operation)) (settled : List Verdict)
-    (verdict : Verdict) (epoch : ℕ) → HaveRead scheme header logs start first → HaveRead scheme header logs now runs → now.unbalanced ≡ None
-    → start.count ≤ now.count → AreVerdictsOn start first settled → slice_get settled (now.count - start.count) ≡ Some verdict → next_epoch runs ≡ Some epoch
-    → IsVerdictAt runs 0 epoch verdict
-settled-next scheme header logs start now first runs settled verdict epoch before taken even within are there next =
-    let index = now.count - start.count in
-    let place : start.count + index ≡ now.count + 0 = omega (arith, within) in
-    let own : epoch ≡ header.first + now.count + 0 = omega (arith, next_is scheme header logs now runs epoch taken even next) in
-    are scheme header logs before index verdict there
-    ∙ verdict_told scheme header logs start first index before
-    ∙ ap (verdict_at scheme header logs) place
-    ∙ sym (verdict_told scheme header logs now runs 0 taken)
-    ∙ ap (λ (e : ℕ). verdict_of (length runs) e (parts_at 0 (courses_in runs))) (sym own)
 
 -- a turn with its text
 pub with_text : {A : Type 0} (t : Turned A) (more : Bool) (now : Judged) (runs : List (Progress Operation)) (text : List A)
@@ -385,11 +317,6 @@ less-left epoch (fed ∷ old) new found is next left =
         let fewer : length (filter (λ (p : Part). nat_lt epoch p.epoch) (part ∷ parts)) ≡ length (filter (λ (p : Part). nat_lt epoch p.epoch) parts) =
         ap length (cond-false (nat_lt epoch part.epoch) _ _ dropped) in
         omega (arith, new_parts, fewer, rest, ap length some)
-
-pub count-small : (so_far : Judged) (runs : List FedRun) (found : Option ℕ) (epoch : ℕ) → HaveLogs so_far (runs_of runs)
-    → so_far.unbalanced ≡ None → found ≡ Some epoch → found ≡ next_epoch (runs_of runs) → so_far.count ≤ epoch
-count-small so_far runs found epoch have even is next =
-    omega (arith, next_is have.0 have.1 have.2 so_far (runs_of runs) epoch have.3 even (sym next ∙ is))
 
 -- ---- turn after turn
 

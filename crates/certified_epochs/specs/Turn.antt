@@ -2,8 +2,6 @@
 use Rattle.std.specs.Prelude.{◌≡◌, ℕ, suc, ◌+◌, Bool, true, false, List, [], length, map, slice_get, Option, Some, None}
 use Rattle.std.specs.List.{AllByRecursion}
 use Rattle.std.specs.Option.{option_map}
-use Rattle.lamport_clocks.specs.declared.header.Header.{Header}
-use Rattle.merkle_records.specs.Scheme.{Scheme}
 use Rattle.epoch_gather.specs.declared.outcome.Verdict.{Verdict}
 use Rattle.epoch_gather.specs.declared.outcome.Verdict.TheVariants as verdicts
 use Rattle.epoch_gather.specs.Verdict.{verdict_of}
@@ -17,7 +15,7 @@ use Rattle.bundle_report.specs.declared.judged.Judged.{Judged}
 use Rattle.bundle_report.specs.Report.{EpochTold}
 use Rattle.bundle_report.specs.RunReport.{parts_at, operations_among}
 use Rattle.bundle_report.specs.Judged.{first_parts}
-use Rattle.bundle_report.specs.SoFar.{HaveRead}
+use Rattle.resumed_runs.specs.Base.{AllCanBeCertified}
 use Rattle.certified_epochs.specs.declared.fed_run.FedRun.{FedRun}
 
 -- no run was starved
@@ -48,12 +46,17 @@ next_epoch runs = option_map (λ part. part.epoch) (slice_get (first_parts (cour
 abbrev pub IsVerdictAt : List (Progress Operation) → ℕ → ℕ → Verdict → Type 0
 IsVerdictAt runs index epoch verdict = verdict ≡ verdict_of (length runs) epoch (parts_at index (courses_in runs))
 
--- these are the verdicts on the next epochs, one after another, whatever logs the runs have taken
+-- Runs can be certified further, whatever logs they took, if any: behind as many epochs as are counted, from a first one on, each has what
+-- a verdict takes.
+pub record CanCertify (so_far : Judged) (runs : List (Progress Operation)) : Type 0 where
+  pub first : ℕ
+  pub each : AllCanBeCertified (first + so_far.count) 0 runs
+
+-- these are the verdicts on the next epochs, one after another, where runs can be certified
 abbrev pub AreVerdictsOn : Judged → List (Progress Operation) → List Verdict → Type 0
 AreVerdictsOn so_far runs verdicts =
-    (scheme : Scheme) (header : Header) (logs : List (List ℕ)) → HaveRead scheme header logs so_far runs
-    → (index : ℕ) (verdict : Verdict) → slice_get verdicts index ≡ Some verdict
-    → IsVerdictAt runs index (header.first + so_far.count + index) verdict
+    (can : CanCertify so_far runs) (index : ℕ) (verdict : Verdict) → slice_get verdicts index ≡ Some verdict
+    → IsVerdictAt runs index (can.first + so_far.count + index) verdict
 
 -- how many parts the first run still has
 abbrev pub parts_left : List FedRun → ℕ

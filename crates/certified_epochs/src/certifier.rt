@@ -9,17 +9,17 @@ ghost use Rattle.merkle_records.specs.Scheme.{Scheme};
 ghost use Rattle.record_text.specs.declared.operation.Operation.{Operation};
 ghost use Rattle.report_text.specs.Page.{Passes};
 ghost use Rattle.bundle_report.specs.RunReport.{courses_of, parts_at};
-ghost use Rattle.bundle_report.specs.Judged.{judged};
+ghost use Rattle.bundle_report.specs.Judged.{judged, refused_log, end_by};
 ghost use Rattle.log_codec.specs.Log.{read_log};
 ghost use Rattle.report_text.specs.Ending.{status_of};
 ghost use Rattle.report_text.specs.Status.{last_line};
 ghost use Rattle.bundle_report.specs.BundleReport.{histories_at, end_of};
-ghost use Rattle.bundle_report.specs.SoFar.{HaveRead, HaveLogs, lines_from, runs_ended};
+ghost use Rattle.bundle_report.specs.SoFar.{HaveRead, lines_from, runs_ended};
 ghost use Rattle.bundle_report.specs.Judged.{none_judged};
 ghost use Rattle.bundle_report.specs.Report.{operations_told};
 ghost use Rattle.verifier_run.specs.Taken.{left_of};
 ghost use Rattle.certified_epochs.specs.Telling.{text_by};
-ghost use Rattle.certified_epochs.specs.Turn.{AreFed, AreVerdictsOn, IsVerdictAt, next_epoch, parts_left, turn};
+ghost use Rattle.certified_epochs.specs.Turn.{AreFed, CanCertify, AreVerdictsOn, IsVerdictAt, next_epoch, parts_left, turn};
 
 use crate::ending::{end_of, first_refused};
 use crate::fed_run::FedRun;
@@ -61,9 +61,16 @@ impl Certifier {
     pub fn new(alloc: Global) -> Self
         ensures none { result ≡ none_judged }
     {
+        Certifier::resume(alloc, 0)
+    }
+
+    /// Behind so many epochs, which are certified.
+    pub fn resume(alloc: Global, certified: u32) -> Self
+        ensures counted { result ≡ record { count = certified; unbalanced = None } }
+    {
         Certifier {
             judged: Judged {
-                count: 0,
+                count: certified as usize,
                 unbalanced: None,
             },
             parts: Vec::new(alloc),
@@ -93,7 +100,7 @@ impl Certifier {
         out: &mut O,
     ) -> Result<(), Failure>
         requires few { length runs.old ≤ 64 }
-        requires logs { AreFed runs.old → HaveLogs self.old (map (λ fed. fed.run) runs.old) }
+        requires can { AreFed runs.old → CanCertify self.old (map (λ fed. fed.run) runs.old) }
         requires settled { AreFed runs.old → AreVerdictsOn self.old (map (λ fed. fed.run) runs.old) settled.now }
 
         // Of all logs that the runs have taken so far: what they certify is counted, written and added.
@@ -118,6 +125,12 @@ impl Certifier {
             → OnErr result (GrowsByFront (O.held out.old) (O.held out.new)
             (lines_from (text_by D.functions telling.now) (courses_of scheme header logs) (header.first + self.old.count)
             ((judged header.verifiers (courses_of scheme header logs)).count - self.old.count))) }
+
+        // Whatever logs they took, if any: the runs can be certified further, and all that they are but what was taken out of them
+        // stays.
+        ensures can { OnOk result (CanCertify self.new (map (λ fed. fed.run) runs.new)) }
+        ensures machines { OnOk result (map (λ fed. fed.run.course.machine) runs.new ≡ map (λ fed. fed.run.course.machine) runs.old) }
+        ensures held { OnOk result (map (λ fed. fed.run.held) runs.new ≡ map (λ fed. fed.run.held) runs.old) }
 
         // With an answer, no run was starved; where one was, nothing is written.
         ensures fed { OnOk result (AreFed runs.old × AreFed runs.new) }
@@ -151,6 +164,12 @@ impl Certifier {
     /// be certified before.
     pub fn end(&self, runs: &mut [FedRun], bad: Option<u64>) -> BundleEnd
         requires few { length runs.old ≤ 64 }
+
+        // Whatever logs they took, if any.
+        ensures ended { map (λ fed. fed.run) runs.new ≡ runs_ended (map (λ fed. fed.run) runs.old) }
+        ensures value { result ≡ end_by self.now.count self.now.unbalanced (refused_log 0 (map (λ fed. fed.run.course) runs.new)) bad }
+
+        // Of all logs that they have taken, where all that these certify is counted: how their report ends.
         ensures end { (scheme : Scheme) (header : Header) (logs : List (List ℕ))
             → HaveRead scheme header logs self.now (map (λ fed. fed.run) runs.old)
             → self.now ≡ judged header.verifiers (courses_of scheme header logs)
@@ -205,7 +224,7 @@ impl Certifier {
     ) -> Result<bool, Failure>
         requires few { length runs.old ≤ 64 }
         requires even { self.old.unbalanced ≡ None }
-        requires logs { HaveLogs self.old (map (λ fed. fed.run) runs.old) }
+        requires can { CanCertify self.old (map (λ fed. fed.run) runs.old) }
         requires handed { IfSome handed (λ verdict. (epoch : ℕ) → next_epoch (map (λ fed. fed.run) runs.old) ≡ Some epoch
             → IsVerdictAt (map (λ fed. fed.run) runs.old) 0 epoch verdict.now) }
         ensures turned { IfOk result (λ more. turn (text_by D.functions telling.now) self.old (map (λ fed. fed.run) runs.old)

@@ -1,12 +1,15 @@
 -- How a check begins: what has come once a header was read, and how it ends where none is good.
-use Rattle.std.proofs.Common.{◌≡◌, ◌⊎◌, ℕ, ◌+◌, ◌-◌, ◌≤◌, List, [], take, Option, Some, None, IfSome, Result, Ok, Err, OnOk, OnErr, inl, inr, refl, sym, ◌∙◌, ap, subst, arith}
-use Rattle.std.specs.Prelude.{IsSomeAnd}
+use Rattle.std.proofs.Common.{◌≡◌, ℕ, ◌+◌, ◌-◌, ◌≤◌, List, [], take, Option, Some, None, IfSome, Result, Ok, refl, sym, ◌∙◌, ap, subst, arith}
+use Rattle.std.specs.Prelude.{IsSomeAnd, map}
+use Rattle.std.specs.List.{fold}
 use Rattle.fv_outside.specs.Consumed.{StopsAtEnd, TookToEnd}
-use Rattle.fv_outside.specs.Faults.{Rose}
-use Rattle.fv_outside.specs.Written.{Grows, GrowsByFront}
-use Rattle.fv_outside.proofs.WrittenLaws.{Grows-nil}
+use Rattle.fv_outside.specs.Written.{Grows}
+use Rattle.fv_outside.proofs.WrittenLaws.{Grows-same}
 use Rattle.record_hash.specs.Functions.{DigestFunctions}
 use Rattle.lamport_clocks.specs.declared.header.Header.{Header}
+use Rattle.lamport_clocks.specs.Header.{IsHeader}
+use Rattle.record_text.specs.declared.operation.Operation.{Operation}
+use Rattle.merkle_records.specs.Scheme.{scheme_of}
 use Rattle.bundle_frames.specs.declared.coming.Next.{Next}
 use Rattle.bundle_frames.specs.declared.coming.Next.TheVariants.{Head, Frame}
 use Rattle.fv_outside.specs.declared.failure.Failure.{Failure}
@@ -15,23 +18,24 @@ use Rattle.bundle_frames.specs.Extent.{reading_end}
 use Rattle.bundle_frames.specs.Reading.{Reading, opening_reading, ahead, end_ahead, next_then, header_then, HasRead, ReadsAs}
 use Rattle.bundle_frames.proofs.ReadingLaws.{HasRead-none, ReadsAs-none, ReadsAs-then, ReadsAs-kept, ReadsAs-map, ReadsAs-back, TookAtMost-from_read, end_opening}
 use Rattle.report_text.specs.declared.status.Status.TheVariants as statuses
-use Rattle.report_text.specs.declared.ending.BundleEnd.{BundleEnd}
-use Rattle.report_text.specs.declared.ending.BundleEnd.TheVariants.{BadBundle}
 use Rattle.report_text.specs.Answer.{Answer, Writing, AnswersTo}
 use Rattle.bundle_report.specs.Logs.{log_count, empty_logs, logs_then}
 use Rattle.bundle_report.specs.Logged.{Logged, behind, logged_of}
-use Rattle.bundle_report.specs.Answer.{no_answer}
-use Rattle.fv_outside.specs.declared.failure.Failure.TheVariants.{WriteFault}
-use Rattle.check_core.specs.Asked.{Asked, asked_at, asked_by, asked_answer}
+use Rattle.bundle_report.specs.declared.judged.Judged.{Judged}
+use Rattle.bundle_report.specs.Judged.{none_judged}
+use Rattle.bundle_report.specs.Report.{operations_told}
+use Rattle.bundle_report.specs.SoFar.{HaveRead, opening_runs}
+use Rattle.bundle_report.proofs.DueLaws.{taken-none}
+use Rattle.certified_epochs.specs.declared.fed_run.FedRun.{FedRun}
+use Rattle.check_core.specs.Asked.{Asked, asked_none, asked_at, asked_by, asked_answer}
 use Rattle.check_core.specs.Intake.{behind_at}
-use Rattle.check_core.specs.Outcomes.{check_status}
-use Rattle.check_core.specs.Stream.{HasCome}
-use Rattle.report_text.proofs.AnsweringLaws.{answers-end, answers-write_fault}
+use Rattle.check_core.specs.Stream.{HasCome, AreChecked, asked_behind, lines_counted}
+use Rattle.report_text.proofs.AnsweringLaws.{answers-end}
 use Rattle.check_core.proofs.MeaningLemmas.{opening_joined, reads_next}
 use Rattle.check_core.proofs.StreamLemmas.{reads_taken}
 
 -- before anything is read
-pub come_none : (limit : ℕ) (left : Option (List ℕ)) (faults : ℕ) (reading : Reading) → reading ≡ opening_reading limit → HasCome left faults [] reading left faults
+pub come_none : (limit : ℕ) (left : Option (List ℕ)) (faults : ℕ) (reading : Reading) → reading ≡ opening_reading limit → HasCome left faults 0 [] reading left faults
 come_none limit left faults reading is =
     let none = ap (λ (r : Reading). r.taken) is in
     record {
@@ -46,7 +50,7 @@ module _ (limit : ℕ) (left : Option (List ℕ)) (faults : ℕ) (old new : Read
   sum : new.taken ≡ old.taken + (new.taken - old.taken)
   sum = omega (arith, rises)
 
-  come : HasCome left faults [] old left faults
+  come : HasCome left faults 0 [] old left faults
   come = come_none limit left faults old opening
 
   -- a header came: there is a log of no bytes for each verifier
@@ -73,7 +77,7 @@ module _ (limit : ℕ) (left : Option (List ℕ)) (faults : ℕ) (old new : Read
       (λ more. ap (behind old.progress.header []) (same (ahead new more)) ∙ ap (λ (h : Option Header). behind h [] (ahead new more)) (sym known))) sum
 
 -- a bundle with no good header
-none_answer : (asked : Asked) (functions : DigestFunctions) (logged : Logged) → logged.header ≡ None → asked_by asked functions logged ≡ no_answer
+none_answer : (asked : Asked) (functions : DigestFunctions) (logged : Logged) → logged.header ≡ None → asked_by asked functions logged ≡ asked_none asked
 none_answer asked functions logged is = ap (λ (h : Option Header). asked_at asked functions h logged.logs logged.bad) is
 
 module _ (asked : Asked) (functions : DigestFunctions) (limit : ℕ) (left left_then : Option (List ℕ)) (faults faults_then : ℕ) (new : Reading)
@@ -84,41 +88,46 @@ module _ (asked : Asked) (functions : DigestFunctions) (limit : ℕ) (left left_
   due_none same =
       reads_taken (λ (logged : Logged). Grows writing.held writing.held_after (asked_by asked functions logged).due) new.taken left logged_of (behind_at [] new) means
       (subst (λ (answer : Answer). Grows writing.held writing.held_after answer.due) (sym (none_answer asked functions (behind_at [] new []) none))
-      (subst (λ (held : Option (List ℕ)). Grows writing.held held []) (sym same) (Grows-nil writing.held)))
+      (Grows-same writing.held writing.held_after same))
 
   -- what holds of the answer holds at the end
-  at_end : (P : Answer → Type 0) (x : Option (List ℕ)) → IfSome x (λ rest. ahead new rest ≡ ahead new []) → P no_answer
+  at_end : (P : Answer → Type 0) (x : Option (List ℕ)) → IfSome x (λ rest. ahead new rest ≡ ahead new []) → P (asked_none asked)
       → IfSome x (λ rest. P (asked_by asked functions (behind_at [] new rest)))
   at_end P None same holds = tt
   at_end P (Some rest) same holds =
       subst P (sym (none_answer asked functions (behind_at [] new rest) (ap (λ b. b.header) same ∙ none))) holds
 
   -- the report is its last line
-  pub bad_answers : (result : Result BundleEnd Failure) → (result ≡ Ok (BadBundle 0)) ⊎ (result ≡ Err WriteFault)
-      → OnOk result (Grows writing.held writing.held_after no_answer.text)
-      → OnErr result (GrowsByFront writing.held writing.held_after no_answer.text)
-      → OnErr result (Rose writing.faults writing.faults_after)
+  pub bad_answers : Grows writing.held writing.held_after (asked.last (statuses.BadBundle 0))
       → HasRead new.taken left left_then → new.taken ≤ limit
       → IfSome left_then (λ rest. ahead new rest ≡ ahead new [])
       → TookToEnd reading_end left left_then → StopsAtEnd reading_end left left_then
-      → AnswersTo (asked_answer asked functions) reading_end limit (check_status limit result)
+      → AnswersTo (asked_answer asked functions) reading_end limit (statuses.BadBundle 0)
       (record { left = left; left_after = left_then; faults = faults; faults_after = faults_then }) writing
-  bad_answers result (inl is) whole front rose having_read within ends reached stops =
-      subst (λ (r : Result BundleEnd Failure). AnswersTo (asked_answer asked functions) reading_end limit (check_status limit r)
-      (record { left = left; left_after = left_then; faults = faults; faults_after = faults_then }) writing) (sym is)
-      (answers-end (asked_answer asked functions) reading_end limit _ writing (statuses.BadBundle 0) tt
+  bad_answers line having_read within ends reached stops =
+      answers-end (asked_answer asked functions) reading_end limit _ writing (statuses.BadBundle 0) tt
       (ReadsAs-back (λ (logged : Logged). statuses.BadBundle 0 ≡ (asked_by asked functions logged).status) new.taken left left_then logged_of (behind_at [] new) having_read means
       (at_end (λ (answer : Answer). statuses.BadBundle 0 ≡ answer.status) left_then ends refl))
       (ReadsAs-back (λ (logged : Logged). Grows writing.held writing.held_after (asked_by asked functions logged).text) new.taken left left_then logged_of (behind_at [] new) having_read means
-      (at_end (λ (answer : Answer). Grows writing.held writing.held_after answer.text) left_then ends
-      (subst (λ (r : Result BundleEnd Failure). OnOk r (Grows writing.held writing.held_after no_answer.text)) is whole)))
-      (TookAtMost-from_read new.taken limit left left_then having_read within) reached stops)
-  bad_answers result (inr is) whole front rose having_read within ends reached stops =
-      subst (λ (r : Result BundleEnd Failure). AnswersTo (asked_answer asked functions) reading_end limit (check_status limit r)
-      (record { left = left; left_after = left_then; faults = faults; faults_after = faults_then }) writing) (sym is)
-      (answers-write_fault (asked_answer asked functions) reading_end limit _ writing
-      (ReadsAs-back (λ (logged : Logged). GrowsByFront writing.held writing.held_after (asked_by asked functions logged).text) new.taken left left_then logged_of (behind_at [] new) having_read means
-      (at_end (λ (answer : Answer). GrowsByFront writing.held writing.held_after answer.text) left_then ends
-      (subst (λ (r : Result BundleEnd Failure). OnErr r (GrowsByFront writing.held writing.held_after no_answer.text)) is front)))
-      (TookAtMost-from_read new.taken (limit + 1) left left_then having_read (omega (arith, within))) stops
-      (subst (λ (r : Result BundleEnd Failure). OnErr r (Rose writing.faults writing.faults_after)) is rose))
+      (at_end (λ (answer : Answer). Grows writing.held writing.held_after answer.text) left_then ends line))
+      (TookAtMost-from_read new.taken limit left left_then having_read within) reached stops
+
+-- ---- the runs, before they take anything
+
+-- they have taken logs of no bytes
+pub opened_runs : (functions : DigestFunctions) (header : Header) (so_far : Judged) (runs : List FedRun) → IsHeader header → so_far ≡ none_judged
+    → map (λ fed. fed.run) runs ≡ opening_runs header 0 header.verifiers → AreChecked functions header (empty_logs header.verifiers) so_far runs
+opened_runs functions header so_far runs good none opening =
+    subst (λ (j : Judged). AreChecked functions header (empty_logs header.verifiers) j runs) (sym none)
+    (subst (HaveRead (scheme_of functions header) header (empty_logs header.verifiers) none_judged) (sym opening) (taken-none (scheme_of functions header) header good))
+
+-- of an answer nothing stands elsewhere
+pub behind_none : (asked : Asked) (functions : DigestFunctions) (header : Header) (logs : List (List ℕ)) (so_far : Judged) → so_far ≡ none_judged
+    → asked_behind asked functions header logs so_far ≡ asked_answer asked functions
+behind_none asked functions header logs so_far none = ap (asked_behind asked functions header logs) none
+
+-- and nothing is counted
+pub made_none : {S : Type 0} (step : S → Operation → S) (start : S) (functions : DigestFunctions) (header : Header) (logs : List (List ℕ)) (so_far : Judged) → so_far ≡ none_judged
+    → start ≡ fold step start (lines_counted operations_told functions header logs so_far)
+made_none step start functions header logs so_far none =
+    sym (ap (λ (j : Judged). fold step start (lines_counted operations_told functions header logs j)) none)

@@ -7,5 +7,26 @@ mod LogLemmas
 mod MeaningLemmas
 mod StreamLemmas
 mod EndingLemmas
+mod GoingOnLemmas
+mod GoneOnLemmas
 mod HeaderLemmas
+mod LastLineLemmas
+mod ResumedLemmas
 pub mod WholeReadLaws
+-- what a check that seals comes to
+mod SealedLemmas
+mod PlacingLemmas
+mod SealingLemmas
+mod SealEndLemmas
+mod NamedSealLemmas
+-- what going on from a seal comes to
+mod SealReadingLemmas
+mod KeptRunLemmas
+mod RefusingLemmas
+mod ResumingLemmas
+mod UnresumedLemmas
+mod RestLemmas
+mod SealedRunsLemmas
+mod MovedLemmas
+mod GoingFromLemmas
+mod FoundLemmas

@@ -1,8 +1,10 @@
 -- A check in the middle of a bundle, batch after batch.
-use Rattle.std.proofs.Common.{◌≡◌, ◌⊎◌, ℕ, zero, suc, ◌+◌, ◌-◌, ◌<◌, ◌≤◌, Bool, List, [], ◌∷◌, ◌++◌, length, map, take, drop, Option, Some, None, IfSome, inl, inr, true, false, true≢false, refl, sym, ◌∙◌, ap, subst, append-nil, take-append-drop, arith}
+use Rattle.std.proofs.Common.{◌≡◌, ◌⊎◌, ℕ, zero, suc, ◌+◌, ◌-◌, ◌<◌, ◌≤◌, Bool, List, [], ◌∷◌, ◌++◌, length, map, take, drop, Option, Some, None, IfSome, inl, inr, ⊎_elim, true, false, true≢false, refl, sym, ◌∙◌, ap, subst, append-nil, take-append-drop, arith}
 use Rattle.std.specs.List.{AllByRecursion, fold}
 use Rattle.std.proofs.lemmas.List.Sums.{fold-append}
 use Rattle.std.proofs.Math.Seq.{take-add}
+use Rattle.std.proofs.lemmas.Bool.{cases_lt}
+use Rattle.std.proofs.lemmas.List.{drop-append-le}
 use Rattle.fv_outside.specs.Consumed.{most_behind}
 use Rattle.fv_outside.specs.Written.{Grows, GrowsByFront}
 use Rattle.fv_outside.proofs.WrittenLaws.{Grows-then, GrowsByFront-whole, GrowsByFront-more, GrowsByFront-then}
@@ -13,7 +15,7 @@ use Rattle.merkle_records.specs.Scheme.{Scheme, scheme_of}
 use Rattle.bundle_frames.specs.Bundle.{Frame, IsFrame, with_frames}
 use Rattle.bundle_frames.specs.Extent.{reading_end}
 use Rattle.bundle_frames.specs.Reading.{Reading, ahead, end_ahead, HasRead, ReadsAs}
-use Rattle.bundle_frames.proofs.ReadingLaws.{HasRead-then, ReadsAs-then, ReadsAs-kept, ReadsAs-map, near-then}
+use Rattle.bundle_frames.proofs.ReadingLaws.{HasRead-then, ReadsAs-then, ReadsAs-kept, ReadsAs-map, ReadsAs-back}
 use Rattle.verifier_run.specs.Course.{Course}
 use Rattle.record_text.specs.declared.operation.Operation.{Operation}
 use Rattle.verifier_run.specs.Progress.{fed, weight}
@@ -24,7 +26,8 @@ use Rattle.bundle_report.specs.Report.{EpochText, EpochTold}
 use Rattle.report_text.specs.Answer.{Answer}
 use Rattle.bundle_report.specs.RunReport.{courses_of}
 use Rattle.bundle_report.specs.Judged.{judged}
-use Rattle.bundle_report.specs.SoFar.{lines_from, runs_behind, opening_runs, HaveRead}
+use Rattle.bundle_report.specs.SoFar.{lines_from, runs_from, runs_behind, opening_runs, HaveRead}
+use Rattle.bundle_report.proofs.LikeRunsLaws.{like-all, like-all_back}
 use Rattle.bundle_report.proofs.LinesLaws.{lines-behind}
 use Rattle.bundle_report.proofs.SoFarLaws.{taken-more, lines-taken, counted-within}
 use Rattle.bundle_report.proofs.DueLaws.{lines-certified, lines-due, lines-front, due-stays}
@@ -70,6 +73,22 @@ pub same_left : {A : Type 0} (P : A → Type 0) (a : A) (x : Option (List ℕ)) 
 same_left P a None g same holds = tt
 same_left P a (Some left) g same holds = subst P same holds
 
+-- ---- a text without its front
+
+-- what a longer text adds, it adds behind the front that is left out too
+drop_front : (count : ℕ) (first more : List ℕ) → (rest : List ℕ) × (drop count (first ++ more) ≡ drop count first ++ rest)
+drop_front zero first more = (more, refl)
+drop_front (suc count) [] more = (drop (suc count) more, refl)
+drop_front (suc count) (byte ∷ first) more = drop_front count first more
+
+-- a front of a text is one of a longer text
+pub front_longer : (count : ℕ) (held held_now : Option (List ℕ)) (first more all : List ℕ) → first ++ more ≡ all
+    → GrowsByFront held held_now (drop count first) → GrowsByFront held held_now (drop count all)
+front_longer count held held_now first more all is written =
+    let rest = drop_front count first more in
+    subst (λ (text : List ℕ). GrowsByFront held held_now (drop count text)) is
+    (subst (GrowsByFront held held_now) (sym rest.1) (GrowsByFront-more held held_now (drop count first) rest.0 written))
+
 -- ---- a batch more
 
 -- the logs go on with the frames
@@ -87,8 +106,14 @@ means_more n x logs frames old new header known same reads =
     ∙ ap (λ (all : List (List ℕ)). record { header = rest.header; logs = all; bad = rest.bad }) (joined_more 0 logs frames rest.frames)
     ∙ sym (ap (λ (h : Option Header). behind h (joined_from 0 logs frames) rest) (same ∙ known)))
 
-module _ (left left_now : Option (List ℕ)) (faults faults_now : ℕ) (logs : List (List ℕ)) (old new : Reading)
-    (come : HasCome left faults logs old left_now faults_now) (rises : old.taken ≤ new.taken) where
+-- near an end, with some more between
+near_some : (x : Option (List ℕ)) (f : List ℕ → ℕ) (n more : ℕ) → IfSome x (λ bytes. n ≤ f bytes + most_behind)
+    → IfSome x (λ bytes. n ≤ f bytes + (more + most_behind))
+near_some None f n more near = tt
+near_some (Some bytes) f n more near = omega (arith, near)
+
+module _ (left left_now : Option (List ℕ)) (faults faults_now more : ℕ) (logs : List (List ℕ)) (old new : Reading)
+    (come : HasCome left faults more logs old left_now faults_now) (rises : old.taken ≤ new.taken) where
   pub sum-more : new.taken ≡ old.taken + (new.taken - old.taken)
   sum-more = omega (arith, rises)
 
@@ -96,14 +121,20 @@ module _ (left left_now : Option (List ℕ)) (faults faults_now : ℕ) (logs : L
   extent-more extent = ReadsAs-then _ _ _ _ _ _ _ _ come.having_read come.extent extent sum-more
 
   pub near-more : (old.taken < new.taken → IfSome left_now (λ bytes. new.taken ≤ end_ahead old bytes + most_behind))
-      → 0 < new.taken → IfSome left (λ bytes. new.taken ≤ reading_end bytes + most_behind)
-  near-more near = near-then _ _ _ _ _ _ _ _ _ come.having_read come.extent rises refl come.near near
+      → 0 < new.taken → IfSome left (λ bytes. new.taken ≤ reading_end bytes + (more + most_behind))
+  near-more near some = ⊎_elim
+      (λ less.
+      ReadsAs-back (λ (end : ℕ). new.taken ≤ end + (more + most_behind)) _ _ _ _ _ come.having_read come.extent
+      (near_some left_now (end_ahead old) new.taken more (near less)))
+      (λ none. let is : old.taken ≡ new.taken = omega (arith, rises, none) in
+      subst (λ (k : ℕ). IfSome left (λ bytes. k ≤ reading_end bytes + (more + most_behind))) is (come.near (omega (arith, some, is))))
+      (cases_lt old.taken new.taken)
 
   pub come-more : (all : List (List ℕ)) (left_then : Option (List ℕ)) (faults_then : ℕ) → HasRead (new.taken - old.taken) left_now left_then
       → ReadsAs new.taken left logged_of (behind_at all new)
       → ReadsAs (new.taken - old.taken) left_now (end_ahead old) (end_ahead new)
       → (old.taken < new.taken → IfSome left_now (λ bytes. new.taken ≤ end_ahead old bytes + most_behind))
-      → faults_now ≤ faults_then → HasCome left faults all new left_then faults_then
+      → faults_now ≤ faults_then → HasCome left faults more all new left_then faults_then
   come-more all left_then faults_then having_read means extent near rose = record {
     having_read = HasRead-then _ _ _ _ _ _ come.having_read having_read sum-more;
     means = means;
@@ -149,31 +180,29 @@ module _ (asked : Asked) (functions : DigestFunctions) (header : Header) (logs :
       due_ahead [] ∙ ap (λ (frames : List Frame). lines_due tell functions header (joined_from 0 logs frames)) none
       ∙ ap (lines_due tell functions header) same
 
-  -- What was counted is a front of what is due, whatever follows.
-  pub counted_front : (so_far : Judged) (runs : List FedRun) (held held_now : Option (List ℕ)) → AreChecked functions header logs so_far runs
-      → Grows held held_now (lines_counted tell functions header logs so_far)
-      → (more : List ℕ) → GrowsByFront held held_now (asked_by asked functions (behind_at logs reading more)).due
-  counted_front so_far runs held held_now checked written more =
+  -- What was counted is a front of what is due, whatever follows; so many bytes are left out.
+  pub counted_front : (count : ℕ) (so_far : Judged) (runs : List FedRun) (held held_now : Option (List ℕ)) → AreChecked functions header logs so_far runs
+      → Grows held held_now (drop count (lines_counted tell functions header logs so_far))
+      → (more : List ℕ) → GrowsByFront held held_now (drop count (asked_by asked functions (behind_at logs reading more)).due)
+  counted_front count so_far runs held held_now checked written more =
       let front = lines-front tell (scheme_of functions header) header logs so_far (map (λ fed. fed.run) runs) (ahead reading more).frames checked in
-      subst (GrowsByFront held held_now) (front.1 ∙ sym (due_ahead more))
-      (GrowsByFront-more held held_now (lines_counted tell functions header logs so_far) front.0 (GrowsByFront-whole _ _ _ written))
+      front_longer count held held_now (lines_counted tell functions header logs so_far) front.0 _ (front.1 ∙ sym (due_ahead more)) (GrowsByFront-whole _ _ _ written)
 
   -- So is a front of what is due by the logs so far, and of the whole text.
-  pub due_front : (held held_now : Option (List ℕ)) → IsHeader header → length logs ≡ header.verifiers
-      → GrowsByFront held held_now (lines_due tell functions header logs)
-      → (more : List ℕ) → GrowsByFront held held_now (asked_by asked functions (behind_at logs reading more)).due
-  due_front held held_now good whole written more =
+  pub due_front : (count : ℕ) (held held_now : Option (List ℕ)) → IsHeader header → length logs ≡ header.verifiers
+      → GrowsByFront held held_now (drop count (lines_due tell functions header logs))
+      → (more : List ℕ) → GrowsByFront held held_now (drop count (asked_by asked functions (behind_at logs reading more)).due)
+  due_front count held held_now good whole written more =
       let front = due-stays tell (scheme_of functions header) header logs (ahead reading more).frames good whole in
-      subst (GrowsByFront held held_now) (front.1 ∙ sym (due_ahead more)) (GrowsByFront-more held held_now (lines_due tell functions header logs) front.0 written)
+      front_longer count held held_now (lines_due tell functions header logs) front.0 _ (front.1 ∙ sym (due_ahead more)) written
 
-  pub text_front : (held held_now : Option (List ℕ)) → IsHeader header → length logs ≡ header.verifiers
-      → GrowsByFront held held_now (lines_due tell functions header logs)
-      → (more : List ℕ) → GrowsByFront held held_now (asked_by asked functions (behind_at logs reading more)).text
-  text_front held held_now good whole written more =
+  pub text_front : (count : ℕ) (held held_now : Option (List ℕ)) → IsHeader header → length logs ≡ header.verifiers
+      → GrowsByFront held held_now (drop count (lines_due tell functions header logs))
+      → (more : List ℕ) → GrowsByFront held held_now (drop count (asked_by asked functions (behind_at logs reading more)).text)
+  text_front count held held_now good whole written more =
       let front = due-stays tell (scheme_of functions header) header logs (ahead reading more).frames good whole in
-      subst (GrowsByFront held held_now) (sym (ap (λ (a : Answer). a.text) (answer_ahead more)))
-      (GrowsByFront-more held held_now (lines_due tell functions header (all more)) _
-      (subst (GrowsByFront held held_now) front.1 (GrowsByFront-more held held_now (lines_due tell functions header logs) front.0 written)))
+      front_longer count held held_now (lines_due tell functions header (all more)) _ _ (sym (ap (λ (a : Answer). a.text) (answer_ahead more)))
+      (front_longer count held held_now (lines_due tell functions header logs) front.0 _ front.1 written)
 
 -- ---- what a batch brings
 
@@ -188,7 +217,8 @@ pub runs_headers : (functions : DigestFunctions) (header : Header) (logs : List 
     → AreChecked functions header logs so_far runs → AllByRecursion (λ fed. fed.run.course.machine.header ≡ header) runs
 runs_headers functions header logs so_far runs checked =
     all_runs (λ run. run.course.machine.header ≡ header) runs
-    (subst (AllByRecursion (λ run. run.course.machine.header ≡ header)) (sym checked.runs_are)
+    (like-all (λ run. run.course.machine.header ≡ header) (λ run cache is. is)
+    (runs_from (scheme_of functions header) header so_far.count 0 logs) (map (λ fed. fed.run) runs) checked.runs_are
     (headers_from (scheme_of functions header) header so_far.count 0 logs))
 
 -- the runs took the frames
@@ -249,36 +279,40 @@ module _ (tell : EpochText) (functions : DigestFunctions) (header : Header) (log
   abbrev now_courses : List (Course Operation)
   now_courses = courses_of (scheme_of functions header) header logs_now
 
-  -- all that is due was written
-  pub due_more : (now : Judged) (runs_fed runs_now : List FedRun) (held before after : Option (List ℕ))
+  -- all that is due was written, but the front that is left out
+  pub due_more : (count : ℕ) (now : Judged) (runs_fed runs_now : List FedRun) (held before after : Option (List ℕ))
+      → count ≤ length (lines_counted tell functions header logs so_far)
       → AreChecked functions header logs_now so_far runs_fed → AreChecked functions header logs_now now runs_now
       → now ≡ judged header.verifiers now_courses
-      → Grows held before (lines_counted tell functions header logs so_far)
+      → Grows held before (drop count (lines_counted tell functions header logs so_far))
       → Grows before after (lines_from tell now_courses (header.first + so_far.count) (now.count - so_far.count))
-      → Grows held after (lines_due tell functions header logs_now)
-  due_more now runs_fed runs_now held before after checked_fed checked_now all written more =
-      subst (Grows held after) (told_more tell functions header logs frames so_far runs checked now runs_fed runs_now checked_fed checked_now all)
-      (Grows-then held before after _ _ written more)
+      → Grows held after (drop count (lines_due tell functions header logs_now))
+  due_more count now runs_fed runs_now held before after within checked_fed checked_now all written more =
+      subst (λ (text : List ℕ). Grows held after (drop count text)) (told_more tell functions header logs frames so_far runs checked now runs_fed runs_now checked_fed checked_now all)
+      (subst (Grows held after) (sym (drop-append-le count (lines_counted tell functions header logs so_far) _ within))
+      (Grows-then held before after _ _ written more))
 
   -- a front of it was
-  pub front_more : (runs_fed : List FedRun) (held before after : Option (List ℕ)) → AreChecked functions header logs_now so_far runs_fed
-      → Grows held before (lines_counted tell functions header logs so_far)
+  pub front_more : (count : ℕ) (runs_fed : List FedRun) (held before after : Option (List ℕ))
+      → count ≤ length (lines_counted tell functions header logs so_far)
+      → AreChecked functions header logs_now so_far runs_fed
+      → Grows held before (drop count (lines_counted tell functions header logs so_far))
       → GrowsByFront before after (lines_from tell now_courses (header.first + so_far.count) ((judged header.verifiers now_courses).count - so_far.count))
-      → GrowsByFront held after (lines_due tell functions header logs_now)
-  front_more runs_fed held before after checked_fed written front =
-      let within = counted-within (scheme_of functions header) header logs_now so_far (map (λ fed. fed.run) runs_fed) checked_fed in
-      subst (GrowsByFront held after)
-      (lines_to tell functions header logs frames so_far runs checked (judged header.verifiers now_courses).count within ∙ lines-certified tell (scheme_of functions header) header logs_now checked_fed.header_good checked_fed.whole)
-      (GrowsByFront-then held before after _ _ written front)
+      → GrowsByFront held after (drop count (lines_due tell functions header logs_now))
+  front_more count runs_fed held before after within checked_fed written front =
+      let counted = counted-within (scheme_of functions header) header logs_now so_far (map (λ fed. fed.run) runs_fed) checked_fed in
+      subst (λ (text : List ℕ). GrowsByFront held after (drop count text))
+      (lines_to tell functions header logs frames so_far runs checked (judged header.verifiers now_courses).count counted ∙ lines-certified tell (scheme_of functions header) header logs_now checked_fed.header_good checked_fed.whole)
+      (subst (GrowsByFront held after) (sym (drop-append-le count (lines_counted tell functions header logs so_far) _ within))
+      (GrowsByFront-then held before after _ _ written front))
 
   -- or nothing more
-  pub front_none : (held before after : Option (List ℕ)) → Grows held before (lines_counted tell functions header logs so_far) → after ≡ before
-      → GrowsByFront held after (lines_due tell functions header logs_now)
-  front_none held before after written same =
+  pub front_none : (count : ℕ) (held before after : Option (List ℕ)) → Grows held before (drop count (lines_counted tell functions header logs so_far)) → after ≡ before
+      → GrowsByFront held after (drop count (lines_due tell functions header logs_now))
+  front_none count held before after written same =
       let front = lines-front tell (scheme_of functions header) header logs so_far (map (λ fed. fed.run) runs) frames checked in
-      subst (λ (now : Option (List ℕ)). GrowsByFront held now (lines_due tell functions header logs_now)) (sym same)
-      (subst (GrowsByFront held before) front.1
-      (GrowsByFront-more held before (lines_counted tell functions header logs so_far) front.0 (GrowsByFront-whole _ _ _ written)))
+      subst (λ (now : Option (List ℕ)). GrowsByFront held now (drop count (lines_due tell functions header logs_now))) (sym same)
+      (front_longer count held before (lines_counted tell functions header logs so_far) front.0 _ front.1 (GrowsByFront-whole _ _ _ written))
 
 -- whether a run was starved
 pub fed_or_not : (runs : List FedRun) → AreFed runs ⊎ (AreFed runs → ⊥)
@@ -297,9 +331,12 @@ pub runs_weights : (functions : DigestFunctions) (header : Header) (logs : List 
     → AllByRecursion (λ fed. weight fed.run ≤ bound) runs → AllByRecursion (λ fed. weight fed.run ≤ bound) runs_now
 runs_weights functions header logs so_far now runs runs_now bound checked checked_now weights =
     all_runs (λ run. weight run ≤ bound) runs_now
-    (subst (AllByRecursion (λ run. weight run ≤ bound)) (sym checked_now.runs_are)
+    (like-all (λ run. weight run ≤ bound) (λ run cache few. few)
+    (runs_from (scheme_of functions header) header now.count 0 logs) (map (λ fed. fed.run) runs_now) checked_now.runs_are
     (weights_from (scheme_of functions header) header so_far.count now.count 0 bound logs
-    (subst (AllByRecursion (λ run. weight run ≤ bound)) checked.runs_are (all_feds (λ run. weight run ≤ bound) runs weights))))
+    (like-all_back (λ run. weight run ≤ bound) (λ run cache few. few)
+    (runs_from (scheme_of functions header) header so_far.count 0 logs) (map (λ fed. fed.run) runs) checked.runs_are
+    (all_feds (λ run. weight run ≤ bound) runs weights))))
 
 -- a higher bound
 pub weights_more : (runs : List FedRun) (bound more : ℕ) → bound ≤ more

@@ -1,22 +1,23 @@
 //! A check of a bundle: what is certified, what is made of it, and how its report ends.
-ghost use Rattle.std.specs.Prelude.{◌≡◌, ◌≢◌, ◌+◌, ◌<◌, ◌≤◌, ◌^◌, ◌⊎◌, ℕ, List, Option, Some, IfSome, OnOk, OnErr, Ok, Err};
-ghost use Rattle.fv_outside.specs.Faults.{Rose};
-ghost use Rattle.fv_outside.specs.Written.{Grows, GrowsByFront};
-ghost use Rattle.lamport_clocks.specs.declared.header.Header.{Header};
+ghost use Rattle.std.specs.Prelude.{◌≡◌, ◌≢◌, ◌≤◌, ◌^◌, ℕ, List, Option, Some, IfSome, Ok, Err};
 ghost use Rattle.lamport_clocks.specs.Header.{IsHeader};
+ghost use Rattle.report_text.specs.declared.ending.BundleEnd.{BundleEnd};
 ghost use Rattle.report_text.specs.Answer.{AnswersTo};
 ghost use Rattle.bundle_frames.specs.Extent.{reading_end, IsDue};
 ghost use Rattle.bundle_frames.specs.Progress.{position};
 ghost use Rattle.bundle_report.specs.Logs.{empty_logs};
 ghost use Rattle.bundle_report.specs.Headline.{IsSound};
-ghost use Rattle.bundle_report.specs.Answer.{check_answer, no_answer};
-ghost use Rattle.check_core.specs.Asked.{asked_answer};
-ghost use Rattle.check_core.specs.Outcomes.{IsCheckStatus, check_status};
-ghost use Rattle.check_core.specs.Stream.{HasCome};
+ghost use Rattle.bundle_report.specs.Answer.{check_answer};
+ghost use Rattle.check_core.specs.declared.checked.DoneBundle.{DoneBundle};
+ghost use Rattle.check_core.specs.declared.checked.Checked.{Checked};
+ghost use Rattle.check_core.specs.Asked.{asked_answer, unended};
+ghost use Rattle.check_core.specs.Checked.{checked_status, IsOtherEnd};
+ghost use Rattle.check_core.specs.Outcomes.{IsCheckStatus};
+ghost use Rattle.check_core.specs.Stream.{HasCome, IsReadWhole};
 ghost use Rattle.check_core.specs.Told.{asked_for};
 
-use crate::batch::{Batch, Filled};
-use crate::passing::pass_batch;
+use crate::checked::{Checked, DoneBundle, write_end};
+use crate::going_on::go_on;
 use crate::told::Told;
 use crate::written::WrittenFold;
 use bundle_frames::{BundleReader, Next};
@@ -26,7 +27,7 @@ use lamport_clocks::Header;
 use merkle_records::digests_have_32_bytes;
 use operation_folds::NothingMade;
 use record_hash::Digests;
-use report_text::{BundleEnd, Status, write_last};
+use report_text::{BundleEnd, Status};
 use std::alloc::Global;
 use std::thread::Threads;
 
@@ -77,14 +78,17 @@ pub fn tell_bundle<R: Threads + Sync, D: Digests + Sync, F: WrittenFold, S: Sour
         (record { left = S.left source.old; left_after = S.left source.new; faults = S.faults source.old; faults_after = S.faults source.new })
         (record { held = O.held out.old; held_after = O.held out.new; faults = O.faults out.old; faults_after = O.faults out.new }) }
 {
-    match check_bundle(rt, alloc, d, limit, source, told, folded, out) {
-        Ok(end) => end.status(),
+    match check_lines(rt, alloc, d, limit, source, told, folded, out) {
+        Ok(checked) => match write_end(&checked.end(), out) {
+            Ok(status) => status,
+            Err(_) => Status::WriteFault,
+        },
         Err(failure) => Status::of_failure(failure, limit),
     }
 }
 
-// Reads the header, and checks what follows it.
-fn check_bundle<R: Threads + Sync, D: Digests + Sync, F: WrittenFold, S: Source, O: Sink>(
+/// Reads a bundle and writes all of its report but the last line.
+pub(crate) fn check_lines<R: Threads + Sync, D: Digests + Sync, F: WrittenFold, S: Source, O: Sink>(
     rt: &R,
     alloc: Global,
     d: &D,
@@ -93,12 +97,18 @@ fn check_bundle<R: Threads + Sync, D: Digests + Sync, F: WrittenFold, S: Source,
     told: &Told,
     folded: &mut F,
     out: &mut O,
-) -> Result<BundleEnd, Failure>
+) -> Result<Checked, Failure>
     requires limit { limit ≤ 2 ^ 40 }
-    ensures answers { AnswersTo (asked_answer (asked_for told.now (D.functions d.now) (F.text_behind folded.old)) (D.functions d.now)) reading_end limit (check_status limit result)
+    ensures answers { AnswersTo (asked_answer (unended (asked_for told.now (D.functions d.now) (F.text_behind folded.old))) (D.functions d.now)) reading_end limit (checked_status limit result)
         (record { left = S.left source.old; left_after = S.left source.new; faults = S.faults source.old; faults_after = S.faults source.new })
         (record { held = O.held out.old; held_after = O.held out.new; faults = O.faults out.old; faults_after = O.faults out.new }) }
     ensures vault { result ≢ Err Failure.VaultFault }
+    ensures never_falls { O.faults out.old ≤ O.faults out.new }
+
+    // Where the report ends with `done`, all of the bundle was read and stands in the runs.
+    ensures done { (done : DoneBundle) → result ≡ Ok (Checked.Done done)
+        → IsReadWhole (D.functions d.now) done.header (S.left source.old) done.taken done.epochs done.runs.items }
+    ensures ended { (end : BundleEnd) → result ≡ Ok (Checked.Ended end) → IsOtherEnd end }
 {
     let mut reader = BundleReader::new(alloc, limit)?;
     let next = reader.next(source)?;
@@ -115,12 +125,12 @@ fn check_bundle<R: Threads + Sync, D: Digests + Sync, F: WrittenFold, S: Source,
             out,
         ),
         // No frame comes before the header.
-        Next::Frame(_) => write_bad_header(out),
-        Next::End => write_bad_header(out),
+        Next::Frame(_) => Ok(Checked::Ended(BundleEnd::BadBundle { offset: 0 })),
+        Next::End => Ok(Checked::Ended(BundleEnd::BadBundle { offset: 0 })),
     }
 }
 
-// Reads the frames behind a header, a batch at a time, and writes what each certifies before more is read.
+// Reads the frames behind a header, and writes all of the report but the last line.
 fn check_frames<R: Threads + Sync, D: Digests + Sync, F: WrittenFold, S: Source, O: Sink>(
     rt: &R,
     alloc: Global,
@@ -131,7 +141,7 @@ fn check_frames<R: Threads + Sync, D: Digests + Sync, F: WrittenFold, S: Source,
     told: &Told,
     folded: &mut F,
     out: &mut O,
-) -> Result<BundleEnd, Failure>
+) -> Result<Checked, Failure>
     requires header { IsHeader header.now }
     requires known { reader.old.progress.header ≡ Some header.now }
     requires due { IsDue reader.old.progress }
@@ -141,44 +151,42 @@ fn check_frames<R: Threads + Sync, D: Digests + Sync, F: WrittenFold, S: Source,
 
     // Of whatever the source had before, where so much of it has come and no frame yet.
     ensures answers { (left : Option (List ℕ)) (faults : ℕ)
-        → HasCome left faults (empty_logs header.now.verifiers) reader.old (S.left source.old) (S.faults source.old)
-        → AnswersTo (asked_answer (asked_for told.now (D.functions d.now) (F.text_behind folded.old)) (D.functions d.now)) reading_end reader.old.limit (check_status reader.old.limit result)
+        → HasCome left faults 0 (empty_logs header.now.verifiers) reader.old (S.left source.old) (S.faults source.old)
+        → AnswersTo (asked_answer (unended (asked_for told.now (D.functions d.now) (F.text_behind folded.old))) (D.functions d.now)) reading_end reader.old.limit (checked_status reader.old.limit result)
         (record { left = left; left_after = S.left source.new; faults = faults; faults_after = S.faults source.new })
         (record { held = O.held out.old; held_after = O.held out.new; faults = O.faults out.old; faults_after = O.faults out.new }) }
     ensures vault { result ≢ Err Failure.VaultFault }
+    ensures never_falls { O.faults out.old ≤ O.faults out.new }
+    ensures done { (left : Option (List ℕ)) (faults : ℕ) (done : DoneBundle)
+        → HasCome left faults 0 (empty_logs header.now.verifiers) reader.old (S.left source.old) (S.faults source.old)
+        → result ≡ Ok (Checked.Done done)
+        → IsReadWhole (D.functions d.now) done.header left done.taken done.epochs done.runs.items }
+    ensures ended { (end : BundleEnd) → result ≡ Ok (Checked.Ended end) → IsOtherEnd end }
 {
-    let mut opened = open_runs(alloc, header)?;
-    let runs = &mut opened[..];
-    let telling = told.telling(d, header);
+    let mut runs = open_runs(alloc, header)?;
     let mut certifier = Certifier::new(alloc);
-    let mut first = Batch::new(alloc);
-    let mut rest = Batch::new(alloc);
-    'batches: loop {
-        let filled = pass_batch(rt, alloc, d, reader, source, runs, &mut first, &mut rest)?;
-        certifier.certify(rt, &[], runs, &telling, folded, out)?;
-        match filled {
-            Filled::Whole => {}
-            Filled::End => break,
-            Filled::Stopped(stop) => return Err(stop),
-        }
-    }
-    let bad = reader.bad();
-    if folded.write(out).is_err() {
-        return Err(Failure::WriteFault);
-    }
-    Ok(certifier.finish(runs, bad, out)?)
-}
-
-// Writes the report of a bundle whose header is bad.
-fn write_bad_header<O: Sink>(out: &mut O) -> Result<BundleEnd, Failure>
-    ensures so { result ≡ Ok (BundleEnd.BadBundle 0) ⊎ result ≡ Err Failure.WriteFault }
-    ensures whole { OnOk result (Grows (O.held out.old) (O.held out.new) no_answer.text) }
-    ensures front { OnErr result (GrowsByFront (O.held out.old) (O.held out.new) no_answer.text) }
-    ensures write_fault { OnErr result (Rose (O.faults out.old) (O.faults out.new)) }
-{
-    let end = BundleEnd::BadBundle { offset: 0 };
-    match write_last(&end.status(), out) {
-        Ok(()) => Ok(end),
-        Err(_) => Err(Failure::WriteFault),
+    let end = go_on(
+        rt,
+        alloc,
+        d,
+        header,
+        reader,
+        source,
+        &mut runs,
+        &mut certifier,
+        told,
+        folded,
+        out,
+    )?;
+    match end {
+        BundleEnd::Done { epochs } => Ok(Checked::Done(DoneBundle {
+            header: *header,
+            taken: reader.taken(),
+            epochs,
+            runs,
+        })),
+        BundleEnd::BadBundle { .. } => Ok(Checked::Ended(end)),
+        BundleEnd::Refused { .. } => Ok(Checked::Ended(end)),
+        BundleEnd::Unbalanced { .. } => Ok(Checked::Ended(end)),
     }
 }

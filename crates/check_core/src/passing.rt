@@ -34,7 +34,7 @@ pub fn pass_batch<R: Threads + Sync, D: Digests + Sync, S: Source>(
 ) -> Result<Filled, Memory>
     requires due { IsDue reader.old.progress }
     requires header { IsSome reader.old.progress.header }
-    requires limit { reader.old.limit ≤ 2 ^ 40 }
+    requires limit { reader.old.limit ≤ 2 ^ 41 }
     requires weights { AllByRecursion (λ fed. weight fed.run ≤ reader.old.progress.offset) runs.old }
 
     // Some frames were read, and each run took those of its verifier.

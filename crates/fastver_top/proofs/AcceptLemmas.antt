@@ -1,11 +1,6 @@
--- What a receipt and a certificate come to is the one answer to them, and what was read of a source tells the answer to its
--- bytes.
-use Rattle.std.proofs.Common.{◌≡◌, ◌⊎◌, ℕ, ◌+◌, ◌&&◌, Bool, true, false, List, Option, Some, None, IfSome, Result, Ok, Err, if◌then◌else◌, inl, inr, refl, sym, ◌∙◌, ap, subst}
-use Rattle.std.specs.Io.KnownBytes.{Consumes, IsAtEnd}
+-- What a receipt and a certificate come to is the one answer to them.
+use Rattle.std.proofs.Common.{◌≡◌, ℕ, ◌&&◌, Bool, true, false, List, Result, Ok, Err, if◌then◌else◌, refl, sym, ◌∙◌, ap, subst}
 use Rattle.std.proofs.lemmas.Bool.{and_parts, leb-true, le-leb}
-use Rattle.fv_outside.specs.Consumed.{TookAtMost, TookJust}
-use Rattle.fv_outside.specs.Faults.{Rose}
-use Rattle.fv_outside.specs.Written.{Grows, GrowsByFront}
 use Rattle.record_hash.specs.Functions.{DigestFunctions}
 use Rattle.record_text.specs.Same.{same_bytes}
 use Rattle.record_text.proofs.SameTestLaws.{same_bytes-true, same_bytes-self}
@@ -20,12 +15,10 @@ use Rattle.receipt_lines.specs.declared.evidence.BadLine.{BadLine}
 use Rattle.receipt_lines.specs.Evidence.{evidence_of}
 use Rattle.report_text.specs.declared.status.Status.{Status}
 use Rattle.report_text.specs.declared.status.Status.TheVariants as statuses
-use Rattle.report_text.specs.Answer.{Answer, Reading, Writing}
 use Rattle.fv_outside.specs.declared.failure.Failure.{Failure}
 use Rattle.fv_outside.specs.declared.failure.Failure.TheVariants as failures
 use Rattle.report_text.specs.Ending.{failure_status}
-use Rattle.fastver_top.specs.Accepting.{are_tagged, is_within, acceptance_of, acceptance_answer, evidence_answer, accept_answer, IsAcceptStatus, IsAnswered, IsBeforeAnswer, AnswersWhole}
-use Rattle.fastver_top.proofs.ReadLemmas.{all_taken}
+use Rattle.fastver_top.specs.Accepting.{are_tagged, is_within, acceptance_of, acceptance_answer, evidence_answer, accept_answer, IsAcceptStatus, IsAnswered, IsBeforeAnswer}
 
 -- ---- the one answer to a receipt and a certificate
 
@@ -95,102 +88,3 @@ pub acceptance-not_before : (acceptance : Acceptance) → IsBeforeAnswer (accept
 acceptance-not_before (Accepted operation) before = before
 acceptance-not_before NotTagged before = before
 acceptance-not_before NotCertified before = before
-
--- what holds of the answer to what was read holds of that to the source's bytes
-of_source : (P : Answer → Type 0) (functions : DigestFunctions) (left : Option (List ℕ)) (bytes : List ℕ) → IfSome left (λ all. bytes ≡ all)
-    → P (accept_answer functions bytes) → IfSome left (λ all. P (accept_answer functions all))
-of_source P functions None bytes is holds = tt
-of_source P functions (Some all) bytes is holds = subst (λ (b : List ℕ). P (accept_answer functions b)) is holds
-
-module _ (functions : DigestFunctions) (most : ℕ) (reading : Reading) (writing : Writing) where
-  module _ (bytes : List ℕ) (read : Consumes reading.left reading.left_after bytes) (end : IsAtEnd reading.left_after)
-      (within : TookAtMost most reading.left reading.left_after) where
-    all : IfSome reading.left (λ whole. bytes ≡ whole)
-    all = all_taken reading.left reading.left_after bytes read end
-
-    -- it was answered
-    pub answers-whole : (status : Status) → status ≡ (accept_answer functions bytes).status
-        → Grows writing.held writing.held_after (accept_answer functions bytes).text → (IsBeforeAnswer status → writing.held_after ≡ writing.held)
-        → AnswersWhole (accept_answer functions) most status reading writing
-    answers-whole status is grown kept =
-        let answered = answer-answered functions bytes status is in
-        record {
-          status = λ _. of_source (λ answer. status ≡ answer.status) functions reading.left bytes all is;
-          text = λ _. of_source (λ answer. Grows writing.held writing.held_after answer.text) functions reading.left bytes all grown;
-          front = λ fault. absurd (subst IsAnswered fault answered);
-          end = λ _. end;
-          unwritten = kept;
-          limit = λ taken long. absurd (subst IsAnswered long answered);
-          within = λ _. within;
-          read_fault = λ fault. absurd (subst IsAnswered fault answered);
-          write_fault = λ fault. absurd (subst IsAnswered fault answered);
-        }
-
-    -- the sink failed
-    pub answers-cut : GrowsByFront writing.held writing.held_after (accept_answer functions bytes).text → Rose writing.faults writing.faults_after
-        → AnswersWhole (accept_answer functions) most statuses.WriteFault reading writing
-    answers-cut front rose = record {
-      status = λ never. absurd never;
-      text = λ never. absurd never;
-      front = λ _. of_source (λ answer. GrowsByFront writing.held writing.held_after answer.text) functions reading.left bytes all front;
-      end = λ _. end;
-      unwritten = λ never. absurd never;
-      limit = λ taken long. absurd (cc);
-      within = λ _. within;
-      read_fault = λ fault. absurd (cc);
-      write_fault = λ _. rose;
-    }
-
-  -- the source was not read to its end
-  pub answers-unread : (stop : Failure) → (stop ≡ failures.VaultFault → ⊥) → (stop ≡ failures.WriteFault → ⊥) → writing.held_after ≡ writing.held
-      → (stop ≡ failures.ReadFault → Rose reading.faults reading.faults_after)
-      → (stop ≡ failures.InputLimit → TookJust (most + 1) reading.left reading.left_after)
-      → ((stop ≡ failures.InputLimit → ⊥) → TookAtMost most reading.left reading.left_after)
-      → AnswersWhole (accept_answer functions) most (failure_status most stop) reading writing
-  answers-unread failures.Memory vault sink kept fault long within = record {
-    status = λ never. absurd never;
-    text = λ never. absurd never;
-    front = λ is. absurd (cc);
-    end = λ is. absurd (neither is);
-    unwritten = λ _. kept;
-    limit = λ taken is. absurd (cc);
-    within = λ _. within (λ is. cc);
-    read_fault = λ is. absurd (cc);
-    write_fault = λ is. absurd (cc);
-  }
-    where
-      neither : IsAnswered statuses.Memory ⊎ (statuses.Memory ≡ statuses.WriteFault) → ⊥
-      neither (inl is) = is
-      neither (inr is) = cc
-  answers-unread failures.ReadFault vault sink kept fault long within = record {
-    status = λ never. absurd never;
-    text = λ never. absurd never;
-    front = λ is. absurd (cc);
-    end = λ is. absurd (neither is);
-    unwritten = λ _. kept;
-    limit = λ taken is. absurd (cc);
-    within = λ _. within (λ is. cc);
-    read_fault = λ _. fault refl;
-    write_fault = λ is. absurd (cc);
-  }
-    where
-      neither : IsAnswered statuses.ReadFault ⊎ (statuses.ReadFault ≡ statuses.WriteFault) → ⊥
-      neither (inl is) = is
-      neither (inr is) = cc
-  answers-unread failures.VaultFault vault sink kept fault long within = absurd (vault refl)
-  answers-unread failures.WriteFault vault sink kept fault long within = absurd (sink refl)
-  answers-unread failures.InputLimit vault sink kept fault long within = record {
-    status = λ never. absurd never;
-    text = λ never. absurd never;
-    front = λ is. absurd (cc);
-    end = λ is. absurd (neither is);
-    unwritten = λ _. kept;
-    limit = λ taken is. let same : taken ≡ most = cc in (same, long refl);
-    within = λ other. absurd (other refl);
-    read_fault = λ is. absurd (cc);
-    write_fault = λ is. absurd (cc);
-  }
-    where
-      neither : IsAnswered (statuses.InputLimit most) ⊎ (statuses.InputLimit most ≡ statuses.WriteFault) → ⊥
-      neither (inl is) = is
-      neither (inr is) = cc

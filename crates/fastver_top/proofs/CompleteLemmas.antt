@@ -16,30 +16,32 @@ use Rattle.shipped_host.specs.declared.settings.Settings.{Settings}
 use Rattle.verifier_threads.specs.declared.ending.RunEnd.{RunEnd}
 use Rattle.verifier_threads.specs.InRounds.{Logs}
 use Rattle.verifier_threads.specs.Serving.{AreOfRun, end_by, status_at}
-use Rattle.fastver_top.specs.Running.{Keeping, IsRunStatus, RunsTo, header_for, settings_for}
+use Rattle.check_core.specs.Sealing.{Keeping, Counting}
+use Rattle.fastver_top.specs.Running.{IsRunStatus, RunsTo, header_for, settings_for}
 use Rattle.fastver_top.specs.Generating.{GensTo, IsGenStatus, script_for}
 use Rattle.fastver_top.specs.Accepting.{AnswersWhole, IsAnswered, IsAcceptStatus}
 use Rattle.fastver_top.specs.Auditing.{IsAuditStatus}
+use Rattle.fastver_top.specs.Signing.{IsSignStatus}
 use Rattle.fastver_top.specs.Complete.{Had, IsOrWantsMemory, NoClockEnds, NoneFailed}
 
 -- ---- what was read
 
 -- what holds of the bytes of a source that tells them
-of_bytes : (P : List ℕ → Type 0) (left : Option (List ℕ)) (bytes : List ℕ) → left ≡ Some bytes → IfSome left P → P bytes
+pub of_bytes : (P : List ℕ → Type 0) (left : Option (List ℕ)) (bytes : List ℕ) → left ≡ Some bytes → IfSome left P → P bytes
 of_bytes P None bytes is holds = absurd (cc)
 of_bytes P (Some own) bytes is holds = let same : own ≡ bytes = cc in subst P same holds
 
 -- a source that had no more than so many bytes gave no more
-not_past : (most : ℕ) (bytes : List ℕ) (left left_after : Option (List ℕ)) → left ≡ Some bytes → length bytes ≤ most
+pub not_past : (most : ℕ) (bytes : List ℕ) (left left_after : Option (List ℕ)) → left ≡ Some bytes → length bytes ≤ most
     → TookJust (most + 1) left left_after → ⊥
 not_past most bytes None left_after is few took = cc
 not_past most bytes (Some own) None is few took = took
 not_past most bytes (Some own) (Some rest) is few took = let same : length own ≡ length bytes = ap length (cc) in omega arith
 
--- ---- a check, an audit and an acceptance
+-- ---- a check, an audit, an acceptance and a signing
 
-module _ (most : ℕ) (bytes : List ℕ) (reading : Reading) (writing : Writing) (keeping : Keeping)
-    (fine : NoneFailed reading writing keeping) (had : Had most bytes reading) where
+module _ (most : ℕ) (bytes : List ℕ) (reading : Reading) (writing : Writing) (keeping : Keeping) (counting : Counting)
+    (fine : NoneFailed reading writing keeping counting) (had : Had most bytes reading) where
   module _ (answer : List ℕ → Answer) where
     ends-so : (result : Status) → AnswersTo answer reading_end most result reading writing → IsEnd result → IsOrWantsMemory result (answer bytes).status
     ends-so result answers end = inl (of_bytes (λ b. result ≡ (answer b).status) reading.left bytes had.bytes_are (answers.status end))
@@ -62,6 +64,9 @@ module _ (most : ℕ) (bytes : List ℕ) (reading : Reading) (writing : Writing)
     check-answered statuses.Exhibit can answers = absurd can
     check-answered (statuses.InputLimit taken) can answers =
         absurd (not_past most bytes reading.left reading.left_after had.bytes_are had.few (answers.limit taken refl).1)
+    check-answered statuses.BadSeal can answers = absurd can
+    check-answered (statuses.Stale sealed device) can answers = absurd can
+    check-answered statuses.CounterFault can answers = absurd can
 
     pub audit-answered : (result : Status) → IsAuditStatus result → AnswersTo answer reading_end most result reading writing
         → IsOrWantsMemory result (answer bytes).status
@@ -80,6 +85,9 @@ module _ (most : ℕ) (bytes : List ℕ) (reading : Reading) (writing : Writing)
     audit-answered statuses.NotCertified can answers = check-answered statuses.NotCertified can answers
     audit-answered statuses.Exhibit can answers = ends-so statuses.Exhibit answers tt
     audit-answered (statuses.InputLimit taken) can answers = check-answered (statuses.InputLimit taken) can answers
+    audit-answered statuses.BadSeal can answers = check-answered statuses.BadSeal can answers
+    audit-answered (statuses.Stale sealed device) can answers = check-answered (statuses.Stale sealed device) can answers
+    audit-answered statuses.CounterFault can answers = check-answered statuses.CounterFault can answers
 
     said-so : (result : Status) → AnswersWhole answer most result reading writing → IsAnswered result → IsOrWantsMemory result (answer bytes).status
     said-so result answers said = inl (of_bytes (λ b. result ≡ (answer b).status) reading.left bytes had.bytes_are (answers.status said))
@@ -102,6 +110,30 @@ module _ (most : ℕ) (bytes : List ℕ) (reading : Reading) (writing : Writing)
     accept-answered statuses.Exhibit can answers = absurd can
     accept-answered (statuses.InputLimit taken) can answers =
         absurd (not_past most bytes reading.left reading.left_after had.bytes_are had.few (answers.limit taken refl).1)
+    accept-answered statuses.BadSeal can answers = absurd can
+    accept-answered (statuses.Stale sealed device) can answers = absurd can
+    accept-answered statuses.CounterFault can answers = absurd can
+
+    pub sign-answered : (result : Status) → IsSignStatus result → AnswersWhole answer most result reading writing
+        → IsOrWantsMemory result (answer bytes).status
+    sign-answered (statuses.Done epochs) can answers = accept-answered (statuses.Done epochs) can answers
+    sign-answered statuses.Usage can answers = accept-answered statuses.Usage can answers
+    sign-answered statuses.Memory can answers = accept-answered statuses.Memory can answers
+    sign-answered statuses.ReadFault can answers = accept-answered statuses.ReadFault can answers
+    sign-answered statuses.WriteFault can answers = accept-answered statuses.WriteFault can answers
+    sign-answered statuses.VaultFault can answers = accept-answered statuses.VaultFault can answers
+    sign-answered (statuses.BadScript line cause) can answers = accept-answered (statuses.BadScript line cause) can answers
+    sign-answered (statuses.BadBundle offset) can answers = accept-answered (statuses.BadBundle offset) can answers
+    sign-answered (statuses.Refused verifier index refusal) can answers = accept-answered (statuses.Refused verifier index refusal) can answers
+    sign-answered (statuses.Unbalanced epoch added evicted) can answers = accept-answered (statuses.Unbalanced epoch added evicted) can answers
+    sign-answered (statuses.ClockEnd worker at) can answers = accept-answered (statuses.ClockEnd worker at) can answers
+    sign-answered statuses.NotTagged can answers = absurd can
+    sign-answered statuses.NotCertified can answers = absurd can
+    sign-answered statuses.Exhibit can answers = accept-answered statuses.Exhibit can answers
+    sign-answered (statuses.InputLimit taken) can answers = accept-answered (statuses.InputLimit taken) can answers
+    sign-answered statuses.BadSeal can answers = accept-answered statuses.BadSeal can answers
+    sign-answered (statuses.Stale sealed device) can answers = accept-answered (statuses.Stale sealed device) can answers
+    sign-answered statuses.CounterFault can answers = accept-answered statuses.CounterFault can answers
 
 -- ---- a run and a load
 
@@ -123,7 +155,7 @@ one-script : {E : Type 0} (read : Result (List (List Task)) E) (script own : Lis
 one-script read script own is also = cc
 
 module _ (functions : DigestFunctions) (run : RunWords) (most : ℕ) (bytes : List ℕ) (script : List (List Task)) (reading : Reading) (writing : Writing)
-    (keeping : Keeping) (fine : NoneFailed reading writing keeping) (had : Had most bytes reading)
+    (keeping : Keeping) (counting : Counting) (fine : NoneFailed reading writing keeping counting) (had : Had most bytes reading)
     (good : script_of (header_for run.numbers) bytes ≡ Ok script) (going : NoClockEnds functions (settings_for run.numbers) script) where
   run-done : (result : Status) → RunsTo functions run most result reading writing keeping → IsEnd result → IsOrWantsMemory result (statuses.Done (length script))
   run-done result runs end =
@@ -156,9 +188,12 @@ module _ (functions : DigestFunctions) (run : RunWords) (most : ℕ) (bytes : Li
   run-answered statuses.Exhibit can runs = absurd can
   run-answered (statuses.InputLimit taken) can runs =
       absurd (not_past most bytes reading.left reading.left_after had.bytes_are had.few (runs.limit taken refl).1)
+  run-answered statuses.BadSeal can runs = absurd can
+  run-answered (statuses.Stale sealed device) can runs = absurd can
+  run-answered statuses.CounterFault can runs = absurd can
 
-module _ (functions : DigestFunctions) (words : GenWords) (reading : Reading) (writing : Writing) (keeping : Keeping)
-    (fine : NoneFailed reading writing keeping) (going : NoClockEnds functions (settings_for words.numbers) (script_for words)) where
+module _ (functions : DigestFunctions) (words : GenWords) (reading : Reading) (writing : Writing) (keeping : Keeping) (counting : Counting)
+    (fine : NoneFailed reading writing keeping counting) (going : NoClockEnds functions (settings_for words.numbers) (script_for words)) where
   gen-done : (result : Status) → GensTo functions words result writing keeping → IsEnd result
       → IsOrWantsMemory result (statuses.Done (length (script_for words)))
   gen-done result gens end =
@@ -183,3 +218,6 @@ module _ (functions : DigestFunctions) (words : GenWords) (reading : Reading) (w
   gen-answered statuses.NotCertified can gens = absurd can
   gen-answered statuses.Exhibit can gens = absurd can
   gen-answered (statuses.InputLimit taken) can gens = absurd can
+  gen-answered statuses.BadSeal can gens = absurd can
+  gen-answered (statuses.Stale sealed device) can gens = absurd can
+  gen-answered statuses.CounterFault can gens = absurd can

@@ -5,7 +5,11 @@ mod ServedLemmas
 mod RunLemmas
 mod SettingLemmas
 mod LoadLemmas
+mod WholeLemmas
 mod AcceptLemmas
+mod SignLemmas
 mod AnswerLemmas
 mod CompleteLemmas
+mod ResumeLemmas
+mod RollingLemmas
 mod RulesLemmas

@@ -29,7 +29,8 @@ use Rattle.fv_outside.specs.declared.failure.Failure.TheVariants as failures
 use Rattle.verifier_threads.specs.declared.ending.RunEnd.{RunEnd}
 use Rattle.verifier_threads.specs.declared.ending.RunEnd.TheVariants as ends
 use Rattle.verifier_threads.specs.Serving.{Outputs, IsCutOff, IsCutAtEnd, ServesTo, status_at}
-use Rattle.fastver_top.specs.Running.{header_for, settings_for, Keeping, outputs_of, IsNamedFor, IsUntouched}
+use Rattle.check_core.specs.Sealing.{Keeping}
+use Rattle.fastver_top.specs.Running.{header_for, settings_for, outputs_of, IsNamedFor, IsUntouched}
 use Rattle.fastver_top.specs.Generating.{shape_for, script_for, account_for, GensTo}
 
 -- ---- what a load asks

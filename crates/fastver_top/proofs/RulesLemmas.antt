@@ -1,7 +1,7 @@
 -- What the table of rules says of words that ask for nothing, and which statuses are of an acceptance.
 use Rattle.std.proofs.Common.{◌≡◌, ◌⊎◌, Option, Some, None, refl, subst, inl, inr}
 use Rattle.program_words.specs.declared.words.Asked.{Asked}
-use Rattle.program_words.specs.declared.words.Asked.TheVariants.{Check, Audit, Run, Gen, Accept, Follow, Upgrade}
+use Rattle.program_words.specs.declared.words.Asked.TheVariants.{Check, Seal, Audit, Run, Gen, Accept, Follow, Upgrade, Resume, Sign}
 use Rattle.report_text.specs.declared.status.Status.{Status}
 use Rattle.report_text.specs.declared.status.Status.TheVariants as statuses
 use Rattle.fastver_top.specs.Accepting.{IsAcceptStatus, IsAnswered}
@@ -10,12 +10,15 @@ use Rattle.fastver_top.specs.Rules.{CanEndWith, rules_for}
 -- whatever is asked, the words aren't refused
 not_usage : (asked : Asked) → CanEndWith (rules_for (Some asked)) statuses.Usage → ⊥
 not_usage (Check check) can = can
+not_usage (Seal seal) can = can
 not_usage (Audit key) can = can
 not_usage (Run run) can = can
 not_usage (Gen load) can = can
 not_usage (Accept key) can = can
 not_usage (Follow key) can = can
 not_usage (Upgrade key) can = can
+not_usage (Resume key) can = can
+not_usage (Sign sign) can = can
 
 -- so words that are refused ask for nothing
 pub usage-unasked : (asked : Option Asked) (status : Status) → CanEndWith (rules_for asked) status → status ≡ statuses.Usage → asked ≡ None
@@ -39,6 +42,9 @@ unasked-refused statuses.NotTagged can = absurd can
 unasked-refused statuses.NotCertified can = absurd can
 unasked-refused statuses.Exhibit can = absurd can
 unasked-refused (statuses.InputLimit taken) can = absurd can
+unasked-refused statuses.BadSeal can = absurd can
+unasked-refused (statuses.Stale sealed device) can = absurd can
+unasked-refused statuses.CounterFault can = absurd can
 
 -- what answers all that was read is a status of an acceptance
 pub answered-accept : (status : Status) → IsAnswered status → IsAcceptStatus status
@@ -57,6 +63,9 @@ answered-accept statuses.NotTagged can = tt
 answered-accept statuses.NotCertified can = tt
 answered-accept statuses.Exhibit can = absurd can
 answered-accept (statuses.InputLimit taken) can = absurd can
+answered-accept statuses.BadSeal can = absurd can
+answered-accept (statuses.Stale sealed device) can = absurd can
+answered-accept statuses.CounterFault can = absurd can
 
 -- what is said of words that are refused
 pub ruleset refusals = (usage-unasked, unasked-refused)

@@ -28,7 +28,8 @@ use Rattle.verifier_threads.specs.InRounds.{Logs}
 use Rattle.verifier_threads.specs.Serving.{Outputs, AreOfRun, IsServed, IsCutOff, IsCutByVault, IsCutAtEnd, ServesTo, end_by, status_at}
 use Rattle.fastver_top.specs.declared.scripts.ScriptStop.{ScriptStop}
 use Rattle.fastver_top.specs.declared.scripts.ScriptStop.TheVariants as scripts
-use Rattle.fastver_top.specs.Running.{HasScript, HasBadLine, ReadsScript, script_stopped, header_for, settings_for, Keeping, outputs_of, EndsServed, EndsCutOff, IsDueByCheck, IsAnswerOfCheck, IsNamedFor, IsUntouched, IsBehindScript, RunsTo}
+use Rattle.check_core.specs.Sealing.{Keeping}
+use Rattle.fastver_top.specs.Running.{HasScript, HasBadLine, ReadsScript, script_stopped, header_for, settings_for, outputs_of, EndsServed, EndsCutOff, IsDueByCheck, IsAnswerOfCheck, IsNamedFor, IsUntouched, IsBehindScript, RunsTo}
 
 -- ---- what a check of the vault's bytes answers
 

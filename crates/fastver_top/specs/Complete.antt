@@ -11,13 +11,14 @@ use Rattle.host_world.specs.declared.fault.ClockEnd.{ClockEnd}
 use Rattle.shipped_host.specs.declared.settings.Settings.{Settings}
 use Rattle.verifier_threads.specs.InRounds.{Logs}
 use Rattle.verifier_threads.specs.Serving.{AreOfRun}
-use Rattle.fastver_top.specs.Running.{Keeping}
+use Rattle.check_core.specs.Sealing.{Keeping, Counting}
 
 -- No object failed: no count of faults rose, and none stands at its last value.
-pub record NoneFailed (reading : Reading) (writing : Writing) (keeping : Keeping) : Type 0 where
+pub record NoneFailed (reading : Reading) (writing : Writing) (keeping : Keeping) (counting : Counting) : Type 0 where
   pub source : Rose reading.faults reading.faults_after → ⊥
   pub sink : Rose writing.faults writing.faults_after → ⊥
   pub vault : Rose keeping.faults keeping.faults_after → ⊥
+  pub counter : Rose counting.faults counting.faults_after → ⊥
 
 -- the source had these bytes, which are no more than so many
 pub record Had (most : ℕ) (bytes : List ℕ) (reading : Reading) : Type 0 where

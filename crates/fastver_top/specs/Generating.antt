@@ -17,7 +17,8 @@ use Rattle.verifier_threads.specs.declared.accounts.Account.TheVariants as accou
 use Rattle.verifier_threads.specs.declared.ending.RunEnd.{RunEnd}
 use Rattle.verifier_threads.specs.declared.loads.Load.{Load}
 use Rattle.verifier_threads.specs.Serving.{Outputs, IsServed, IsCutOff, IsCutAtEnd, status_at}
-use Rattle.fastver_top.specs.Running.{settings_for, Keeping, outputs_of, IsNamedFor, IsUntouched}
+use Rattle.check_core.specs.Sealing.{Keeping}
+use Rattle.fastver_top.specs.Running.{settings_for, outputs_of, IsNamedFor, IsUntouched}
 
 -- ---- which load
 

@@ -18,6 +18,7 @@ use Rattle.report_text.specs.Status.{last_line}
 use Rattle.fv_outside.specs.declared.failure.Failure.TheVariants as failures
 use Rattle.report_text.specs.Ending.{failure_status}
 use Rattle.bundle_report.specs.Answer.{check_answer}
+use Rattle.check_core.specs.Sealing.{Keeping}
 use Rattle.script_text.specs.declared.fault.ScriptFault.{ScriptFault}
 use Rattle.script_text.specs.declared.fault.ScriptFault.TheVariants as faults
 use Rattle.script_text.specs.declared.task.Task.{Task}
@@ -112,15 +113,6 @@ settings_for numbers = record {
   absent = numbers.absent;
   rolling = numbers.rolling;
 }
-
--- What a call did to a vault: the bytes held and the name, where it tells them, and its count of faults, before and after.
-pub record Keeping : Type 0 where
-  pub held : Option (List ℕ)
-  pub held_after : Option (List ℕ)
-  pub name : Option (Option (List ℕ))
-  pub name_after : Option (Option (List ℕ))
-  pub faults : ℕ
-  pub faults_after : ℕ
 
 -- what vault and sink held and hold
 abbrev pub outputs_of : Writing → Keeping → Outputs

@@ -1,14 +1,21 @@
 -- The clock of a worker, behind one entry more and in the next epoch.
-use Rattle.std.proofs.Common.{◌≡◌, ℕ, suc, ◌+◌, ◌≤◌, ◌<◌, List, [], ◌∷◌, ◌++◌, refl, ◌∙◌, subst, inl, inr, ⊎_elim, arith}
+use Rattle.std.proofs.Common.{◌≡◌, ℕ, suc, ◌+◌, ◌≤◌, List, [], ◌∷◌, ◌++◌, refl, ◌∙◌, ap, subst, inl, inr, ⊎_elim, arith}
 use Rattle.lamport_clocks.specs.Reading.{Reading}
 use Rattle.host_epochs.specs.declared.told.Entry.{Entry}
-use Rattle.host_epochs.specs.Terms.{Terms, IsClockOf, first_epoch, final_epoch}
+use Rattle.host_epochs.specs.Terms.{Terms}
 use Rattle.host_epochs.specs.Told.{GoesOn, IsAsked, IsTurned, Continues, TakesUp, IsClockBehind}
 use Rattle.host_epochs.proofs.WorkLaws.{later_epoch, later_clock}
 
 continues_more : (clock : Reading) (es : List Entry) (e : Entry) → Continues clock es e.clock → Continues clock (es ++ e ∷ []) e.later
 continues_more clock [] e goes = (goes, inl refl)
 continues_more clock (d ∷ es) e goes = (goes.0, continues_more d.later es e goes.1)
+
+-- a clock that goes on is of no earlier epoch
+pub goes_up : (clock later : Reading) → GoesOn clock later → clock.at.epoch ≤ later.at.epoch
+goes_up clock later goes = ⊎_elim
+    (λ (same : later ≡ clock). let epoch = ap (λ (r : Reading). r.at.epoch) same in omega (arith, epoch))
+    (λ (turned : IsTurned clock later). let less = turned.epoch in omega (arith, less))
+    goes
 
 goes_turned : (a b c : Reading) → GoesOn a b → IsTurned b c → GoesOn a c
 goes_turned a b c goes turned = ⊎_elim

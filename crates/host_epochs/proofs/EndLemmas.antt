@@ -10,10 +10,8 @@ use mathlib.Core.Logic.{dite}
 use mathlib.Core.Option.{some, some-injective, some-ne-none}
 use native.Mathlib.Decide.{ℕ_discrete}
 use lib.ListN.{get_elem?, length-map, get_or-replicate}
-use Rattle.lamport_clocks.specs.declared.header.Header.{Header}
 use Rattle.atomic_table.specs.Table.{State, opening}
 use Rattle.atomic_table.proofs.Lists.{at_map}
-use Rattle.host_shard.specs.Content as shown
 use Rattle.host_shard.specs.Shown.{shown_content}
 use Rattle.host_shard.specs.declared.content.Content.{Content}
 use Rattle.host_shard.specs.declared.content.Content.TheVariants.{Vacant}
@@ -25,10 +23,11 @@ use Rattle.host_epochs.specs.Plays.{new_row, rack}
 use Rattle.host_epochs.specs.Round.{IsRound, row_at}
 use Rattle.host_epochs.specs.Rule.{Scene, HoldsPlace, IsHeldAt, IsPlaceKept, IsRowOf, IsWorkerKept, Knows, HasStopped, IsKept}
 use Rattle.host_epochs.specs.Stops.{IsStop}
-use Rattle.host_epochs.specs.Terms.{Terms, IsMaking, IsStamped, IsWithin, Waits, first_at, first_epoch, place_count, owner}
+use Rattle.host_epochs.specs.Terms.{Terms, IsMaking, IsWithin, first_at, first_epoch, place_count, owner}
 use Rattle.host_epochs.specs.Told.{Leads, IsListOf, joined_from}
 use Rattle.host_epochs.specs.Words.{newest_in, stop_in, done_in, newest_at, stop_at, done_at, word_count}
 use Rattle.host_epochs.proofs.BesideLemmas.{owner_known}
+use Rattle.host_epochs.proofs.WaitLemmas.{stamped_waits}
 
 at_or : {A : Type 0} (xs : List A) (i : ℕ) (d : A) → i < length xs → get_elem? xs i ≡ some (get_or xs i d)
 at_or [] i d below = absurd (omega arith)
@@ -49,12 +48,6 @@ only v w (suc j) at = absurd (some-ne-none w (sym at))
 joined_of_none : (number count : ℕ) → joined_from number count (λ _. []) ≡ []
 joined_of_none number zero = refl
 joined_of_none number (suc count) = joined_of_none (suc number) count
-
--- what is stamped in an epoch waits in it
-stamped_waits : (header : Header) (epoch : ℕ) (content : shown.Content) → IsStamped header epoch content → Waits (λ e. (epoch + 0 ≤ e) × (e ≤ epoch + 0)) content
-stamped_waits header epoch (shown.cold shard) stamped = let is = (stamped _ refl).epoch_is in (omega (arith, is), omega (arith, is))
-stamped_waits header epoch (shown.hot record') stamped = let is = (stamped _ refl).epoch_is in (omega (arith, is), omega (arith, is))
-stamped_waits header epoch shown.vacant stamped = tt
 
 module _ (terms : Terms) where
   abbrev first_scene : Scene

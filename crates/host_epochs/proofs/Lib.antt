@@ -10,6 +10,7 @@ mod SceneLemmas
 mod StepLemmas
 mod WordLemmas
 mod BesideLemmas
+mod AloneLemmas
 mod PlaceLemmas
 mod EpochLemmas
 mod StopLemmas

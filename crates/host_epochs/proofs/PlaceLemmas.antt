@@ -25,9 +25,10 @@ use Rattle.host_epochs.specs.declared.views.View.{View}
 use Rattle.host_epochs.specs.declared.views.View.TheVariants.{Working}
 use Rattle.host_epochs.specs.Plays.{Draft, IsDrafted, tried, noted, freed, with_loss, with_entry, with_given, given_back, row_with_entry}
 use Rattle.host_epochs.specs.Rule.{HoldsPlace, HasStopped, IsLeft, IsSeen, IsWorkerKept, Knows, IsKept}
-use Rattle.host_epochs.specs.Terms.{Terms, IsFrom, IsNear, IsWithin, Waits, epoch_of, first_at, first_epoch, place_count, owner}
+use Rattle.host_epochs.specs.Terms.{Terms, IsFrom, IsMaking, IsNear, IsUpToDate, IsWithin, Waits, epoch_of, first_at, first_epoch, place_count, owner}
 use Rattle.host_epochs.specs.Told.{IsAsked, IsDone, IsClockBehind, IsHad, IsSame, Leads, joined_from}
 use Rattle.host_epochs.specs.Words.{newest_in}
+use Rattle.host_epochs.proofs.AloneLemmas.{up_to_date_now}
 use Rattle.host_epochs.proofs.BesideLemmas.{owner_known, IsBeside, beside_set, worker_beside, epochs_beside, more_beside, room_beside, stopped_beside, near_now}
 use Rattle.host_epochs.proofs.JoinLemmas.{joined_alike, even_more}
 use Rattle.host_epochs.proofs.SceneLemmas.{set_there}
@@ -50,7 +51,7 @@ module _ (terms : Terms) (id i p slots : ℕ) (row : Row) (losses : List Loss) (
 
   -- ---- a try
 
-  module _ (there : p < place_count terms) (s : State Content View) (r : IsKept terms s) (at : get_elem? s.views id ≡ some (Working (with Idle))) where
+  module _ (making : IsMaking terms.header terms.workers terms.contents) (there : p < place_count terms) (s : State Content View) (r : IsKept terms s) (at : get_elem? s.views id ≡ some (Working (with Idle))) where
     abbrev won : Desk
     won = with (Has p (r.scene.now p) (r.scene.past p))
 
@@ -59,6 +60,9 @@ module _ (terms : Terms) (id i p slots : ℕ) (row : Row) (losses : List Loss) (
 
     near : IsNear terms row.entered row.done (r.scene.now p)
     near = subst (λ (t : Row). IsNear terms t.entered t.done (r.scene.now p)) (sym knows_idle.1.is) (near_now terms s r i p knows_idle.0 there)
+
+    kept : IsUpToDate terms p i row.entered row.done (r.scene.now p)
+    kept = subst (λ (t : Row). IsUpToDate terms p i t.entered t.done (r.scene.now p)) (sym knows_idle.1.is) (up_to_date_now terms making s r i p knows_idle.0 there)
 
     wins : slice_index s.words p ≡ 0 → IsKept terms (stepped s p (suc i) id [] (Working won) (takes p (r.scene.now p)))
     wins zero =
@@ -122,26 +126,26 @@ module _ (terms : Terms) (id i p slots : ℕ) (row : Row) (losses : List Loss) (
         (view_step terms s r id (with Idle) now at refl refl refl knows_idle.3 knows_idle.4)
 
   -- the place is taken where its word was 0, and else nothing changes but the losses
-  pub tries : p < place_count terms
+  pub tries : IsMaking terms.header terms.workers terms.contents → p < place_count terms
       → Allows (IsKept terms) slots id (Working (with Idle), []) p (λ n. either (eqb n 0) (suc i) n)
       (tried terms (step slots p 0 (suc i) none) (Working (with Idle), []))
-  tries there s r deep at below =
+  tries making there s r deep at below =
       exchanged (slice_index s.words p) 0 (suc i)
       (λ n. (w : View) × (a : Act Content) × Valid s.homes [] a × IsKept terms (stepped s p n id [] w a)
       × tried terms (step slots p 0 (suc i) none) (Working (with Idle), []) (slice_index s.words p) (w, carried_after [] a))
       (λ zero. (
-        Working (won there s r at),
+        Working (won making there s r at),
         takes p (r.scene.now p),
         (r.places p there).free zero,
-        wins there s r at zero,
-        ((λ _. (r.scene.now p, r.scene.past p, refl, (r.places p there).leads, (knows_idle there s r at).0, near there s r at)), λ busy. absurd (busy zero)),
+        wins making there s r at zero,
+        ((λ _. (r.scene.now p, r.scene.past p, refl, (r.places p there).leads, (knows_idle making there s r at).0, near making there s r at, kept making there s r at)), λ busy. absurd (busy zero)),
       ))
       (λ busy. (
         with_loss p (slice_index s.words p) (Working (with Idle)),
         keeps,
         tt,
-        loses there s r at (losses ++ record { place = p; found = slice_index s.words p } ∷ []),
-        ((λ zero. absurd (busy zero)), λ _. (not_own there s r at, refl)),
+        loses making there s r at (losses ++ record { place = p; found = slice_index s.words p } ∷ []),
+        ((λ zero. absurd (busy zero)), λ _. (not_own making there s r at, refl)),
       ))
 
   -- ---- while the place is held

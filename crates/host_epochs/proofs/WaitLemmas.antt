@@ -1,7 +1,8 @@
 -- Epochs of elements with which contents wait.
-use Rattle.std.proofs.Common.{◌≡◌, ℕ, ◌≤◌, refl, arith}
+use Rattle.std.proofs.Common.{◌≡◌, ℕ, ◌+◌, ◌≤◌, refl, arith}
+use Rattle.lamport_clocks.specs.declared.header.Header.{Header}
 use Rattle.host_shard.specs.Content.{Content, cold, hot, vacant}
-use Rattle.host_epochs.specs.Terms.{Waits, epoch_of}
+use Rattle.host_epochs.specs.Terms.{IsStamped, Waits, epoch_of}
 
 pub waits_map : (P Q : ℕ → Type 0) (content : Content) → ((epoch : ℕ) → P epoch → Q epoch) → Waits P content → Waits Q content
 waits_map P Q (cold shard) f waits = f shard.stamp.epoch waits
@@ -26,3 +27,9 @@ pub from_own : (content : Content) → Waits (λ epoch. epoch_of content ≤ epo
 from_own (cold shard) = omega arith
 from_own (hot record') = omega arith
 from_own vacant = tt
+
+-- what is stamped in an epoch waits in it
+pub stamped_waits : (header : Header) (epoch : ℕ) (content : Content) → IsStamped header epoch content → Waits (λ e. (epoch + 0 ≤ e) × (e ≤ epoch + 0)) content
+stamped_waits header epoch (cold shard) stamped = let is = (stamped _ refl).epoch_is in (omega (arith, is), omega (arith, is))
+stamped_waits header epoch (hot record') stamped = let is = (stamped _ refl).epoch_is in (omega (arith, is), omega (arith, is))
+stamped_waits header epoch vacant stamped = tt

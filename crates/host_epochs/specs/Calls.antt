@@ -23,7 +23,7 @@ use Rattle.host_epochs.specs.declared.answers.Taking.{Taking}
 use Rattle.host_epochs.specs.declared.answers.Taking.TheVariants as taking
 use Rattle.host_epochs.specs.Plays.{new_row, given_back, row_with_done, row_with_epoch, row_with_stop, row_with_warning, row_with_entry}
 use Rattle.host_epochs.specs.Stops.{IsAtEnd}
-use Rattle.host_epochs.specs.Terms.{Terms, Waits, IsNear, clock_at, first_at, first_epoch, owner, place_count}
+use Rattle.host_epochs.specs.Terms.{Terms, Waits, IsNear, IsUpToDate, clock_at, first_at, first_epoch, owner, place_count}
 use Rattle.host_epochs.specs.Told.{IsAsked, IsDone, IsSame, IsClockBehind, Leads}
 use Rattle.host_epochs.specs.Hands.{worker_of, row_of, entries, losses, left, seen, stop, entered, done, place, content, history, IsFree, Holds, HoldsContent}
 
@@ -72,10 +72,11 @@ pub record Wins (terms : Terms) (table : TableId) (old : Hand) (place : ℕ) (ne
   pub leads : Leads terms place (first_at terms place) (history new) (content new)
   pub known : worker_of new < terms.workers
   pub near : IsNear terms (entered new) (done new) (content new)
+  pub kept : IsUpToDate terms place (worker_of new) (entered new) (done new) (content new)
 
 -- The content of the place is taken, with its history, which leads to it. Its element is at most one epoch before the worker's,
 -- and at most one behind what the worker is through with: so none is newer than the worker's epoch while it isn't through with
--- that.
+-- that. At a place of its own it is of none before the last that it is through with, and where it is alone of none behind its own.
 pub record Takes (terms : Terms) (table : TableId) (old : Hand) (place : ℕ) (x : Content) (new : Hand) : Type 0 where
   pub after : IsAsBefore old new
   pub holds : Holds table new place
@@ -83,6 +84,7 @@ pub record Takes (terms : Terms) (table : TableId) (old : Hand) (place : ℕ) (x
   pub leads : Leads terms place (first_at terms place) (history new) x
   pub known : worker_of new < terms.workers
   pub near : IsNear terms (entered new) (done new) x
+  pub kept : IsUpToDate terms place (worker_of new) (entered new) (done new) x
 
 -- A try takes the content of the place, or finds the word held.
 abbrev pub Tries : Terms → TableId → Hand → ℕ → Taking → Hand → Type 0

@@ -18,7 +18,7 @@ use Rattle.host_epochs.specs.declared.views.Desk.{Desk}
 use Rattle.host_epochs.specs.declared.views.Row.{Row}
 use Rattle.host_epochs.specs.declared.views.View.{View}
 use Rattle.host_epochs.specs.declared.views.View.TheVariants.{Spent, Working, Keeping}
-use Rattle.host_epochs.specs.Terms.{Terms, Waits, IsNear, epoch_of, first_at, first_epoch}
+use Rattle.host_epochs.specs.Terms.{Terms, Waits, IsNear, IsUpToDate, epoch_of, first_at, first_epoch}
 use Rattle.host_epochs.specs.Told.{IsDone, Leads}
 use Rattle.host_epochs.specs.Words.{done_at}
 
@@ -114,12 +114,13 @@ row_with_warning row = record row { warned = true }
 -- ---- the kinds of step at a place
 
 -- A try finds the place's word 0, and then the seat holds the place, with the content that was at home and its history, whose
--- element is near the worker's epochs; or it finds the word held by another worker, and notes that.
+-- element is near the worker's epochs and up to date; or it finds the word held by another worker, and notes that.
 abbrev pub tried : Terms → Step Content → Sat → ℕ → Sat → Type 0
 tried terms step m found m' =
     (found ≡ 0 → (x : Content) × (past : List Entry) × (m' ≡ (with_held (Has step.word x past) m.0, (step.word, x) ∷ m.1))
     × Leads terms step.word (first_at terms step.word) past x × (number_in m.0 < terms.workers)
-    × IsNear terms (row_in m.0).entered (row_in m.0).done x)
+    × IsNear terms (row_in m.0).entered (row_in m.0).done x
+    × IsUpToDate terms step.word (number_in m.0) (row_in m.0).entered (row_in m.0).done x)
     × (found ≢ 0 → (found ≢ suc (number_in m.0)) × (m' ≡ (with_loss step.word found m.0, m.1)))
 
 -- the entry is of this draft, at the place of the word that is read, by the seat's worker, from the content that it holds

@@ -107,6 +107,12 @@ abbrev pub IsNear : Terms → ℕ → ℕ → code.Content → Type 0
 IsNear terms entered done content = Waits (λ epoch. (first_epoch terms ≤ epoch) × (first_epoch terms + entered ≤ suc epoch)
     × (epoch ≤ suc (first_epoch terms + done)) × (epoch ≤ final_epoch terms)) (shown_content content)
 
+-- What a worker finds at a place: where it owns the place, the element is of no epoch before the last that the worker is through with;
+-- and where it is the only worker, of none behind its own.
+pub record IsUpToDate (terms : Terms) (place worker entered done : ℕ) (content : code.Content) : Type 0 where
+  pub own : owner terms place ≡ worker → Waits (λ epoch. first_epoch terms + done ≤ epoch) (shown_content content)
+  pub alone : terms.workers ≡ 1 → Waits (λ epoch. epoch ≤ first_epoch terms + entered) (shown_content content)
+
 -- ---- the making
 
 -- a stamp of the epoch, by a verifier of the bundle

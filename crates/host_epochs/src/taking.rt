@@ -6,7 +6,7 @@ ghost use Rattle.host_epochs.specs.Hands.{Holds, HoldsContent, IsFree, content, 
 ghost use Rattle.host_epochs.specs.Made.{terms_of};
 ghost use Rattle.host_epochs.specs.Plays.{given_back, row_with_entry};
 ghost use Rattle.host_epochs.specs.Table.{table, terms};
-ghost use Rattle.host_epochs.specs.Terms.{clock_at, place_count};
+ghost use Rattle.host_epochs.specs.Terms.{IsMaking, clock_at, place_count};
 ghost use Rattle.host_epochs.specs.Told.{IsDone, IsSame};
 
 use crate::answers::Taking;
@@ -66,6 +66,7 @@ impl<D: Digests> Epochs<D> {
 // Tries a place's word, and answers what was found there.
 fn try_word<D: Digests, N: Told>(board: &Board<D>, hand: &mut Hand, place: usize) -> u64
     requires terms { N.terms ≡ terms_of D.functions board.now.shared.key }
+    requires making { IsMaking board.now.shared.key.header board.now.shared.key.workers board.now.shared.key.contents.value.items }
     requires place { place < place_count (terms_of D.functions board.now.shared.key) }
     requires word { place < board.now.shared.table_id.words }
     requires free { IsFree board.now.shared.table_id hand.old }

@@ -4,7 +4,9 @@ pub mod BundleLaws
 pub mod FramingLaws
 mod RunLemmas
 mod LendingLemmas
-mod WithPassLemmas
+mod HalvesLemmas
+mod ChangedLemmas
 mod SealingLemmas
 mod SettlingLemmas
+mod DealingLemmas
 mod SealedLemmas

@@ -20,6 +20,7 @@ use Rattle.bundle_report.specs.Report.{EpochText, EpochTold, operations_told}
 use Rattle.bundle_report.specs.RunReport.{courses_of}
 use Rattle.bundle_report.specs.Judged.{judged}
 use Rattle.bundle_report.specs.SoFar.{lines_from, opening_runs, runs_from, having_read, runs_behind, HaveRead}
+use Rattle.bundle_report.proofs.LikeRunsLaws.{like-length, like-all, like-all_back}
 use Rattle.bundle_report.proofs.LinesLaws.{lines-behind}
 use Rattle.bundle_report.proofs.SoFarLaws.{taken-more, lines-taken, counted-within}
 use Rattle.bundle_report.proofs.DueLaws.{lines-certified, lines-due}
@@ -58,7 +59,8 @@ length-runs scheme header count number (log ∷ logs) = ap suc (length-runs sche
 pub runs-length : (functions : DigestFunctions) (header : Header) (logs : List (List ℕ)) (so_far : RunsSoFar) → HaveRun functions header logs so_far
     → length so_far.runs ≡ header.verifiers
 runs-length functions header logs so_far have =
-    sym (length-map so_far.runs (λ fed. fed.run)) ∙ ap length have.taken.runs_are
+    sym (length-map so_far.runs (λ fed. fed.run))
+    ∙ like-length (runs_from (scheme_of functions header) header so_far.judged.count 0 logs) (map (λ fed. fed.run) so_far.runs) have.taken.runs_are
     ∙ length-runs (scheme_of functions header) header so_far.judged.count 0 logs ∙ have.taken.whole
 
 pub runs-few : (so_far : RunsSoFar) → HaveRunSome so_far → length so_far.runs ≤ 64
@@ -70,7 +72,8 @@ runs_headers : (functions : DigestFunctions) (header : Header) (logs : List (Lis
     → HaveRun functions header logs so_far → AllByRecursion (λ fed. fed.run.course.machine.header ≡ header) so_far.runs
 runs_headers functions header logs so_far have =
     all_runs (λ run. run.course.machine.header ≡ header) so_far.runs
-    (subst (AllByRecursion (λ run. run.course.machine.header ≡ header)) (sym have.taken.runs_are)
+    (like-all (λ run. run.course.machine.header ≡ header) (λ run cache is. is)
+    (runs_from (scheme_of functions header) header so_far.judged.count 0 logs) (map (λ fed. fed.run) so_far.runs) have.taken.runs_are
     (headers_from (scheme_of functions header) header so_far.judged.count 0 logs))
 
 runs_weights : (functions : DigestFunctions) (header : Header) (logs : List (List ℕ)) (so_far now : RunsSoFar) → HaveRun functions header logs so_far
@@ -78,9 +81,12 @@ runs_weights : (functions : DigestFunctions) (header : Header) (logs : List (Lis
     → AllByRecursion (λ fed. weight fed.run ≤ so_far.bytes) now.runs
 runs_weights functions header logs so_far now have taken =
     all_runs (λ run. weight run ≤ so_far.bytes) now.runs
-    (subst (AllByRecursion (λ run. weight run ≤ so_far.bytes)) (sym taken.runs_are)
+    (like-all (λ run. weight run ≤ so_far.bytes) (λ run cache few. few)
+    (runs_from (scheme_of functions header) header now.judged.count 0 logs) (map (λ fed. fed.run) now.runs) taken.runs_are
     (weights_from (scheme_of functions header) header so_far.judged.count now.judged.count 0 so_far.bytes logs
-    (subst (AllByRecursion (λ run. weight run ≤ so_far.bytes)) have.taken.runs_are (all_feds (λ run. weight run ≤ so_far.bytes) so_far.runs have.few))))
+    (like-all_back (λ run. weight run ≤ so_far.bytes) (λ run cache few. few)
+    (runs_from (scheme_of functions header) header so_far.judged.count 0 logs) (map (λ fed. fed.run) so_far.runs) have.taken.runs_are
+    (all_feds (λ run. weight run ≤ so_far.bytes) so_far.runs have.few))))
 
 -- ---- a round more
 

@@ -1,20 +1,15 @@
 -- Runs and passes that were lent to threads, once they are apart again.
-use Rattle.std.proofs.Common.{◌≡◌, ℕ, ◌+◌, ◌<◌, List, length, map, get_or, All, sym, ◌∙◌, arith}
-use Rattle.lamport_clocks.specs.declared.header.Header.{Header}
-use Rattle.merkle_records.specs.Scheme.{Scheme}
+use Rattle.std.proofs.Common.{◌≡◌, ℕ, zero, suc, ◌<◌, List, [], ◌∷◌, length, map, get_or, drop, sym, ◌∙◌, ap, subst, arith}
+use Rattle.std.specs.Vec.Iter.{into_iter_items}
 use Rattle.record_hash.specs.Functions.{DigestFunctions}
-use Rattle.epoch_gather.specs.declared.outcome.Verdict.{Verdict}
-use Rattle.epoch_gather.specs.Verdict.{verdict_of}
 use Rattle.epoch_book.specs.declared.book.EpochBook.{EpochBook}
 use Rattle.epoch_book.specs.declared.pass.Pass.{Pass}
-use Rattle.epoch_book.specs.Passes.{parts_of, verifiers_of, AreAllPassesOf}
-use Rattle.bundle_report.specs.declared.judged.Judged.{Judged}
-use Rattle.bundle_report.specs.SoFar.{HaveRead}
 use Rattle.certified_epochs.specs.declared.fed_run.FedRun.{FedRun}
-use Rattle.certified_epochs.specs.Turn.{AreFed, IsVerdictAt}
-use Rattle.host_rounds.specs.Sealing.{HasRead, HaveAllTaken, HasHandedIn}
-use Rattle.host_rounds.proofs.WithPassLemmas.{half-count, back-both, back-two}
-use Rattle.host_rounds.proofs.SettlingLemmas.{all-passes, settled-verdict}
+use Rattle.certified_epochs.specs.Turn.{AreFed}
+use Rattle.host_rounds.specs.Sealing.{HasRead, HaveAllTaken, HasHandedIn, HaveHandedIn}
+use Rattle.host_rounds.proofs.HalvesLemmas.{first-of, half-count, back-two}
+use Rattle.host_rounds.proofs.ChangedLemmas.{left-within, next-left}
+use Rattle.host_rounds.proofs.DealingLemmas.{Passes}
 
 module _ {X : Type 0} (run_in : X → FedRun) (lent later : List X) (news : List FedRun) (news_are : news ≡ map run_in later) (many : length later ≡ length lent) where
   -- all runs took the round
@@ -27,26 +22,46 @@ module _ {X : Type 0} (run_in : X → FedRun) (lent later : List X) (news : List
     are_fed = fed;
   }
 
-  module _ (pass_in : X → Pass) (book : EpochBook) (place : ℕ) (passes : List Pass) (passes_are : passes ≡ map pass_in later) (verifiers : verifiers_of book ≡ length lent)
-      (each : (i : ℕ) (x : X) → i < length lent → HasHandedIn book place i (run_in (get_or later i x)) (pass_in (get_or later i x))) where
-    handed : (i : ℕ) (d : FedRun) (e : Pass) → i < length news → HasHandedIn book place i (get_or news i d) (get_or passes i e)
-    handed =
-        back-both run_in pass_in (λ i run pass. HasHandedIn book place i run pass) news passes later news_are passes_are
-        (λ i x here. each i x (omega (arith, here, many)))
+-- ---- passes that the verifiers give back, book by book
 
-    as_many : length passes ≡ length news
-    as_many = half-count pass_in passes later passes_are ∙ sym (half-count run_in news later news_are)
+-- what is left of passes, of which there are more
+some-left : (passes rest : List Pass) (place : ℕ) → place < length passes → drop place passes ≡ rest → 0 < length rest
+some-left [] rest place within is = absurd (omega (arith, within))
+some-left (pass ∷ passes) rest zero within is = let size = ap (λ (ps : List Pass). length ps) is in omega (arith, size)
+some-left (pass ∷ passes) rest (suc place) within is = some-left passes rest place (omega (arith, within)) is
 
-    for_all : verifiers_of book ≡ length news
-    for_all = verifiers ∙ sym many ∙ sym (half-count run_in news later news_are)
+module _ (books books_left : List EpochBook) (runs : List FedRun) (all nows : List Passes) (place : ℕ) (book : EpochBook) (as_many : length all ≡ length runs)
+    (handed : (i : ℕ) (fed : FedRun) (one : Passes) → i < length runs → HaveHandedIn books i (get_or runs i fed) (into_iter_items (get_or all i one)))
+    (left : drop place books ≡ book ∷ books_left)
+    (left_of_each : (i : ℕ) (one : Passes) → i < length all → drop place (into_iter_items (get_or all i one)) ≡ into_iter_items (get_or nows i one)) where
+  there : place < length books
+  there = left-within books books_left place book left
 
-    -- all passes have come together
-    pub all-sealed : AreAllPassesOf book passes
-    all-sealed = all-passes book place news passes as_many for_all handed
+  -- each verifier has a pass of the next book
+  pub one-left : (i : ℕ) (one : Passes) → i < length all → 0 < length (into_iter_items (get_or nows i one))
+  one-left i one within =
+      let here : i < length runs = omega (arith, within, as_many) in
+      let all_passes = into_iter_items (get_or all i one) in
+      let count = (handed i (first-of runs i here) one here).count in
+      some-left all_passes (into_iter_items (get_or nows i one)) place (omega (arith, there, count)) (left_of_each i one within)
 
-    -- and what the book says of them is the verdict by the runs
-    pub sealed-verdict : (scheme : Scheme) (header : Header) (logs : List (List ℕ)) (judged : Judged) (verdict : Verdict) → AreFed news
-        → HaveRead scheme header logs judged (map (λ fed. fed.run) news)
-        → ((epoch : ℕ) → All (λ part. part.epoch ≡ epoch) (parts_of passes) → verdict ≡ verdict_of (verifiers_of book) epoch (parts_of passes))
-        → IsVerdictAt (map (λ fed. fed.run) news) place (header.first + judged.count + place) verdict
-    sealed-verdict = settled-verdict book place news passes as_many for_all handed
+  module _ (own : List Pass) (laters : List Passes) (next : ℕ) (next_is : next ≡ suc place) (size : length own ≡ length all)
+      (given : (i : ℕ) (one : Passes) (pass : Pass) → i < length all → into_iter_items (get_or nows i one) ≡ get_or own i pass ∷ into_iter_items (get_or laters i one)) where
+    behind : (i : ℕ) (one : Passes) (pass : Pass) → i < length all
+        → (get_or (into_iter_items (get_or all i one)) place pass ≡ get_or own i pass) × (drop next (into_iter_items (get_or all i one)) ≡ into_iter_items (get_or laters i one))
+    behind i one pass within =
+        next-left (into_iter_items (get_or all i one)) (into_iter_items (get_or laters i one)) place next (get_or own i pass) pass (left_of_each i one within ∙ given i one pass within) next_is
+
+    -- by these the runs have handed in what they have of its epoch
+    pub column : (i : ℕ) (fed : FedRun) (pass : Pass) → i < length runs → HasHandedIn book place i (get_or runs i fed) (get_or own i pass)
+    column i fed pass here =
+        let within : i < length all = omega (arith, here, as_many) in
+        let one = first-of all i within in
+        let own_at = (behind i one pass within).0 in
+        let book_at = (next-left books books_left place next book book left next_is).0 in
+        subst (λ (b : EpochBook). HasHandedIn b place i (get_or runs i fed) (get_or own i pass)) book_at
+        (subst (HasHandedIn (get_or books place book) place i (get_or runs i fed)) own_at ((handed i fed one here).each place book pass there))
+
+    -- and the passes of the books behind it are left
+    pub column-left : (i : ℕ) (one : Passes) → i < length all → drop next (into_iter_items (get_or all i one)) ≡ into_iter_items (get_or laters i one)
+    column-left i one within = (behind i one (first-of own i (omega (arith, within, size))) within).1

@@ -1,45 +1,20 @@
 -- What runs have once they took a round: parts of their verifiers, which may be handed in.
-use Rattle.std.proofs.Common.{◌≡◌, ℕ, zero, suc, ◌+◌, ◌<◌, ◌≤◌, false, List, [], ◌∷◌, length, map, get_or, Result, Ok, Err, IfOk, refl, sym, ◌∙◌, ap, subst, arith}
+use Rattle.std.proofs.Common.{◌≡◌, ℕ, zero, suc, ◌+◌, ◌<◌, ◌≤◌, false, List, [], ◌∷◌, length, map, get_or, Result, Ok, Err, IfOk, refl, ◌∙◌, ap, subst, arith}
 use Rattle.std.specs.List.{AllByRecursion}
 use Rattle.std.proofs.lemmas.List.{length-map}
 use Rattle.std.proofs.Math.ListN.{get_or-map}
 use Rattle.record_hash.specs.Functions.{DigestFunctions}
 use Rattle.lamport_clocks.specs.declared.header.Header.{Header}
-use Rattle.lamport_clocks.specs.Header.{IsHeader}
-use Rattle.merkle_records.specs.Scheme.{Scheme, scheme_of}
-use Rattle.record_text.specs.declared.operation.Operation.{Operation}
+use Rattle.merkle_records.specs.Scheme.{scheme_of}
 use Rattle.verifier_run.specs.Kept.{keeps_operations}
-use Rattle.verifier_run.specs.Progress.{Progress, fed, weight}
-use Rattle.bundle_report.specs.SoFar.{left_from, runs_from}
-use Rattle.bundle_report.proofs.LeftLaws.{run_of}
-use Rattle.bundle_report.proofs.PartLaws.{left-part}
+use Rattle.verifier_run.specs.Progress.{fed, weight}
 use Rattle.certified_epochs.specs.declared.fed_run.FedRun.{FedRun}
+use Rattle.certified_epochs.proofs.CanCertifyLaws.{can_certify-read, can_certify-own}
 use Rattle.host_rounds.specs.Round.{logs_with}
 use Rattle.host_rounds.specs.Feeding.{Reads, AllRead}
 use Rattle.host_rounds.specs.SoFar.{RunsSoFar, HaveRun}
 use Rattle.host_rounds.specs.Sealing.{log_of, HasPartsOf, SealsOwn, HaveAllTaken}
 use Rattle.host_rounds.proofs.RunLemmas.{round-taken}
-
--- ---- whose the parts of runs are
-
--- of runs over logs, each by its place
-parts_own : (scheme : Scheme) (header : Header) (count number index : ℕ) (logs : List (List ℕ)) (runs : List (Progress Operation)) (d : Progress Operation) → IsHeader header
-    → runs ≡ runs_from scheme header count number logs → index < length runs → HasPartsOf (number + index) (get_or runs index d)
-parts_own scheme header count number index [] runs d good is within = absurd (omega (arith, ap length is, within))
-parts_own scheme header count number zero (log ∷ logs) runs d good is within =
-    let own : get_or runs 0 d ≡ left_from header.first count (run_of scheme header number log) = ap (λ (rs : List (Progress Operation)). get_or rs 0 d) is in
-    let same : number ≡ number + 0 = omega arith in
-    subst (λ (n : ℕ). HasPartsOf n (get_or runs 0 d)) same
-    (subst (HasPartsOf number) (sym own)
-    (λ place part there. let law = left-part scheme header count place number log part good there in (law.0, law.2, law.3)))
-parts_own scheme header count number (suc index) (log ∷ logs) [] d good is within = absurd (omega (arith, within))
-parts_own scheme header count number (suc index) (log ∷ logs) (run ∷ runs) d good is within =
-    let next : suc number + index ≡ number + suc index = omega arith in
-    subst (λ (n : ℕ). HasPartsOf n (get_or runs index d)) next
-    (parts_own scheme header count (suc number) index logs runs d good (tail is) (omega (arith, within)))
-  where
-    tail : run ∷ runs ≡ runs_from scheme header count number (log ∷ logs) → runs ≡ runs_from scheme header count (suc number) logs
-    tail e = cc
 
 -- ---- the runs as they are to be once they took a round
 
@@ -79,12 +54,13 @@ seals-own functions header logs so_far have round len number d within =
     let taken = round-taken functions header logs so_far have round news (fed_all-takes functions round so_far.runs len) in
     let size = fed_all-length functions round so_far.runs len in
     let many = length-map news (λ (f : FedRun). f.run) in
-    let own : 0 + number ≡ number = omega arith in
+    let runs = map (λ (f : FedRun). f.run) news in
+    let can = can_certify-read (scheme_of functions header) header (logs_with logs round) so_far.judged runs taken in
     subst (HasPartsOf number)
     (get_or-map (λ (f : FedRun). f.run) news number d ∙ fed_all-at functions round so_far.runs number d len within)
-    (subst (λ (n : ℕ). HasPartsOf n (get_or (map (λ (f : FedRun). f.run) news) number d.run)) own
-    (parts_own (scheme_of functions header) header so_far.judged.count 0 number (logs_with logs round) (map (λ f. f.run) news) d.run taken.header_good taken.runs_are
-    (omega (arith, within, size, many))))
+    (λ place part there.
+    let own = can_certify-own so_far.judged runs can number place d.run part (omega (arith, within, size, many)) there in
+    (own.verifier, own.added, own.evicted))
 
 -- ---- runs that were fed
 

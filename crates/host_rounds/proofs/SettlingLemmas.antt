@@ -1,28 +1,25 @@
 -- What a book settles of passes by which verifiers handed in what their runs have.
-use Rattle.std.proofs.Common.{◌≡◌, ℕ, zero, suc, ◌+◌, ◌<◌, false, List, [], ◌∷◌, ◌++◌, length, map, get_or, slice_get, Option, Some, None, All, refl, sym, ◌∙◌, ap, subst, arith}
-use Rattle.std.specs.List.{AllByRecursion, cons_option}
+use Rattle.std.proofs.Common.{◌≡◌, ◌⊎◌, inl, inr, ⊎_elim, ℕ, zero, suc, ◌+◌, ◌<◌, false, List, [], ◌∷◌, ◌++◌, length, map, get_or, slice_get, Option, Some, None, All, refl, sym, ◌∙◌, ap, subst, arith}
+use Rattle.std.specs.List.{cons_option}
 use Rattle.std.specs.Option.{option_to_list}
 use Rattle.std.proofs.lemmas.List.{length-map}
 use Rattle.std.proofs.lemmas.List.Elements.{All-from_recursion, All-get_or}
 use Rattle.std.proofs.lemmas.Option.{get_or_from_slice_get, slice_get_within, slice_get-get_or}
-use Rattle.lamport_clocks.specs.declared.header.Header.{Header}
-use Rattle.merkle_records.specs.Scheme.{Scheme}
 use Rattle.multiset_sum.specs.declared.part.Part.{Part}
 use Rattle.epoch_gather.specs.declared.outcome.Verdict.{Verdict}
 use Rattle.epoch_gather.specs.Verdict.{verdict_of}
 use Rattle.epoch_book.specs.declared.book.EpochBook.{EpochBook}
 use Rattle.epoch_book.specs.declared.pass.Pass.{Pass}
 use Rattle.epoch_book.specs.Passes.{number_of, part_of, parts_of, verifiers_of, AreAllPassesOf}
-use Rattle.record_text.specs.declared.operation.Operation.{Operation}
-use Rattle.verifier_run.specs.Progress.{Progress}
 use Rattle.bundle_report.specs.declared.judged.Judged.{Judged}
 use Rattle.bundle_report.specs.RunReport.{parts_at}
-use Rattle.bundle_report.specs.SoFar.{HaveRead}
-use Rattle.bundle_report.proofs.PartLaws.{later-epochs}
 use Rattle.certified_epochs.specs.declared.fed_run.FedRun.{FedRun}
-use Rattle.certified_epochs.specs.Turn.{AreFed, courses_in, IsVerdictAt}
+use Rattle.certified_epochs.specs.Turn.{AreFed, courses_in, IsVerdictAt, CanCertify, AreVerdictsOn}
+use Rattle.record_text.specs.declared.operation.Operation.{Operation}
+use Rattle.verifier_run.specs.Progress.{Progress}
+use Rattle.certified_epochs.proofs.CanCertifyLaws.{can_certify-epochs}
 use Rattle.host_rounds.specs.Sealing.{HasHandedIn, IsNewPass}
-use Rattle.host_rounds.proofs.WithPassLemmas.{first-of}
+use Rattle.host_rounds.proofs.HalvesLemmas.{first-of}
 use Rattle.host_rounds.proofs.SealingLemmas.{one-of}
 
 -- The passes of a new book have handed in nothing.
@@ -31,10 +28,6 @@ pub new-pass : (book : EpochBook) (passes : List Pass) (number : ℕ) (e : Pass)
 new-pass book passes number e are empty within =
     let is = are.each number (get_or passes number e) (slice_get-get_or passes number e within) in
     record { of_book = is.1; number_is = is.0; empty = All-get_or (λ (pass : Pass). part_of pass ≡ None) passes number e within empty }
-
--- by the number that the pass has
-pub by-number : (book : EpochBook) (number : ℕ) (pass : Pass) → IsNewPass book number pass → IsNewPass book (number_of pass) pass
-by-number book number pass new = record { of_book = new.of_book; number_is = refl; empty = new.empty }
 
 -- ---- what was handed in
 
@@ -69,17 +62,14 @@ module _ (book : EpochBook) (index : ℕ) (runs : List FedRun) (passes : List Pa
   }
 
   -- What the book says is the verdict on the epoch by what the runs have handed in.
-  pub settled-verdict : (scheme : Scheme) (header : Header) (logs : List (List ℕ)) (judged : Judged) (verdict : Verdict) → AreFed runs
-      → HaveRead scheme header logs judged (map (λ fed. fed.run) runs)
+  pub settled-verdict : (judged : Judged) (verdict : Verdict) → AreFed runs → (can : CanCertify judged (map (λ fed. fed.run) runs))
       → ((epoch : ℕ) → All (λ part. part.epoch ≡ epoch) (parts_of passes) → verdict ≡ verdict_of (verifiers_of book) epoch (parts_of passes))
-      → IsVerdictAt (map (λ fed. fed.run) runs) index (header.first + judged.count + index) verdict
-  settled-verdict scheme header logs judged verdict fed taken says =
-      let epoch = header.first + judged.count + index in
+      → IsVerdictAt (map (λ fed. fed.run) runs) index (can.first + judged.count + index) verdict
+  settled-verdict judged verdict fed can says =
+      let epoch = can.first + judged.count + index in
       let all_runs = map (λ (f : FedRun). f.run) runs in
       let parts_are = parts_handed index runs passes many (λ i d e within. (each i d e within).part (one-of (λ (f : FedRun). f.is_starved ≡ false) runs i d within fed)) in
-      let epochs : AllByRecursion (λ (part : Part). part.epoch ≡ epoch) (parts_at index (courses_in all_runs)) =
-      subst (λ (rs : List (Progress Operation)). AllByRecursion (λ (part : Part). part.epoch ≡ epoch) (parts_at index (courses_in rs))) (sym taken.runs_are)
-      (later-epochs scheme header judged.count index 0 logs) in
+      let epochs = can_certify-epochs judged all_runs can index in
       says epoch
       (subst (All (λ (part : Part). part.epoch ≡ epoch)) (sym parts_are) (All-from_recursion (λ (part : Part). part.epoch ≡ epoch) (parts_at index (courses_in all_runs)) epochs))
       ∙ ap (verdict_of (verifiers_of book) epoch) parts_are
@@ -87,19 +77,23 @@ module _ (book : EpochBook) (index : ℕ) (runs : List FedRun) (passes : List Pa
 
 -- ---- the verdicts of a round
 
-pub one-settled : (P : ℕ → Verdict → Type 0) (verdicts : List Verdict) (first : Verdict) → verdicts ≡ first ∷ [] → P 0 first
-    → (index : ℕ) (verdict : Verdict) → slice_get verdicts index ≡ Some verdict → P index verdict
-one-settled P verdicts first is own index verdict there = at index (ap (λ (vs : List Verdict). slice_get vs index) (sym is) ∙ there)
-  where
-    at : (place : ℕ) → slice_get (first ∷ []) place ≡ Some verdict → P place verdict
-    at zero found = let same : first ≡ verdict = cc in subst (P 0) same own
-    at (suc place) found = absurd (cc)
+-- the last of a list, or one before it
+get-snoc : {X : Type 0} (xs : List X) (x y : X) (k : ℕ) → slice_get (xs ++ x ∷ []) k ≡ Some y → (slice_get xs k ≡ Some y) ⊎ ((k ≡ length xs) × (x ≡ y))
+get-snoc [] x y zero at = inr (refl, cc)
+get-snoc [] x y (suc k) at = absurd (cc)
+get-snoc (z ∷ xs) x y zero at = inl at
+get-snoc (z ∷ xs) x y (suc k) at = ⊎_elim inl (λ here. inr (ap suc here.0, here.1)) (get-snoc xs x y k at)
 
-pub two-settled : (P : ℕ → Verdict → Type 0) (verdicts : List Verdict) (first second : Verdict) → verdicts ≡ first ∷ second ∷ [] → P 0 first → P 1 second
-    → (index : ℕ) (verdict : Verdict) → slice_get verdicts index ≡ Some verdict → P index verdict
-two-settled P verdicts first second is own other index verdict there = at index (ap (λ (vs : List Verdict). slice_get vs index) (sym is) ∙ there)
+-- one more
+pub one-more : (judged : Judged) (runs : List (Progress Operation)) (all verdicts : List Verdict) (verdict : Verdict) → AreVerdictsOn judged runs verdicts
+    → all ≡ verdicts ++ verdict ∷ [] → ((can : CanCertify judged runs) → IsVerdictAt runs (length verdicts) (can.first + judged.count + length verdicts) verdict)
+    → AreVerdictsOn judged runs all
+one-more judged runs all verdicts verdict so_far is own = λ can index found there.
+    at can index found (get-snoc verdicts verdict found index (ap (λ (vs : List Verdict). slice_get vs index) (sym is) ∙ there))
   where
-    at : (place : ℕ) → slice_get (first ∷ second ∷ []) place ≡ Some verdict → P place verdict
-    at zero found = let same : first ≡ verdict = cc in subst (P 0) same own
-    at (suc zero) found = let same : second ≡ verdict = cc in subst (P 1) same other
-    at (suc (suc place)) found = absurd (cc)
+    at : (can : CanCertify judged runs) (index : ℕ) (found : Verdict) → (slice_get verdicts index ≡ Some found) ⊎ ((index ≡ length verdicts) × (verdict ≡ found))
+        → IsVerdictAt runs index (can.first + judged.count + index) found
+    at can index found (inl there) = so_far can index found there
+    at can index found (inr here) =
+        subst (λ (n : ℕ). IsVerdictAt runs n (can.first + judged.count + n) found) (sym here.0)
+        (subst (IsVerdictAt runs (length verdicts) (can.first + judged.count + length verdicts)) here.1 (own can))

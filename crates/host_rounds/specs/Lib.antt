@@ -3,5 +3,5 @@ pub mod Round
 pub mod Feeding
 pub mod Bundle
 pub mod SoFar
-pub mod WithPass
+pub mod WithPasses
 pub mod Sealing

@@ -1,4 +1,4 @@
--- What a verifier does in a close's round: its run takes its log, and it hands in, by its pass, what the run has sealed.
+-- What a verifier does in a close's round: its run takes its log, and it hands in, by its passes, what the run has sealed.
 use Rattle.std.specs.Prelude.{◌≡◌, ℕ, ◌+◌, ◌<◌, ◌≤◌, ◌^◌, false, List, [], length, get_or, slice_get, None, Some}
 use Rattle.record_hash.specs.Functions.{DigestFunctions}
 use Rattle.merkle_records.specs.Scheme.{scheme_of}
@@ -51,9 +51,21 @@ pub record IsNewPass (book : EpochBook) (number : ℕ) (pass : Pass) : Type 0 wh
   pub number_is : number_of pass ≡ number
   pub empty : part_of pass ≡ None
 
+-- the passes of the verifier of this number, one of each book, by which nothing was handed in
+pub record AreNewPasses (books : List EpochBook) (number : ℕ) (passes : List Pass) : Type 0 where
+  pub count : length passes ≡ length books
+  pub each : (index : ℕ) (book : EpochBook) (pass : Pass) → index < length books → IsNewPass (get_or books index book) number (get_or passes index pass)
+
 -- The pass of the verifier of this number, by which it handed in what its run has of the epoch at this place, if the run has
 -- sealed it and memory was not wanting.
 pub record HasHandedIn (book : EpochBook) (index number : ℕ) (run : FedRun) (pass : Pass) : Type 0 where
   pub of_book : IsPassOf book pass
   pub number_is : number_of pass ≡ number
   pub part : run.is_starved ≡ false → part_of pass ≡ slice_get run.run.course.parts index
+
+-- The passes of the verifier of this number, one of each book: by the first it handed in what its run has of the first epoch that it
+-- still has parts of, by the second what it has of the next one, and so on. Of an epoch that the run has not sealed it handed in nothing.
+pub record HaveHandedIn (books : List EpochBook) (number : ℕ) (run : FedRun) (passes : List Pass) : Type 0 where
+  pub count : length passes ≡ length books
+  pub each : (index : ℕ) (book : EpochBook) (pass : Pass) → index < length books
+      → HasHandedIn (get_or books index book) index number run (get_or passes index pass)

@@ -1,5 +1,5 @@
 //! A close's round: the logs are taken, and verdicts are settled on the epochs that they may seal.
-ghost use Rattle.std.specs.Prelude.{◌≡◌, ℕ, ◌≤◌, ◌++◌, ◌∷◌, [], List, Option, true, false, length, map, OnOk, OnErr, IfOk, Err};
+ghost use Rattle.std.specs.Prelude.{◌≡◌, ℕ, ◌≤◌, ◌++◌, ◌∷◌, [], List, Option, length, map, OnOk, OnErr, IfOk, Err};
 ghost use Rattle.fv_outside.specs.Failures.{FailsByVault};
 ghost use Rattle.fv_outside.specs.Faults.{Rose};
 ghost use Rattle.fv_outside.specs.Written.{Grows, GrowsByFront};
@@ -26,15 +26,15 @@ use std::thread::Threads;
 impl Rounds {
     /// Takes the logs of a close's round, one of each verifier: writes them to the vault in frames, and feeds them to the runs side
     /// by side. Each verifier has a thread of its own, where one can be made, and there hands in what its run has sealed. Of 2^63
-    /// bytes or more in all that is want of memory. The answer is the verdicts that were settled so: on the next epoch, and in
-    /// a last close, where two may be sealed, on the one behind it too.
+    /// bytes or more in all that is want of memory. The answer is the verdicts that were settled so, on as many epochs as is asked,
+    /// from the next one on: for each that the round may seal there is to be one.
     pub fn seal<R: Threads + Sync, D: Digests + Sync, V: Sink>(
         &mut self,
         rt: &R,
         alloc: Global,
         d: &D,
         logs: &[LogBuffer],
-        last: bool,
+        count: usize,
         vault: &mut V,
     ) -> Result<Vec<Verdict>, Failure>
         requires each { length logs.now ≡ length self.old.runs }
@@ -49,8 +49,7 @@ impl Rounds {
         ensures lines { (tell : EpochText) (functions : DigestFunctions) (header : Header) (before : List (List ℕ)) → HaveRun functions header before self.old
             → OnOk result (lines_counted tell functions header (logs_with before logs.now) self.new ≡ lines_counted tell functions header before self.old) }
         ensures runs { OnOk result (length self.new.runs ≡ length self.old.runs) }
-        ensures one { last ≡ false → IfOk result (λ settled. length settled.items ≡ 1) }
-        ensures two { last ≡ true → IfOk result (λ settled. length settled.items ≡ 2) }
+        ensures count { IfOk result (λ settled. length settled.items ≡ count) }
         ensures settled { IfOk result (λ settled. AreVerdictsOn self.new.judged (map (λ fed. fed.run) self.new.runs) settled.items) }
 
         // Where it stops, the vault has a front of their bundle, and at want of memory the whole. What it had before stays, in any
@@ -70,7 +69,7 @@ impl Rounds {
             return Err(Failure::VaultFault);
         }
         let runs = replace(&mut self.runs, Vec::new(alloc));
-        let (runs, settled) = seal_round(rt, alloc, d, logs, last, runs, &mut self.bytes)?;
+        let (runs, settled) = seal_round(rt, alloc, d, logs, count, runs, &mut self.bytes)?;
         self.runs = runs;
         Ok(settled)
     }

@@ -7,6 +7,7 @@
 //! What the world of a host does between two rounds is none of its business: it takes the logs as they come.
 #![tactic(auto)]
 
+mod books;
 mod closing;
 mod counting;
 mod framing;
@@ -15,7 +16,7 @@ mod lending;
 mod rounds;
 mod sealers;
 mod sealing;
-mod with_pass;
+mod with_passes;
 
 pub use counting::with_more;
 pub use laws::rounds_make_a_bundle;

@@ -7,6 +7,7 @@ use Rattle.host_core.specs.WorldEvent.{WorldEvent}
 use Rattle.round_order.specs.Turn.{Turn, IsWorkerChain, clock_behind, in_one_order}
 use Rattle.round_order.specs.Told.{IsDid, IsTaken, AreTold, RoundStop, joined, list_of, round_events, finishes_from, stop_events}
 use Rattle.host_world.proofs.FrontLaws.{unlogged}
+use Rattle.host_serving.specs.Loop.{KeepsToLoop}
 use Rattle.host_serving.specs.Form.{AreRolling, rolling_events}
 
 module _ {C R : Type 0} (host : Host C R) (world : World C) (workers : List Worker) (count : length workers ≡ length world.workers)
@@ -79,6 +80,7 @@ module _ {C R : Type 0} (host : Host C R) (world : World C) (workers : List Work
     pasts = form.pasts;
     stops = form.stops;
     told = told_other host.rolling form.top form.finals form.lists form.pasts form.told;
+    loop = λ one. subst (λ (w : Worker). KeepsToLoop host w.served world.newest (list_of form.lists 0)) (sym (same 0)) (form.loop (sym count ∙ one));
     by_worker = form.by_worker;
     are = form.are ∙ events_other form.finals form.top form.lists form.stops;
   }

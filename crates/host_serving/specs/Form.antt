@@ -2,15 +2,16 @@
 -- rolling host all of them.
 use Rattle.std.specs.Prelude.{◌≡◌, ◌↔◌, ◌⊎◌, ℕ, zero, suc, ◌≤◌, ◌==◌, ◌%◌, Bool, true, false, List, [], ◌∷◌, ◌++◌, length, is_none, if◌then◌else◌}
 use Rattle.host_core.specs.Host.{Host}
-use Rattle.host_core.specs.World.{World}
+use Rattle.host_core.specs.World.{World, worker_at}
 use Rattle.host_core.specs.WorldEvent.{WorldEvent, moves, opens, IsLast, step, run_events}
 use Rattle.host_order.specs.Serving.{Serving, in_one_order, replay}
 use Rattle.host_order.specs.Told.{Stop, AreDone, AreEnded, replay_stops}
 use Rattle.host_order.specs.Close.{advances_from}
 use Rattle.round_order.specs.Turn as rounds
-use Rattle.round_order.specs.Told.{RoundStop, AreTold, whole_events, stopped_events}
+use Rattle.round_order.specs.Told.{RoundStop, AreTold, list_of, whole_events, stopped_events}
 use Rattle.host_world.specs.Ending.{end_of}
 use Rattle.host_serving.specs.Leading.{first_end}
+use Rattle.host_serving.specs.Loop.{KeepsToLoop}
 
 -- ---- a phase
 
@@ -43,7 +44,7 @@ rolling_events world finals top lists [] = whole_events world finals top world.n
 rolling_events world finals top lists (stop ∷ stops) = stopped_events world finals top world.newest lists (stop ∷ stops)
 
 -- They are those events, of what the workers did as each tells it and each place, up to the newest epoch and to each worker's last.
--- The stops stand by worker.
+-- Where there is one worker, it keeps to its loop. The stops stand by worker.
 pub record AreRolling {C R : Type 0} (host : Host C R) (world : World C) (events : List (WorldEvent R)) : Type 0 where
   pub top : ℕ
   pub finals : ℕ → ℕ
@@ -51,6 +52,7 @@ pub record AreRolling {C R : Type 0} (host : Host C R) (world : World C) (events
   pub pasts : List (List (List (rounds.Turn C R)))
   pub stops : List RoundStop
   pub told : AreTold host host.rolling world top finals lists pasts
+  pub loop : length world.workers ≡ 1 → KeepsToLoop host (worker_at host world 0).served world.newest (list_of lists 0)
   pub by_worker : AreByWorker 0 stops
   pub are : events ≡ rolling_events world finals top lists stops
 

@@ -2,6 +2,6 @@ mod CommandLemmas
 mod FlagLemmas
 mod NumberLemmas
 mod RangeLemmas
-mod AskedLemmas
+pub mod AskedLaws
 mod WordsLemmas
 mod WordsFacts

@@ -10,8 +10,10 @@ use Rattle.program_words.specs.Found.{flag_in}
 use Rattle.program_words.specs.Numbers.{is_numeral, in_range, number_between, needed_in, optional_in, given}
 use Rattle.program_words.specs.HostWords.{most_verifiers, most_touches, hot_where, hot_in, greatest_end, first_version, last_version, is_shard_count, shards_in, are_key_bits, key_bits_or, key_bits_in, numbers_in, IsPower, AreHostNumbers}
 use Rattle.program_words.specs.LoadWords.{most_ops, most_keys, usual_keys, most_every, usual_every, load_in, AreLoadNumbers}
+use Rattle.program_words.specs.SignWords.{greatest_client, sign_numbers_in, AreSignNumbers}
 use Rattle.program_words.specs.declared.host_words.HostNumbers.{HostNumbers}
 use Rattle.program_words.specs.declared.load_words.LoadNumbers.{LoadNumbers}
+use Rattle.program_words.specs.declared.sign_words.SignNumbers.{SignNumbers}
 
 -- ---- one number
 
@@ -218,4 +220,22 @@ load_range rows load is =
       keys = keys.1;
       some_every = every.0;
       every = every.1;
+    })
+
+-- ---- the numbers of a client that signs
+
+last_bits : (bits : ℕ) → (bits ≡ 64) ⊎ ((last_version ≡ last_version) × (bits ≡ 128)) → (bits ≡ 64) ⊎ (bits ≡ 128)
+last_bits bits (inl short) = inl short
+last_bits bits (inr long) = inr long.1
+
+pub sign_range : (rows : List Row) (numbers : SignNumbers) → sign_numbers_in rows ≡ Some numbers → AreSignNumbers numbers
+sign_range rows numbers is =
+    let c = then_found (needed_in 0 greatest_client (first_of (codes "client") rows)) _ numbers is in
+    let b = then_found (key_bits_in last_version (first_of (codes "bits") rows)) _ numbers c.1.1 in
+    let made : SignNumbers = record { client = c.0; bits = b.0 } in
+    let same : made ≡ numbers = (let inside : Some made ≡ Some numbers = b.1.1 in cc) in
+    let client = needed_range 0 greatest_client c.0 (first_of (codes "client") rows) c.1.0 in
+    subst AreSignNumbers same (record {
+      client = client.1;
+      bits = last_bits b.0 (bits_range last_version b.0 (first_of (codes "bits") rows) b.1.0);
     })

@@ -5,7 +5,7 @@ use Rattle.clap.proofs.OnLiterals.{clap_on_literals}
 use Rattle.hex.proofs.OnLiterals.{hex_on_literals}
 use Rattle.program_words.specs.Numbers.{number_between}
 use Rattle.program_words.specs.Words.{asked_of}
-use Rattle.program_words.specs.declared.words.Asked.TheVariants.{Check, Audit, Run, Gen, Accept, Follow, Upgrade}
+use Rattle.program_words.specs.declared.words.Asked.TheVariants.{Check, Seal, Audit, Run, Gen, Accept, Follow, Upgrade, Resume, Sign}
 use Rattle.program_words.specs.declared.host_words.HostNumbers.{HostNumbers}
 
 abbrev key : List ℕ
@@ -73,10 +73,71 @@ upgrading : asked_of (codes "fastver" ∷ codes "upgrade" ∷ codes "--key=00112
 unfolding clap_on_literals hex_on_literals
 upgrading = refl
 
+-- ---- seals
+
+sealing : asked_of (check_words ++ codes "--seal" ∷ codes "kept" ∷ []) ≡ Some (Seal (record { key = key; path = codes "kept" }))
+unfolding clap_on_literals hex_on_literals
+sealing = refl
+
+-- a report that is sealed has no receipts
+sealing_with_receipts : asked_of (check_words ++ codes "--receipts" ∷ codes "--seal=kept" ∷ []) ≡ None
+unfolding clap_on_literals hex_on_literals
+sealing_with_receipts = refl
+
+-- a seal goes to one place, and only a check makes one
+sealing_nowhere : asked_of (check_words ++ codes "--seal" ∷ []) ≡ None
+unfolding clap_on_literals hex_on_literals
+sealing_nowhere = refl
+
+sealing_twice : asked_of (check_words ++ codes "--seal=kept" ∷ codes "--seal=other" ∷ []) ≡ None
+unfolding clap_on_literals hex_on_literals
+sealing_twice = refl
+
+resuming : asked_of (codes "fastver" ∷ codes "resume" ∷ codes "--key=00112233445566778899aabbccddeeff" ∷ []) ≡ Some (Resume key)
+unfolding clap_on_literals hex_on_literals
+resuming = refl
+
+resuming_with_seal : asked_of (codes "fastver" ∷ codes "resume" ∷ codes "--key=00112233445566778899aabbccddeeff" ∷ codes "--seal=kept" ∷ []) ≡ None
+unfolding clap_on_literals hex_on_literals
+resuming_with_seal = refl
+
 -- which knows no version: it writes the last one
 upgrading_to : asked_of (codes "fastver" ∷ codes "upgrade" ∷ codes "--key=00112233445566778899aabbccddeeff" ∷ codes "--format=3" ∷ []) ≡ None
 unfolding clap_on_literals hex_on_literals
 upgrading_to = refl
+
+-- ---- sign
+
+abbrev sign_words : List (List ℕ)
+sign_words = codes "fastver" ∷ codes "sign" ∷ codes "--key=00112233445566778899aabbccddeeff" ∷ []
+
+-- the first client, and the last, with keys of 64 bits where nothing else is said
+first_client : asked_of (sign_words ++ codes "--client=0" ∷ []) ≡ Some (Sign (record { key = key; numbers = record { client = 0; bits = 64 } }))
+unfolding clap_on_literals hex_on_literals number_between
+first_client = refl
+
+last_client : asked_of (sign_words ++ codes "--client" ∷ codes "65535" ∷ codes "--bits=64" ∷ [])
+    ≡ Some (Sign (record { key = key; numbers = record { client = 65535; bits = 64 } }))
+unfolding clap_on_literals hex_on_literals number_between
+last_client = refl
+
+client_of_long_keys : asked_of (sign_words ++ codes "--bits" ∷ codes "128" ∷ codes "--client=7" ∷ [])
+    ≡ Some (Sign (record { key = key; numbers = record { client = 7; bits = 128 } }))
+unfolding clap_on_literals hex_on_literals number_between
+client_of_long_keys = refl
+
+-- no client, and one past the last; and keys that there are not
+no_client : asked_of sign_words ≡ None
+unfolding clap_on_literals hex_on_literals number_between
+no_client = refl
+
+no_such_client : asked_of (sign_words ++ codes "--client=65536" ∷ []) ≡ None
+unfolding clap_on_literals hex_on_literals number_between
+no_such_client = refl
+
+client_of_no_keys : asked_of (sign_words ++ codes "--client=0" ∷ codes "--bits=96" ∷ []) ≡ None
+unfolding clap_on_literals hex_on_literals number_between
+client_of_no_keys = refl
 
 -- ---- run
 

@@ -26,9 +26,9 @@ with_option app name required = with_rule app (option_rule name required)
 abbrev pub with_flag : App → Text → App
 with_flag app name = with_rule app (flag_rule name)
 
--- the command `check`, with its flag for receipts
+-- the command `check`, with its option for the path of a seal and its flag for receipts
 abbrev pub check_app : App
-check_app = with_flag (command_with_key (codes "check")) (codes "receipts")
+check_app = with_flag (with_option (command_with_key (codes "check")) (codes "seal") false) (codes "receipts")
 
 -- a command with the options for the numbers of a host and for the path of its logs
 abbrev pub with_host_options : App → App
@@ -51,17 +51,22 @@ gen_app =
     let needed = with_option (with_option (command_with_key (codes "gen")) (codes "seed") true) (codes "ops") true in
     with_host_options (with_option (with_option needed (codes "keys") false) (codes "every") false)
 
+-- the command `sign`, with its options for the client that signs and for the bits of keys
+abbrev pub sign_app : App
+sign_app = with_option (with_option (command_with_key (codes "sign")) (codes "client") true) (codes "bits") false
+
 -- the program with no command yet, where one is required
 abbrev pub bare_app : App
 bare_app = on_top (λ s. record s { subcommand_required = true }) (new_app (codes "fastver"))
 
--- the program's command line: `check`, `audit`, `run`, `gen`, `accept`, `follow` and `upgrade`
+-- the program's command line: `check`, `audit`, `run`, `gen`, `accept`, `follow`, `upgrade`, `resume` and `sign`
 abbrev pub fastver_app : App
 fastver_app =
     let judging = with_subcommand (with_subcommand bare_app check_app.top) (command_with_key (codes "audit")).top in
     let serving = with_subcommand (with_subcommand judging run_app.top) gen_app.top in
     let using = with_subcommand (with_subcommand serving (command_with_key (codes "accept")).top) (command_with_key (codes "follow")).top in
-    with_subcommand using (command_with_key (codes "upgrade")).top
+    let going_on = with_subcommand (with_subcommand using (command_with_key (codes "upgrade")).top) (command_with_key (codes "resume")).top in
+    with_subcommand going_on sign_app.top
 
 -- `new` is `old` with the command that was made, which there is
 abbrev pub AddsMade : {E : Type 0} → Command → Result Command E → Command → Type 0

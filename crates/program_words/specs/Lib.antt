@@ -3,6 +3,7 @@ pub mod Key
 pub mod Numbers
 pub mod HostWords
 pub mod LoadWords
+pub mod SignWords
 pub mod Found
 pub mod CommandLine
 pub mod Words

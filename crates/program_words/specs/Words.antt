@@ -1,5 +1,5 @@
 -- What the program's words ask for, by clap's own rules for its commands.
-use Rattle.std.specs.Prelude.{ℕ, List, [], ◌∷◌, Option, Some, None, codes, option_and_then, if◌then◌else◌}
+use Rattle.std.specs.Prelude.{ℕ, Bool, true, false, List, [], ◌∷◌, Option, Some, None, codes, option_and_then, if◌then◌else◌}
 use Rattle.std.specs.Option.{option_map}
 use Rattle.std.specs.Str.{bytes_eq}
 use Rattle.clap.specs.Walk.{Row, Text, first_of}
@@ -12,12 +12,20 @@ use Rattle.program_words.specs.CommandLine.{fastver_app}
 use Rattle.program_words.specs.Numbers.{given}
 use Rattle.program_words.specs.HostWords.{AreHostNumbers, numbers_in}
 use Rattle.program_words.specs.LoadWords.{AreLoadNumbers, load_in}
+use Rattle.program_words.specs.SignWords.{AreSignNumbers, sign_numbers_in}
 use Rattle.program_words.specs.declared.words.Asked.{Asked}
-use Rattle.program_words.specs.declared.words.Asked.TheVariants.{Check, Audit, Run, Gen, Accept, Follow, Upgrade}
+use Rattle.program_words.specs.declared.words.Asked.TheVariants.{Check, Seal, Audit, Run, Gen, Accept, Follow, Upgrade, Resume, Sign}
 
--- what `check` asks for with this key and with what was found of its flag
-abbrev pub check_as : List Row → List ℕ → Asked
-check_as rows key = Check (record { key = key; receipts = flag_in (codes "receipts") rows })
+-- what `check` asks for with this key, where a path for a seal and a flag for receipts are given or not: a report that is sealed
+-- has no receipts
+abbrev pub check_with : Option Text → Bool → List ℕ → Option Asked
+check_with None receipts key = Some (Check (record { key = key; receipts = receipts }))
+check_with (Some path) false key = Some (Seal (record { key = key; path = path }))
+check_with (Some path) true key = None
+
+-- what `check` asks for with this key and with what was found of its option and its flag
+abbrev pub check_as : List Row → List ℕ → Option Asked
+check_as rows key = check_with (first_of (codes "seal") rows) (flag_in (codes "receipts") rows) key
 
 -- what `run` asks for with this key and with what was found of its options
 abbrev pub run_as : List Row → List ℕ → Option Asked
@@ -40,16 +48,22 @@ gen_as rows key =
       logs = first_of (codes "logs") rows;
     }))))
 
+-- what `sign` asks for with this key and with what was found of its options
+abbrev pub sign_as : List Row → List ℕ → Option Asked
+sign_as rows key = option_map (λ numbers. Sign (record { key = key; numbers = numbers })) (sign_numbers_in rows)
+
 -- what the command of this name asks for with this key and with what was found of its options
 abbrev pub asked_as : Text → List Row → List ℕ → Option Asked
 asked_as name rows key =
-    if bytes_eq name (codes "check") then Some (check_as rows key)
+    if bytes_eq name (codes "check") then check_as rows key
     else if bytes_eq name (codes "audit") then Some (Audit key)
     else if bytes_eq name (codes "run") then run_as rows key
     else if bytes_eq name (codes "gen") then gen_as rows key
     else if bytes_eq name (codes "accept") then Some (Accept key)
     else if bytes_eq name (codes "follow") then Some (Follow key)
     else if bytes_eq name (codes "upgrade") then Some (Upgrade key)
+    else if bytes_eq name (codes "resume") then Some (Resume key)
+    else if bytes_eq name (codes "sign") then sign_as rows key
     else None
 
 -- what a command asks for, with what was found of its options
@@ -68,9 +82,12 @@ asked_of words = unless_fault (fault_of fastver_app words) (option_and_then aske
 -- the numbers of what is asked for are in their ranges
 abbrev pub IsInRange : Asked → Type 0
 IsInRange (Check check) = Unit {0}
+IsInRange (Seal seal) = Unit {0}
 IsInRange (Audit key) = Unit {0}
 IsInRange (Run run) = AreHostNumbers run.numbers
 IsInRange (Gen gen) = AreLoadNumbers gen.load × AreHostNumbers gen.numbers
 IsInRange (Accept key) = Unit {0}
 IsInRange (Follow key) = Unit {0}
 IsInRange (Upgrade key) = Unit {0}
+IsInRange (Resume key) = Unit {0}
+IsInRange (Sign sign) = AreSignNumbers sign.numbers

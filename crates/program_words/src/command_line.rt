@@ -2,7 +2,7 @@
 ghost use Rattle.std.specs.Prelude.{◌≡◌, IfOk, false};
 ghost use Rattle.clap.specs.Words.{app_of, rule_of};
 ghost use Rattle.clap.specs.declared.builder.command.Command.TheViews.{out-Command as fields_of};
-ghost use Rattle.program_words.specs.CommandLine.{AddsMade, check_app, command_with_key, fastver_app, flag_rule, gen_app, option_rule, run_app, with_flag, with_host_options, with_option};
+ghost use Rattle.program_words.specs.CommandLine.{AddsMade, bare_app, check_app, command_with_key, fastver_app, flag_rule, gen_app, option_rule, run_app, sign_app, with_flag, with_host_options, with_option};
 
 use clap::{Arg, ArgAction, Command};
 use std::alloc::{AllocError, Global};
@@ -11,14 +11,23 @@ use std::alloc::{AllocError, Global};
 pub(crate) fn fastver_command<'a>(alloc: Global) -> Result<Command<'a>, AllocError>
     ensures app { IfOk result (λ command. app_of command ≡ fastver_app) }
 {
-    let program = Command::new(alloc, "fastver").subcommand_required(true);
+    let program = bare_command(alloc);
     let program = with_command(program, check_command(alloc))?;
     let program = with_command(program, command_with_key(alloc, "audit"))?;
     let program = with_command(program, run_command(alloc))?;
     let program = with_command(program, gen_command(alloc))?;
     let program = with_command(program, command_with_key(alloc, "accept"))?;
     let program = with_command(program, command_with_key(alloc, "follow"))?;
-    with_command(program, command_with_key(alloc, "upgrade"))
+    let program = with_command(program, command_with_key(alloc, "upgrade"))?;
+    let program = with_command(program, command_with_key(alloc, "resume"))?;
+    with_command(program, sign_command(alloc))
+}
+
+// The program with no command yet.
+fn bare_command<'a>(alloc: Global) -> Command<'a>
+    ensures app { app_of result ≡ bare_app }
+{
+    Command::new(alloc, "fastver").subcommand_required(true)
 }
 
 // The program with this command, where it could be made. No other command is alive where one is made: each that is would have
@@ -32,12 +41,13 @@ fn with_command<'a>(
     program.subcommand(command?)
 }
 
-// The command `check`, with its flag for receipts.
+// The command `check`, with its option for the path of a seal and its flag for receipts.
 fn check_command<'a>(alloc: Global) -> Result<Command<'a>, AllocError>
     ensures app { IfOk result (λ command. app_of command ≡ check_app) }
     ensures local { IfOk result (λ command. (fields_of command).has_globals ≡ false) }
 {
     let check = command_with_key(alloc, "check")?;
+    let check = with_option(alloc, check, "seal", false)?;
     with_flag(alloc, check, "receipts")
 }
 
@@ -67,6 +77,16 @@ fn gen_command<'a>(alloc: Global) -> Result<Command<'a>, AllocError>
     let load = with_option(alloc, load, "keys", false)?;
     let load = with_option(alloc, load, "every", false)?;
     with_host_options(alloc, load)
+}
+
+// The command `sign`, with its options for the client that signs and for the bits of keys.
+fn sign_command<'a>(alloc: Global) -> Result<Command<'a>, AllocError>
+    ensures app { IfOk result (λ command. app_of command ≡ sign_app) }
+    ensures local { IfOk result (λ command. (fields_of command).has_globals ≡ false) }
+{
+    let sign = command_with_key(alloc, "sign")?;
+    let sign = with_option(alloc, sign, "client", true)?;
+    with_option(alloc, sign, "bits", false)
 }
 
 // A command with the options for the numbers of a host and for the path of its logs.

@@ -22,7 +22,7 @@ const GREATEST_END: u32 = 16_777_215;
 // The first version of the format, which is also the one that is taken where none is given, and the last one.
 const FIRST_VERSION: u32 = 1;
 
-const LAST_VERSION: u32 = 3;
+pub(crate) const LAST_VERSION: u32 = 3;
 
 // How many bits a key has where no number is given, and the other number that can be given in the last version.
 const SHORT_KEYS: u32 = 64;
@@ -161,7 +161,7 @@ fn hot_of(found: &ArgMatches<'_>, rolling: bool) -> Option<Option<u32>>
 }
 
 // How many bits a key is to have in this version of the format.
-fn key_bits_of(found: &ArgMatches<'_>, version: u32) -> Option<u8>
+pub(crate) fn key_bits_of(found: &ArgMatches<'_>, version: u32) -> Option<u8>
     ensures value { result ≡ key_bits_in version (first_of (codes "bits") (rows_of (found_of found.now))) }
 {
     match optional(found, "bits", SHORT_KEYS, LONG_KEYS)? {

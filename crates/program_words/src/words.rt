@@ -2,13 +2,14 @@
 ghost use Rattle.std.specs.Prelude.{◌≡◌, ◌≢◌, ◌↔◌, IfOk, Some, None, Ok, Err, codes, map, option_and_then};
 ghost use Rattle.clap.specs.Words.{first_of, found_of, kind_of, rows_of, subcommand_rows_of};
 ghost use Rattle.program_words.specs.Key.{key_in};
-ghost use Rattle.program_words.specs.Words.{asked_as, asked_by, asked_of, check_as, gen_as, IsInRange, run_as};
+ghost use Rattle.program_words.specs.Words.{asked_as, asked_by, asked_of, check_as, gen_as, IsInRange, run_as, sign_as};
 
 use crate::command_line::fastver_command;
 use crate::found::{flag_of, word_of};
-use crate::host_words::{RunWords, logs_of, numbers_of};
+use crate::host_words::{PathWord, RunWords, logs_of, numbers_of};
 use crate::key::Key;
 use crate::load_words::{GenWords, load_of};
+use crate::sign_words::{SignWords, sign_numbers_of};
 use clap::error::ErrorKind;
 use clap::{ArgMatches, Error};
 use std::alloc::{AllocError, Global};
@@ -22,11 +23,22 @@ pub struct CheckWords {
     pub receipts: bool,
 }
 
+/// What logs are to be checked and sealed with.
+#[derive(Drop)]
+pub struct SealWords {
+    /// The key of the verifiers.
+    pub key: Key,
+    /// What the vault is to be named, to which the seal goes.
+    pub path: PathWord,
+}
+
 /// What the program is asked for, with the key of the verifiers.
 #[derive(Drop)]
 pub enum Asked {
     /// To check the logs.
     Check(CheckWords),
+    /// To check the logs, and to seal what they come to.
+    Seal(SealWords),
     /// To show what is wrong with them.
     Audit(Key),
     /// To serve a script.
@@ -39,6 +51,10 @@ pub enum Asked {
     Follow(Key),
     /// To write them in version 3 of the format.
     Upgrade(Key),
+    /// To go on from a seal with the logs behind it.
+    Resume(Key),
+    /// To sign the requests of a client.
+    Sign(SignWords),
 }
 
 /// Why the words gave nothing to do.
@@ -103,7 +119,7 @@ fn asked_as(
     ensures value { IfOk result (λ asked. asked ≡ asked_as name.now (rows_of (found_of found.now)) key) }
 {
     if name == "check" {
-        Ok(Some(check_as(found, key)))
+        check_as(alloc, found, key)
     } else if name == "audit" {
         Ok(Some(Asked::Audit(key)))
     } else if name == "run" {
@@ -116,17 +132,28 @@ fn asked_as(
         Ok(Some(Asked::Follow(key)))
     } else if name == "upgrade" {
         Ok(Some(Asked::Upgrade(key)))
+    } else if name == "resume" {
+        Ok(Some(Asked::Resume(key)))
+    } else if name == "sign" {
+        Ok(sign_as(found, key))
     } else {
         Ok(None)
     }
 }
 
 // What `check` asks for with this key.
-fn check_as(found: &ArgMatches<'_>, key: Key) -> Asked
-    ensures value { result ≡ check_as (rows_of (found_of found.now)) key }
+fn check_as(alloc: Global, found: &ArgMatches<'_>, key: Key) -> Result<Option<Asked>, AllocError>
+    ensures value { IfOk result (λ asked. asked ≡ check_as (rows_of (found_of found.now)) key) }
 {
     let receipts = flag_of(found, "receipts");
-    Asked::Check(CheckWords { key, receipts })
+    match word_of(found, "seal") {
+        None => Ok(Some(Asked::Check(CheckWords { key, receipts }))),
+        Some(_) if receipts => Ok(None),
+        Some(text) => {
+            let path = PathWord::new(alloc, text)?;
+            Ok(Some(Asked::Seal(SealWords { key, path })))
+        }
+    }
 }
 
 // What `run` asks for with this key.
@@ -163,6 +190,16 @@ fn gen_as(alloc: Global, found: &ArgMatches<'_>, key: Key) -> Result<Option<Aske
             })))
         }
         _ => Ok(None),
+    }
+}
+
+// What `sign` asks for with this key.
+fn sign_as(found: &ArgMatches<'_>, key: Key) -> Option<Asked>
+    ensures value { result ≡ sign_as (rows_of (found_of found.now)) key }
+{
+    match sign_numbers_of(found) {
+        Some(numbers) => Some(Asked::Sign(SignWords { key, numbers })),
+        None => None,
     }
 }
 

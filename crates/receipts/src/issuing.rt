@@ -87,15 +87,15 @@ fn receipt_tag(wide: bool) -> u8
     if wide { WIDE_RECEIPT } else { RECEIPT }
 }
 
-// The tag of the command of a get or a put.
-fn kind_tag(put: bool) -> u8
+/// The tag of the command of a get or a put.
+pub fn kind_tag(put: bool) -> u8
     ensures value { result ≡ kind_tag put }
 {
     if put { PUT } else { GET }
 }
 
-// Appends a key of a tree, in as many bytes as its keys have.
-fn push_key<const CAP: usize>(items: &mut ArrayVec<u8, CAP>, wide: bool, key: u128)
+/// Appends a key of a tree, in as many bytes as its keys have: 8, or 16.
+pub fn push_key<const CAP: usize>(items: &mut ArrayVec<u8, CAP>, wide: bool, key: u128)
     requires room { array_vec_len items.old + 16 ≤ CAP }
     ensures text { items.new.items ≡ items.old.items ++ to_be_bytes (word_width wide) key }
     ensures len { array_vec_len items.new ≤ array_vec_len items.old + 16 }

@@ -14,7 +14,7 @@ mod reading;
 mod tagged_texts;
 
 pub use accepting::{Acceptance, accept, is_same_tag};
-pub use issuing::{CERTIFICATE_LEN, LONGEST_RECEIPT, certificate, issue};
+pub use issuing::{CERTIFICATE_LEN, LONGEST_RECEIPT, certificate, issue, kind_tag, push_key};
 pub use laws::texts_tell_what_they_are_of;
 pub use reading::{read_certificate, read_receipt};
 pub use tagged_texts::{Certificate, Receipt, TAG_LEN};

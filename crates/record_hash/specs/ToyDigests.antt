@@ -15,6 +15,6 @@ toy_digest bytes = replicate 28 0 ++ to_be_bytes w32 (toy_sum bytes)
 abbrev pub toy_lanes : List ℕ → List ℕ
 toy_lanes bytes = toy_sum bytes ∷ replicate 7 0
 
--- the three functions
+-- the functions: each client's tag is the tag
 abbrev pub toy_functions : DigestFunctions
-toy_functions = record { digest = toy_digest; lanes = toy_lanes; tag = toy_digest }
+toy_functions = record { digest = toy_digest; lanes = toy_lanes; tag = toy_digest; client_tag = λ client. toy_digest }

@@ -5,7 +5,7 @@ ghost use Rattle.lane_sha.specs.Texts.{text};
 ghost use Rattle.record_hash.specs.Functions.{DigestFunctions};
 ghost use Rattle.record_hash.specs.Digests.{IsDigest, AreLanes};
 
-/// Three functions of bytes: a value gives the same bytes the same answer each time. No implementation
+/// Four functions of bytes, one of them with a client's number: a value gives the same bytes the same answer each time. No implementation
 /// promises that different bytes have different answers.
 pub trait Digests {
     // The functions that a value computes.
@@ -31,6 +31,10 @@ pub trait Digests {
     fn tag(&self, bytes: &[u8]) -> [u8; 32]
         ensures value { result ≡ (functions self.now).tag bytes.now };
 
+    /// The tag that the client of this number makes of a text: who holds that client's key can tell that it was made with it.
+    fn client_tag(&self, client: u32, bytes: &[u8]) -> [u8; 32]
+        ensures value { result ≡ (functions self.now).client_tag client bytes.now };
+
     // A digest is 32 bytes.
     ghost text_digest_shape: { (d : Self) (bytes : List ℕ) → IsDigest ((functions d).digest bytes) };
 
@@ -39,4 +43,7 @@ pub trait Digests {
 
     // A tag is 32 bytes.
     ghost tag_shape: { (d : Self) (bytes : List ℕ) → IsDigest ((functions d).tag bytes) };
+
+    // So is a client's tag.
+    ghost client_tag_shape: { (d : Self) (client : ℕ) (bytes : List ℕ) → IsDigest ((functions d).client_tag client bytes) };
 }

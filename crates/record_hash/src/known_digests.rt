@@ -55,9 +55,15 @@ impl<'a, D: Digests> Digests for KnownDigests<'a, D> {
         self.digests.tag(bytes)
     }
 
+    fn client_tag(&self, client: u32, bytes: &[u8]) -> [u8; 32] {
+        self.digests.client_tag(client, bytes)
+    }
+
     ghost text_digest_shape = { λ k bytes. D.text_digest_shape k.digests.now bytes };
 
     ghost element_lanes_shape = { λ k bytes. D.element_lanes_shape k.digests.now bytes };
 
     ghost tag_shape = { λ k bytes. D.tag_shape k.digests.now bytes };
+
+    ghost client_tag_shape = { λ k client bytes. D.client_tag_shape k.digests.now client bytes };
 }

@@ -1,12 +1,12 @@
-//! Digests by SHA-256, lanes and tags by HMAC under a key.
+//! Digests by SHA-256, lanes and tags by HMAC under a key, and under the keys of clients that are made of it.
 ghost use Rattle.std.specs.Prelude.{◌≡◌, ℕ, ◌+◌, ◌<◌, ◌≤◌, ◌∷◌, length, IfSome};
 ghost use Rattle.lane_sha.specs.Lanes.{lane_count, block};
 ghost use Rattle.lane_sha.specs.Texts.{text};
 ghost use Rattle.lane_sha.specs.Hmac.{key_block, hmac_of_block};
-ghost use Rattle.record_hash.specs.ShaDigests.{sha_functions, sha_text_digest, sha_element_lanes, word_at, words_of};
+ghost use Rattle.record_hash.specs.ShaDigests.{sha_functions, sha_text_digest, sha_element_lanes, sha_client_key, word_at, words_of};
 
 use crate::digest_functions::Digests;
-use crate::hmac_sha256::{BLOCK_LEN, finished, inner_state, key_block, outer_state};
+use crate::hmac_sha256::{BLOCK_LEN, finished, hmac, inner_state, key_block, outer_state};
 use arrayvec::ArrayVec;
 use lane_sha::{KeyedLanes, Start, digests, have_one_count};
 use sha2::{Digest, Sha256};
@@ -19,6 +19,9 @@ const LANES_PREFIX: u8 = 1;
 // The byte that comes before a text for its tag. It differs from the other, so that no tag gives away
 // the lanes of an element.
 const TAG_PREFIX: u8 = 2;
+
+// The byte that comes before a client's number for its key.
+const CLIENT_PREFIX: u8 = 3;
 
 /// SHA-256 (FIPS 180-4) for the digest of a text, and HMAC-SHA-256 (RFC 2104) under a key for lanes and
 /// tags, over the byte 1 or 2 and then the text. A contract sees the value as its key block of 64 bytes.
@@ -73,6 +76,13 @@ impl ShaDigests {
         inner.update([prefix]);
         inner.update(bytes);
         finished(inner, copy_of(&self.outer))
+    }
+
+    // The key of the client of this number.
+    fn client_key(&self, client: u32) -> [u8; 32]
+        ensures value { result ≡ sha_client_key self.now client }
+    {
+        self.keyed(CLIENT_PREFIX, &client.to_be_bytes())
     }
 
     // The lanes of each element's text, one after another.
@@ -169,6 +179,10 @@ impl Digests for ShaDigests {
         self.keyed(TAG_PREFIX, bytes)
     }
 
+    fn client_tag(&self, client: u32, bytes: &[u8]) -> [u8; 32] {
+        hmac(&self.client_key(client), bytes)
+    }
+
     ghost use Rattle.record_hash.specs.Shapes.{IsDigest-sha256, AreLanes-words_of};
 
     ghost text_digest_shape = { λ _ bytes. IsDigest-sha256 bytes };
@@ -176,6 +190,8 @@ impl Digests for ShaDigests {
     ghost element_lanes_shape = { λ _ _. AreLanes-words_of _ (IsDigest-sha256 _) };
 
     ghost tag_shape = { λ _ _. IsDigest-sha256 _ };
+
+    ghost client_tag_shape = { λ _ _ _. IsDigest-sha256 _ };
 }
 
 impl fmt::Debug for ShaDigests {

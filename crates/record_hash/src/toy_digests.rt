@@ -33,6 +33,10 @@ impl Digests for ToyDigests {
         digest_of(bytes)
     }
 
+    fn client_tag(&self, _client: u32, bytes: &[u8]) -> [u8; 32] {
+        digest_of(bytes)
+    }
+
     ghost use Rattle.record_hash.specs.Shapes.{IsDigest-toy_digest, AreLanes-toy_lanes};
 
     ghost text_digest_shape = { λ _ bytes. IsDigest-toy_digest bytes };
@@ -40,6 +44,8 @@ impl Digests for ToyDigests {
     ghost element_lanes_shape = { λ _ bytes. AreLanes-toy_lanes bytes };
 
     ghost tag_shape = { λ _ bytes. IsDigest-toy_digest bytes };
+
+    ghost client_tag_shape = { λ _ _ bytes. IsDigest-toy_digest bytes };
 }
 
 // The digest of each text.

@@ -6,7 +6,7 @@ use Rattle.fv_outside.specs.Written.{Grows, GrowsByFront}
 use Rattle.fv_outside.proofs.WrittenLaws.{GrowsByFront-none}
 use Rattle.report_text.specs.declared.status.Status.{Status}
 use Rattle.report_text.specs.declared.status.Status.TheVariants.{Memory, ReadFault, WriteFault, InputLimit}
-use Rattle.report_text.specs.Answer.{Answer, IsEnd, OfTaken, Reading, Writing, AnswersTo}
+use Rattle.report_text.specs.Answer.{Answer, IsEnd, OfTaken, StopsNear, Reading, Writing, AnswersNear, AnswersTo}
 
 -- ---- what was taken
 
@@ -33,15 +33,15 @@ rose_before a b c le (inr end) = inr end
 
 -- ---- how it ends
 
-module _ (answer : List ℕ → Answer) (reading_end : List ℕ → ℕ) (most : ℕ) (reading : Reading) (writing : Writing) where
+module _ (more : ℕ) (answer : List ℕ → Answer) (reading_end : List ℕ → ℕ) (most : ℕ) (reading : Reading) (writing : Writing) where
   -- with an answer
-  pub answers-end : (result : Status) → IsEnd result
+  pub near-end : (result : Status) → IsEnd result
       → IfSome reading.left (λ bytes. result ≡ (answer bytes).status)
       → IfSome reading.left (λ bytes. Grows writing.held writing.held_after (answer bytes).text)
       → TookAtMost most reading.left reading.left_after → TookToEnd reading_end reading.left reading.left_after
-      → StopsAtEnd reading_end reading.left reading.left_after
-      → AnswersTo answer reading_end most result reading writing
-  answers-end result end status text within reached stops = record {
+      → StopsNear more reading_end reading.left reading.left_after
+      → AnswersNear more answer reading_end most result reading writing
+  near-end result end status text within reached stops = record {
     status = λ _. status;
     report = λ _. text;
     front = λ is. absurd (subst IsEnd is end);
@@ -62,12 +62,12 @@ module _ (answer : List ℕ → Answer) (reading_end : List ℕ → ℕ) (most :
       none (inr is) = subst IsEnd is end
 
   -- the source failed
-  pub answers-read_fault :
+  pub near-read_fault :
       OfTaken most (λ bytes. Grows writing.held writing.held_after (answer bytes).due) reading.left reading.left_after
-      → TookAtMost most reading.left reading.left_after → StopsAtEnd reading_end reading.left reading.left_after
+      → TookAtMost most reading.left reading.left_after → StopsNear more reading_end reading.left reading.left_after
       → Rose reading.faults reading.faults_after
-      → AnswersTo answer reading_end most ReadFault reading writing
-  answers-read_fault due within stops rose = record {
+      → AnswersNear more answer reading_end most ReadFault reading writing
+  near-read_fault due within stops rose = record {
     status = λ end. absurd end;
     report = λ end. absurd end;
     front = λ is. absurd (cc);
@@ -84,12 +84,12 @@ module _ (answer : List ℕ → Answer) (reading_end : List ℕ → ℕ) (most :
   }
 
   -- the source gave too much
-  pub answers-limit :
+  pub near-limit :
       OfTaken most (λ bytes. Grows writing.held writing.held_after (answer bytes).due) reading.left reading.left_after
-      → TookJust (most + 1) reading.left reading.left_after → StopsAtEnd reading_end reading.left reading.left_after
+      → TookJust (most + 1) reading.left reading.left_after → StopsNear more reading_end reading.left reading.left_after
       → EndsBehind reading_end most reading.left
-      → AnswersTo answer reading_end most (InputLimit most) reading writing
-  answers-limit due just stops behind = record {
+      → AnswersNear more answer reading_end most (InputLimit most) reading writing
+  near-limit due just stops behind = record {
     status = λ end. absurd end;
     report = λ end. absurd end;
     front = λ is. absurd (cc);
@@ -106,11 +106,11 @@ module _ (answer : List ℕ → Answer) (reading_end : List ℕ → ℕ) (most :
   }
 
   -- memory was wanting
-  pub answers-memory :
+  pub near-memory :
       OfTaken most (λ bytes. GrowsByFront writing.held writing.held_after (answer bytes).due) reading.left reading.left_after
-      → TookAtMost (most + 1) reading.left reading.left_after → StopsAtEnd reading_end reading.left reading.left_after
-      → AnswersTo answer reading_end most Memory reading writing
-  answers-memory due past stops = record {
+      → TookAtMost (most + 1) reading.left reading.left_after → StopsNear more reading_end reading.left reading.left_after
+      → AnswersNear more answer reading_end most Memory reading writing
+  near-memory due past stops = record {
     status = λ end. absurd end;
     report = λ end. absurd end;
     front = λ is. absurd (cc);
@@ -131,12 +131,12 @@ module _ (answer : List ℕ → Answer) (reading_end : List ℕ → ℕ) (most :
       none (inr is) = cc
 
   -- the sink failed
-  pub answers-write_fault :
+  pub near-write_fault :
       IfSome reading.left (λ bytes. GrowsByFront writing.held writing.held_after (answer bytes).text)
-      → TookAtMost (most + 1) reading.left reading.left_after → StopsAtEnd reading_end reading.left reading.left_after
+      → TookAtMost (most + 1) reading.left reading.left_after → StopsNear more reading_end reading.left reading.left_after
       → Rose writing.faults writing.faults_after
-      → AnswersTo answer reading_end most WriteFault reading writing
-  answers-write_fault front past stops rose = record {
+      → AnswersNear more answer reading_end most WriteFault reading writing
+  near-write_fault front past stops rose = record {
     status = λ end. absurd end;
     report = λ end. absurd end;
     front = λ _. front;
@@ -155,6 +155,43 @@ module _ (answer : List ℕ → Answer) (reading_end : List ℕ → ℕ) (most :
       none : (WriteFault ≡ ReadFault) ⊎ (WriteFault ≡ InputLimit most) → ⊥
       none (inl is) = cc
       none (inr is) = cc
+
+-- the same where it reads on no more than the rest of one read
+module _ (answer : List ℕ → Answer) (reading_end : List ℕ → ℕ) (most : ℕ) (reading : Reading) (writing : Writing) where
+  pub answers-end : (result : Status) → IsEnd result
+      → IfSome reading.left (λ bytes. result ≡ (answer bytes).status)
+      → IfSome reading.left (λ bytes. Grows writing.held writing.held_after (answer bytes).text)
+      → TookAtMost most reading.left reading.left_after → TookToEnd reading_end reading.left reading.left_after
+      → StopsAtEnd reading_end reading.left reading.left_after
+      → AnswersTo answer reading_end most result reading writing
+  answers-end = near-end 0 answer reading_end most reading writing
+
+  pub answers-read_fault :
+      OfTaken most (λ bytes. Grows writing.held writing.held_after (answer bytes).due) reading.left reading.left_after
+      → TookAtMost most reading.left reading.left_after → StopsAtEnd reading_end reading.left reading.left_after
+      → Rose reading.faults reading.faults_after
+      → AnswersTo answer reading_end most ReadFault reading writing
+  answers-read_fault = near-read_fault 0 answer reading_end most reading writing
+
+  pub answers-limit :
+      OfTaken most (λ bytes. Grows writing.held writing.held_after (answer bytes).due) reading.left reading.left_after
+      → TookJust (most + 1) reading.left reading.left_after → StopsAtEnd reading_end reading.left reading.left_after
+      → EndsBehind reading_end most reading.left
+      → AnswersTo answer reading_end most (InputLimit most) reading writing
+  answers-limit = near-limit 0 answer reading_end most reading writing
+
+  pub answers-memory :
+      OfTaken most (λ bytes. GrowsByFront writing.held writing.held_after (answer bytes).due) reading.left reading.left_after
+      → TookAtMost (most + 1) reading.left reading.left_after → StopsAtEnd reading_end reading.left reading.left_after
+      → AnswersTo answer reading_end most Memory reading writing
+  answers-memory = near-memory 0 answer reading_end most reading writing
+
+  pub answers-write_fault :
+      IfSome reading.left (λ bytes. GrowsByFront writing.held writing.held_after (answer bytes).text)
+      → TookAtMost (most + 1) reading.left reading.left_after → StopsAtEnd reading_end reading.left reading.left_after
+      → Rose writing.faults writing.faults_after
+      → AnswersTo answer reading_end most WriteFault reading writing
+  answers-write_fault = near-write_fault 0 answer reading_end most reading writing
 
 -- Memory was wanting before anything was read or written.
 pub answers-none : (answer : List ℕ → Answer) (reading_end : List ℕ → ℕ) (most : ℕ) (left held : Option (List ℕ)) (read read_after written written_after : ℕ)

@@ -20,6 +20,9 @@ pub data StatusKind : Type 0 where
   not_certified : StatusKind
   exhibit : StatusKind
   input_limit : StatusKind
+  bad_seal : StatusKind
+  stale : StatusKind
+  counter_fault : StatusKind
 
 -- the number of a kind, with which the program exits
 abbrev pub kind_number : StatusKind → ℕ
@@ -38,6 +41,9 @@ kind_number not_tagged = 11
 kind_number not_certified = 12
 kind_number exhibit = 13
 kind_number input_limit = 14
+kind_number bad_seal = 15
+kind_number stale = 16
+kind_number counter_fault = 17
 
 -- the kind of a status
 abbrev pub kind_of : Status → StatusKind
@@ -56,6 +62,9 @@ kind_of statuses.NotTagged = not_tagged
 kind_of statuses.NotCertified = not_certified
 kind_of statuses.Exhibit = exhibit
 kind_of (statuses.InputLimit taken) = input_limit
+kind_of statuses.BadSeal = bad_seal
+kind_of (statuses.Stale sealed device) = stale
+kind_of statuses.CounterFault = counter_fault
 
 -- the kind stands in the list
 abbrev pub has_kind : List StatusKind → StatusKind → Bool

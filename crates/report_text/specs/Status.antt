@@ -7,7 +7,7 @@ use Rattle.lamport_clocks.specs.declared.stamp.Stamp.{Stamp}
 use Rattle.record_text.specs.declared.cause.Cause.{Cause}
 use Rattle.record_text.specs.declared.refusal.Refusal.{Refusal}
 use Rattle.report_text.specs.declared.status.Status.{Status}
-use Rattle.report_text.specs.declared.status.Status.TheVariants.{Done, Usage, Memory, ReadFault, WriteFault, VaultFault, BadScript, BadBundle, Refused, Unbalanced, ClockEnd, NotTagged, NotCertified, Exhibit, InputLimit}
+use Rattle.report_text.specs.declared.status.Status.TheVariants.{Done, Usage, Memory, ReadFault, WriteFault, VaultFault, BadScript, BadBundle, Refused, Unbalanced, ClockEnd, NotTagged, NotCertified, Exhibit, InputLimit, BadSeal, Stale, CounterFault}
 use Rattle.report_text.specs.Kinds.{kind_of, kind_number}
 use Rattle.report_text.specs.Lines.{stamp_words, line_end}
 
@@ -36,6 +36,10 @@ bad_script_words line cause = codes "bad script line " ++ decimal line ++ codes 
 abbrev pub clock_end_words : ℕ → Stamp → List ℕ
 clock_end_words worker at = codes "clock end worker " ++ decimal worker ++ codes " at " ++ stamp_words at
 
+-- which number a seal has, and which the counter
+abbrev pub stale_words : ℕ → ℕ → List ℕ
+stale_words sealed device = codes "stale sealed " ++ decimal sealed ++ codes " device " ++ decimal device
+
 -- what a status says; `done` and the number of certified epochs where the whole job is done
 abbrev pub status_words : Status → List ℕ
 status_words (Done epochs) = codes "done " ++ decimal epochs
@@ -53,7 +57,14 @@ status_words NotTagged = codes "not tagged"
 status_words NotCertified = codes "not certified"
 status_words Exhibit = codes "exhibit"
 status_words (InputLimit taken) = codes "input limit"
+status_words BadSeal = codes "bad seal"
+status_words (Stale sealed device) = stale_words sealed device
+status_words CounterFault = codes "counter fault"
 
 -- the last line of a report
 abbrev pub last_line : Status → List ℕ
 last_line status = status_words status ++ line_end
+
+-- the last line of a report whose bundle is sealed, with so many certified epochs
+abbrev pub sealed_line : ℕ → List ℕ
+sealed_line epochs = codes "sealed " ++ decimal epochs ++ line_end

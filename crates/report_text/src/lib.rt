@@ -19,7 +19,7 @@ pub use exhibit::write_exhibit;
 pub use key_lines::key_line;
 pub use lines::{
     LONGEST_LINE, RECEIPT_LINE_ROOM, certificate_line, epoch_line, last_line, operation_line,
-    receipt_line, write_epoch, write_last, write_operation,
+    receipt_line, sealed_line, write_epoch, write_last, write_operation, write_sealed,
 };
 pub use page::{PAGE_ROOM, Page};
 pub use status::Status;

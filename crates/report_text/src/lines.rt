@@ -123,6 +123,17 @@ pub fn last_line(status: &Status) -> ArrayVec<u8, LONGEST_LINE>
     line
 }
 
+/// The last line of a report whose bundle is sealed, with so many certified epochs.
+pub fn sealed_line(epochs: u64) -> ArrayVec<u8, LONGEST_LINE>
+    ensures text { result.items ≡ statuses.sealed_line epochs }
+{
+    let mut line = ArrayVec::new();
+    push_text(&mut line, b"sealed ");
+    push_decimal(&mut line, epochs);
+    push_text(&mut line, b"\n");
+    line
+}
+
 /// Writes the head line of a certified epoch.
 pub fn write_epoch<O: Sink>(epoch: u32, count: u64, sink: &mut O) -> Result<(), Failed>
     ensures whole { OnOk result (Grows (O.held sink.old) (O.held sink.new) (words.epoch_line epoch count)) }
@@ -151,4 +162,14 @@ pub fn write_last<O: Sink>(status: &Status, sink: &mut O) -> Result<(), Failed>
     ensures counts { Counts (O.faults sink.old) (O.faults sink.new) result }
 {
     write_all(sink, last_line(status).as_slice())
+}
+
+/// Writes the last line of a report whose bundle is sealed.
+pub fn write_sealed<O: Sink>(epochs: u64, sink: &mut O) -> Result<(), Failed>
+    ensures whole { OnOk result (Grows (O.held sink.old) (O.held sink.new) (statuses.sealed_line epochs)) }
+    ensures front { OnErr result (GrowsByFront (O.held sink.old) (O.held sink.new) (statuses.sealed_line epochs)) }
+    ensures name { O.name sink.new ≡ O.name sink.old }
+    ensures counts { Counts (O.faults sink.old) (O.faults sink.new) result }
+{
+    write_all(sink, sealed_line(epochs).as_slice())
 }

@@ -2,7 +2,7 @@
 ghost use Rattle.std.specs.Prelude.{◌≡◌, ◌+◌, ◌≤◌, ◌++◌, length};
 ghost use Rattle.std.specs.Fmt.{decimal};
 ghost use Rattle.arrayvec.specs.ArrayVec.{array_vec_len};
-ghost use Rattle.report_text.specs.Status.{bad_script_words, clock_end_words, refused_words, unbalanced_words, count_words};
+ghost use Rattle.report_text.specs.Status.{bad_script_words, clock_end_words, refused_words, unbalanced_words, count_words, stale_words};
 
 use crate::digits::{push_decimal, push_text};
 use crate::lines::{LONGEST_LINE, push_stamp};
@@ -65,6 +65,15 @@ pub enum Status {
     InputLimit {
         taken: u64,
     },
+    /// The bytes begin with no whole seal.
+    BadSeal,
+    /// The seal has this number, and the counter that number: it is an older one.
+    Stale {
+        sealed: u64,
+        device: u64,
+    },
+    /// The counter failed, or it stands at its last number.
+    CounterFault,
 }
 
 impl Status {
@@ -118,6 +127,9 @@ impl Status {
             Status::NotCertified => push_text(&mut text, b"not certified"),
             Status::Exhibit => push_text(&mut text, b"exhibit"),
             Status::InputLimit { .. } => push_text(&mut text, b"input limit"),
+            Status::BadSeal => push_text(&mut text, b"bad seal"),
+            Status::Stale { sealed, device } => push_stale(&mut text, *sealed, *device),
+            Status::CounterFault => push_text(&mut text, b"counter fault"),
         }
         text
     }
@@ -142,6 +154,9 @@ impl Status {
             Status::NotCertified => 12,
             Status::Exhibit => 13,
             Status::InputLimit { .. } => 14,
+            Status::BadSeal => 15,
+            Status::Stale { .. } => 16,
+            Status::CounterFault => 17,
         }
     }
 }
@@ -178,6 +193,16 @@ fn push_clock_end<const ROOM: usize>(line: &mut ArrayVec<u8, ROOM>, worker: u16,
     push_decimal(line, u64::from(worker));
     push_text(line, b" at ");
     push_stamp(line, at);
+}
+
+// Adds which number a seal has, and which the counter.
+fn push_stale<const ROOM: usize>(line: &mut ArrayVec<u8, ROOM>, sealed: u64, device: u64)
+    requires room { array_vec_len line.old + 70 ≤ ROOM }
+    ensures appended { line.new.items ≡ line.old.items ++ stale_words sealed device }
+    ensures short { array_vec_len line.new ≤ array_vec_len line.old + 70 }
+{
+    push_number(line, b"stale sealed ", sealed);
+    push_number(line, b" device ", device);
 }
 
 // Adds which command of which log is refused, and why.

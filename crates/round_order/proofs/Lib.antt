@@ -9,7 +9,7 @@ pub mod ChainLaws
 mod RisingLemmas
 mod PartLemmas
 mod PastLemmas
-mod OrderLemmas
+pub mod OrderLaws
 pub mod RoundLaws
 pub mod EndLaws
 pub mod PhaseLaws

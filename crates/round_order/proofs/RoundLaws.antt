@@ -7,7 +7,7 @@ use Rattle.round_order.specs.Steady.{IsSteady}
 use Rattle.round_order.specs.Told.{IsLevel, CanRoll, AreTold, IsRaised, joined, list_of, round_events, EndsWith, HasOneOrder, OrdersRound}
 use Rattle.round_order.proofs.ChainLaws.{LeadsTo, Led, replay, replay_raised}
 use Rattle.round_order.proofs.ReadyLemmas.{Ready}
-use Rattle.round_order.proofs.OrderLemmas.{worker_part, place_part, order_ready}
+use Rattle.round_order.proofs.OrderLaws.{worker_part, place_part, order_ready}
 
 module _ {C R : Type 0} (host : Host C R) (scans : Bool) (steady : IsSteady host scans) (world : World C) (epoch top : ℕ) (finals : ℕ → ℕ) (level : IsLevel host world epoch)
     (lists : List (List (Turn C R))) (pasts : List (List (List (Turn C R)))) (told : AreTold host scans world top finals lists pasts) where

@@ -14,7 +14,7 @@ use Rattle.host_epochs.specs.declared.views.Row.{Row}
 use Rattle.host_epochs.specs.Calls.{HasReached, IsAfter}
 use Rattle.host_epochs.specs.Hands.{worker_of, entered, done, left, seen}
 use Rattle.host_epochs.specs.Scan.{IsStale}
-use Rattle.host_epochs.specs.Terms.{Terms, IsClockOf, IsNear, Waits, clock_at, epoch_of, first_at, first_epoch, final_epoch, owner, place_count}
+use Rattle.host_epochs.specs.Terms.{Terms, IsClockOf, IsNear, IsUpToDate, Waits, clock_at, epoch_of, first_at, first_epoch, final_epoch, owner, place_count}
 use Rattle.host_epochs.proofs.ScanLaws.{reached_last, reached_more}
 use Rattle.round_workers.specs.Placed.{AreRenewed, AreSeen, HasWaited, IsNewer, IsRenewed, StandsAs}
 use Rattle.round_workers.specs.Sharing.{IsColdAt}
@@ -79,6 +79,40 @@ newer_near terms entered done content newer near = go (shown_content content) ne
     go (cold shard) later waits = (waits.0, omega (arith, later), waits.2, waits.3)
     go (hot kept) later waits = (waits.0, omega (arith, later), waits.2, waits.3)
     go vacant later waits = tt
+
+-- an element is up to date still once the worker entered the next epoch
+pub kept_entered : (terms : Terms) (place worker entered done : ℕ) (content : code.Content) → IsUpToDate terms place worker entered done content
+    → IsUpToDate terms place worker (suc entered) done content
+kept_entered terms place worker entered done content kept = record { own = kept.own; alone = λ alone. go (shown_content content) (kept.alone alone) }
+  where
+    go : (c : Content) → Waits (λ epoch. epoch ≤ first_epoch terms + entered) c → Waits (λ epoch. epoch ≤ first_epoch terms + suc entered) c
+    go (cold shard) to = omega (arith, to)
+    go (hot kept) to = omega (arith, to)
+    go vacant to = tt
+
+-- a worker that is alone finds no newer one
+pub newer_beside : (terms : Terms) (place worker entered done : ℕ) (content : code.Content) → IsUpToDate terms place worker entered done content
+    → IsNewer (first_epoch terms + entered) (shown_content content) → terms.workers ≡ 1 → ⊥
+newer_beside terms place worker entered done content kept newer alone = go (shown_content content) newer (kept.alone alone)
+  where
+    go : (c : Content) → IsNewer (first_epoch terms + entered) c → Waits (λ epoch. epoch ≤ first_epoch terms + entered) c → ⊥
+    go (cold shard) later to = omega (arith, later, to)
+    go (hot kept) later to = omega (arith, later, to)
+    go vacant later to = later
+
+-- a newer one is of no epoch before the next
+pub newer_from : (terms : Terms) (entered : ℕ) (content : Content) → IsNewer (first_epoch terms + entered) content
+    → Waits (λ epoch. first_epoch terms + suc entered ≤ epoch) content
+newer_from terms entered (cold shard) later = omega (arith, later)
+newer_from terms entered (hot kept) later = omega (arith, later)
+newer_from terms entered vacant later = tt
+
+-- of no earlier epoch and of no later one, it is of this
+pub waits_here : (low high : ℕ) (content : Content) → low ≡ high → Waits (λ epoch. low ≤ epoch) content → Waits (λ epoch. epoch ≤ high) content
+    → Waits (λ epoch. epoch ≡ high) content
+waits_here low high (cold shard) same from to = omega (arith, same, from, to)
+waits_here low high (hot kept) same from to = omega (arith, same, from, to)
+waits_here low high vacant same from to = tt
 
 -- ---- the worker's own places
 

@@ -20,11 +20,15 @@ use Rattle.host_epochs.specs.Told.{IsAsked, IsClockBehind}
 use Rattle.host_epochs.proofs.ClockLaws.{behind_entered, behind_more}
 use Rattle.host_epochs.proofs.WorkLaws.{later_epoch}
 use Rattle.host_world.specs.Workers.{shown_worker}
+use Rattle.table_order.specs.Rounds.{turn_of, turns_of}
 use Rattle.round_workers.specs.declared.turn.Turn.{Turn}
 use Rattle.round_workers.specs.declared.worker_thread.WorkerThread.{WorkerThread}
+use Rattle.round_workers.specs.Order.{CallsFor, IsFresh, NoneMay}
 use Rattle.round_workers.specs.Parts.{request_at, HasDoneUpTo, IsNext, IsNextOf, IsWhole}
-use Rattle.round_workers.specs.Working.{HasCome, HasEnded, IsOn, IsReady, IsRunning, Keeps}
+use Rattle.round_workers.specs.Working.{HasCome, HasEnded, IsOn, IsReady, IsRunning, Keeps, KeepsUpTo}
 use Rattle.round_workers.proofs.DoneLemmas.{done-epoch, done-nothing, done-stop, done-through, done-warned, done-work}
+use Rattle.round_workers.proofs.OrderLemmas.{calls-less, IsInOrderBehind}
+use Rattle.round_workers.proofs.WorkLemmas.{entered_within}
 
 -- ---- what stays
 
@@ -40,13 +44,36 @@ running-as terms old new worker row counted clock is = record {
 pub come-as : (terms : Terms) (asked rest : List (ℕ × Request)) (start : machine.Worker) (old new : WorkerThread) → row_of new.hand ≡ row_of old.hand
     → shown_worker new.worker ≡ shown_worker old.worker → HasCome terms asked rest start old → HasCome terms asked rest start new
 come-as terms asked rest start old new row worker come =
-    subst (λ (at : Row × machine.Worker). HasDoneUpTo (first_epoch terms) terms.more asked rest at.0 start at.1) (λ i. (sym row i, sym worker i)) come
+    subst (λ (at : Row × machine.Worker). HasDoneUpTo terms asked rest at.0 start at.1) (λ i. (sym row i, sym worker i)) come
 
 pub keeps-as : (terms : Terms) (old new : WorkerThread) → row_of new.hand ≡ row_of old.hand → shown_worker new.worker ≡ shown_worker old.worker → Keeps terms old new
 keeps-as terms old new row worker asked rest start come = come-as terms asked rest start old new row worker come
 
 pub keeps-then : (terms : Terms) (one two three : WorkerThread) → Keeps terms one two → Keeps terms two three → Keeps terms one three
 keeps-then terms one two three first second asked rest start come = second asked rest start (first asked rest start come)
+
+-- where an epoch is called for, those before it are
+pub calls-up : (terms : Terms) (rest : List (ℕ × Request)) (epochs less : ℕ) → less ≤ epochs → (terms.workers ≡ 1 → CallsFor rest epochs) → terms.workers ≡ 1 → CallsFor rest less
+calls-up terms rest epochs less below calls alone = calls-less (first_epoch terms) terms.more rest epochs less below (calls alone)
+
+pub keeps-up-to : (epochs : ℕ) (terms : Terms) (old new : WorkerThread) → Keeps terms old new → KeepsUpTo epochs terms old new
+keeps-up-to epochs terms old new keeps asked rest start calls come = keeps asked rest start come
+
+-- one after another, up to the later one of the epochs
+pub keeps-up-then : (epochs one-to two-to : ℕ) (terms : Terms) (one two three : WorkerThread) → one-to ≤ epochs → two-to ≤ epochs → KeepsUpTo one-to terms one two
+    → KeepsUpTo two-to terms two three → KeepsUpTo epochs terms one three
+keeps-up-then epochs one-to two-to terms one two three first-up second-up first second asked rest start calls come =
+    second asked rest start (calls-up terms rest epochs two-to second-up calls) (first asked rest start (calls-up terms rest epochs one-to first-up calls) come)
+
+-- a worker that waits enters the next epoch, or none
+pub waited-then : (terms : Terms) (old now looked new : WorkerThread) → entered looked.hand ≡ entered old.hand → KeepsUpTo (suc (entered old.hand)) terms old now
+    → Keeps terms now looked → KeepsUpTo (suc (entered looked.hand)) terms looked new → KeepsUpTo (suc (entered old.hand)) terms old new
+waited-then terms old now looked new here first same second asked rest start calls come =
+    second asked rest start (calls-up terms rest (suc (entered old.hand)) (suc (entered looked.hand)) (omega (arith, here)) calls) (same asked rest start (first asked rest start calls come))
+
+-- where there are other workers, nothing needs to be called for
+pub keeps-beside : (epochs : ℕ) (terms : Terms) (old new : WorkerThread) → (terms.workers ≡ 1 → ⊥) → KeepsUpTo epochs terms old new → Keeps terms old new
+keeps-beside epochs terms old new beside keeps asked rest start come = keeps asked rest start (λ alone. absurd (beside alone)) come
 
 -- ---- what is done
 
@@ -63,14 +90,15 @@ worked-running terms old new entry worker row counted from clock asked is = reco
 
 pub worked-come : (terms : Terms) (asked before rest : List (ℕ × Request)) (start : machine.Worker) (old new : WorkerThread) (entry : Entry)
     → row_of new.hand ≡ row_with_entry (row_of old.hand) entry → entry.clock ≡ old.worker.clock → IsAsked terms entry
-    → IsNext (first_epoch terms) before entry entry.request rest → (shown_worker new.worker).log ≡ (shown_worker old.worker).log ++ entry.plan.commands
+    → IsNext (first_epoch terms) before entry entry.request rest → IsFresh terms.workers (turn_of entry) entry.request
+    → IsInOrderBehind (first_epoch terms) NoneMay (turns_of (entries old.hand)) (turn_of entry) entry.request → (shown_worker new.worker).log ≡ (shown_worker old.worker).log ++ entry.plan.commands
     → new.worker.clock ≡ entry.later → new.worker.served ≡ served_more old.worker.served entry.request → new.worker.stopped ≡ old.worker.stopped
     → (shown_worker new.worker).holds ≡ (shown_worker old.worker).holds → new.worker.stuck ≡ old.worker.stuck → IsRunning terms old
     → HasCome terms asked before start old → HasCome terms asked rest start new
-worked-come terms asked before rest start old new entry row from work next log clock served stopped holds stuck is come =
-    subst (λ (r : Row). HasDoneUpTo (first_epoch terms) terms.more asked rest r start (shown_worker new.worker)) (sym row)
-    (done-work (first_epoch terms) terms.more asked (row_of old.hand) start (shown_worker old.worker) before rest entry (shown_worker new.worker)
-    is.behind.epoch is.going from (later_epoch terms entry work) next log clock served stopped holds stuck come)
+worked-come terms asked before rest start old new entry row from work next fresh order log clock served stopped holds stuck is come =
+    subst (λ (r : Row). HasDoneUpTo terms asked rest r start (shown_worker new.worker)) (sym row)
+    (done-work terms asked (row_of old.hand) start (shown_worker old.worker) before rest entry (shown_worker new.worker)
+    is.behind.epoch (entered_within terms old.worker.clock (entered old.hand) is.behind.is is.behind.epoch) is.going from (later_epoch terms entry work) next fresh order log clock served stopped holds stuck come)
 
 -- an epoch is entered
 pub entered-running : (terms : Terms) (old new : WorkerThread) → worker_of new.hand ≡ worker_of old.hand → row_of new.hand ≡ row_with_epoch (row_of old.hand)
@@ -84,31 +112,32 @@ entered-running terms old new worker row counted clock more is = record {
 }
 
 pub entered-keeps : (terms : Terms) (old new : WorkerThread) → row_of new.hand ≡ row_with_epoch (row_of old.hand)
-    → shown_worker new.worker ≡ logging (shown_worker old.worker) (NextEpoch ∷ []) (next_clock old.worker.clock) → IsRunning terms old → Keeps terms old new
-entered-keeps terms old new row worker is asked rest start come =
-    subst (λ (at : Row × machine.Worker). HasDoneUpTo (first_epoch terms) terms.more asked rest at.0 start at.1) (λ i. (sym row i, sym worker i))
-    (done-epoch (first_epoch terms) terms.more asked (row_of old.hand) start (shown_worker old.worker) rest is.behind.epoch is.going come)
+    → shown_worker new.worker ≡ logging (shown_worker old.worker) (NextEpoch ∷ []) (next_clock old.worker.clock) → suc (entered old.hand) ≤ terms.more → IsRunning terms old
+    → KeepsUpTo (suc (entered old.hand)) terms old new
+entered-keeps terms old new row worker within is asked rest start calls come =
+    subst (λ (at : Row × machine.Worker). HasDoneUpTo terms asked rest at.0 start at.1) (λ i. (sym row i, sym worker i))
+    (done-epoch terms asked (row_of old.hand) start (shown_worker old.worker) rest is.behind.epoch within calls is.going come)
 
 -- it stops
 pub stopped-come : (terms : Terms) (asked rest : List (ℕ × Request)) (start : machine.Worker) (old new : WorkerThread) (stop : Stop)
     → row_of new.hand ≡ row_with_stop stop (row_of old.hand) → shown_worker new.worker ≡ record (shown_worker old.worker) { stopped = true }
     → stop.clock ≡ old.worker.clock → IsNextOf terms.more rest (request_at stop.met) → HasCome terms asked rest start old → HasCome terms asked rest start new
 stopped-come terms asked rest start old new stop row worker clock next come =
-    subst (λ (at : Row × machine.Worker). HasDoneUpTo (first_epoch terms) terms.more asked rest at.0 start at.1) (λ i. (sym row i, sym worker i))
-    (done-stop (first_epoch terms) terms.more asked (row_of old.hand) start (shown_worker old.worker) rest stop clock next come)
+    subst (λ (at : Row × machine.Worker). HasDoneUpTo terms asked rest at.0 start at.1) (λ i. (sym row i, sym worker i))
+    (done-stop terms asked (row_of old.hand) start (shown_worker old.worker) rest stop clock next come)
 
 -- it reads that another worker stopped
 pub warned-come : (terms : Terms) (asked rest : List (ℕ × Request)) (start : machine.Worker) (old new : WorkerThread)
     → row_of new.hand ≡ row_with_warning (row_of old.hand) → shown_worker new.worker ≡ shown_worker old.worker → 0 < terms.more
     → HasCome terms asked rest start old → HasCome terms asked rest start new
 warned-come terms asked rest start old new row worker further come =
-    subst (λ (at : Row × machine.Worker). HasDoneUpTo (first_epoch terms) terms.more asked rest at.0 start at.1) (λ i. (sym row i, sym worker i))
-    (done-warned (first_epoch terms) terms.more asked (row_of old.hand) start (shown_worker old.worker) rest further come)
+    subst (λ (at : Row × machine.Worker). HasDoneUpTo terms asked rest at.0 start at.1) (λ i. (sym row i, sym worker i))
+    (done-warned terms asked (row_of old.hand) start (shown_worker old.worker) rest further come)
 
 pub through-keeps : (terms : Terms) (old new : WorkerThread) → row_of new.hand ≡ row_with_done (row_of old.hand) → shown_worker new.worker ≡ shown_worker old.worker → Keeps terms old new
 through-keeps terms old new row worker asked rest start come =
-    subst (λ (at : Row × machine.Worker). HasDoneUpTo (first_epoch terms) terms.more asked rest at.0 start at.1) (λ i. (sym row i, sym worker i))
-    (done-through (first_epoch terms) terms.more asked (row_of old.hand) start (shown_worker old.worker) rest come)
+    subst (λ (at : Row × machine.Worker). HasDoneUpTo terms asked rest at.0 start at.1) (λ i. (sym row i, sym worker i))
+    (done-through terms asked (row_of old.hand) start (shown_worker old.worker) rest come)
 
 -- ---- answers
 
@@ -153,8 +182,8 @@ pub ready-come : (terms : Terms) (table : TableId) (asked : List (ℕ × Request
 ready-come terms table asked old new ready hand worker =
     let stopped : (shown_worker new.worker).stopped ≡ false = ap (λ (w : machine.Worker). w.stopped) worker ∙ ready.running in
     let epoch : (shown_worker new.worker).clock.at.epoch ≡ first_epoch terms = ap (λ (w : machine.Worker). w.clock.at.epoch) worker ∙ ready.epoch in
-    subst (λ (r : Row). HasDoneUpTo (first_epoch terms) terms.more asked asked r (shown_worker new.worker) (shown_worker new.worker)) (sym (ap row_of hand ∙ ready.new.row))
-    (done-nothing (first_epoch terms) terms.more asked (shown_worker new.worker) stopped epoch)
+    subst (λ (r : Row). HasDoneUpTo terms asked asked r (shown_worker new.worker) (shown_worker new.worker)) (sym (ap row_of hand ∙ ready.new.row))
+    (done-nothing terms asked (shown_worker new.worker) stopped epoch)
 
 -- Once it came to the last epoch with nothing left, it did all.
 pub whole-part : (terms : Terms) (on : Bool) (rest : List (ℕ × Request)) (thread : WorkerThread) → rest ≡ [] → (on ≡ true → IsOn terms thread)

@@ -15,9 +15,12 @@ use Rattle.host_epochs.specs.declared.told.Entry.{Entry}
 use Rattle.host_epochs.specs.Calls.{MayNote, Notes}
 use Rattle.host_epochs.specs.Hands.{worker_of, entries, entered, stop, content}
 use Rattle.host_epochs.specs.Scan.{scan_commands}
-use Rattle.host_epochs.specs.Terms.{Terms, IsClockOf, IsPlaceOf, Waits, first_epoch}
+use Rattle.host_epochs.specs.Terms.{Terms, IsClockOf, IsPlaceOf, Waits, first_epoch, owner}
 use Rattle.host_epochs.specs.Told.{IsClockBehind, IsWork}
+use Rattle.table_order.specs.Rounds.{turn_of}
+use Rattle.round_workers.specs.Order.{IsFresh}
 use Rattle.round_workers.specs.Sharing.{MayGoOn}
+use Rattle.round_workers.proofs.HandLemmas.{waits_here}
 use Rattle.host_table.proofs.PlanLaws.{plan_one}
 
 -- In a later epoch than that of the making a clock is behind its first.
@@ -106,3 +109,24 @@ noted_scan terms hand new place clock given notes = go entry.request notes.is.re
       work.commands ∙ (λ i. scan_commands (same i) (notes.is.clock_is i)),
       work.clock ∙ (λ i. clock_after (same i) (notes.is.clock_is i)),
     )
+
+-- what was noted of a request at a place of the worker's own found an element of its clock's epoch
+pub noted_fresh : (terms : Terms) (hand new : Hand) (place : ℕ) (clock : Reading) (request : Option Request) (taken given : code.Content)
+    → content hand ≡ taken → clock.at.epoch ≡ first_epoch terms + entered hand
+    → (owner terms place ≡ worker_of hand → Waits (λ epoch. first_epoch terms + entered hand ≤ epoch) (shown_content taken))
+    → Waits (λ epoch. epoch ≤ first_epoch terms + entered hand) (shown_content taken)
+    → (notes : Notes terms hand place clock request given new) → IsFresh terms.workers (turn_of notes.entry) notes.entry.request
+noted_fresh terms hand new place clock request taken given is here from to notes = go notes.entry.request
+  where
+    entry : Entry
+    entry = notes.entry
+
+    go : (asked : Option Request) → IsFresh terms.workers (turn_of entry) asked
+    go None = tt
+    go (Some other) = λ own.
+        let mine : owner terms place ≡ worker_of hand = ap (owner terms) (sym notes.is.place_is) ∙ own ∙ notes.is.worker_is in
+        let at : first_epoch terms + entered hand ≡ entry.clock.at.epoch = sym here ∙ ap (λ (r : Reading). r.at.epoch) (sym notes.is.clock_is) in
+        let before : shown_content taken ≡ shown_content entry.before = ap (λ (x : code.Content). shown_content x) (sym (notes.is.before_is ∙ is)) in
+        subst (Waits (λ epoch. epoch ≡ entry.clock.at.epoch)) before
+        (waits_here (first_epoch terms + entered hand) entry.clock.at.epoch (shown_content taken) at (from mine)
+        (subst (λ (n : ℕ). Waits (λ epoch. epoch ≤ n) (shown_content taken)) at to))

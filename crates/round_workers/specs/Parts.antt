@@ -9,9 +9,10 @@ use Rattle.host_epochs.specs.declared.told.Entry.{Entry}
 use Rattle.host_epochs.specs.declared.told.Meeting.{Meeting}
 use Rattle.host_epochs.specs.declared.told.Stop.{Stop}
 use Rattle.host_epochs.specs.declared.views.Row.{Row}
-use Rattle.host_epochs.specs.Terms.{Terms, IsPlaceOf}
+use Rattle.host_epochs.specs.Terms.{Terms, IsPlaceOf, first_epoch, final_epoch}
 use Rattle.table_order.specs.Rounds.{turns_of, BeginsAt}
 use Rattle.round_workers.specs.declared.turn.Turn.{Turn}
+use Rattle.round_workers.specs.Order.{AreCalledFor, AreFresh, AreInOrder, NoneMay}
 
 -- ---- what is asked
 
@@ -61,17 +62,22 @@ pub record IsEnd (more : ℕ) (rest : List (ℕ × Request)) (clock : Reading) (
   pub next : IsNextOf more rest (request_at stop.met)
 
 -- The worker did what it was asked up to this rest, from its clock on: it logged the commands and, between them and at the end, the
--- epochs that it entered, and its clock is behind all that. Where it stopped it is stopped. Only where there are further epochs it
--- may have read that one stopped.
-pub record HasDoneUpTo (first more : ℕ) (asked rest : List (ℕ × Request)) (row : Row) (old new : Worker) : Type 0 where
-  pub done : AreDone first asked row.list rest
+-- epochs that it entered, and its clock is behind all that. Its scans came first in each epoch, in order, and what it served at its
+-- own places found an element of the epoch. Where it stopped it is stopped. Only where there are further epochs it may have read that
+-- one stopped. Where it is the only worker, it entered no epoch before that was called for.
+pub record HasDoneUpTo (terms : Terms) (asked rest : List (ℕ × Request)) (row : Row) (old new : Worker) : Type 0 where
+  pub done : AreDone (first_epoch terms) asked row.list rest
   pub begins : BeginsAt old.clock row.list
-  pub log : new.log ≡ old.log ++ logged (first + row.entered) old.clock (turns_of row.list)
-  pub clock : new.clock ≡ on_to (first + row.entered) (clock_behind old.clock (turns_of row.list))
+  pub fresh : AreFresh terms.workers (turns_of row.list)
+  pub order : AreInOrder (first_epoch terms) NoneMay (turns_of row.list)
+  pub called : terms.workers ≡ 1
+      → AreCalledFor (first_epoch terms) (final_epoch terms) (first_epoch terms) asked (turns_of row.list) (first_epoch terms + row.entered)
+  pub log : new.log ≡ old.log ++ logged (first_epoch terms + row.entered) old.clock (turns_of row.list)
+  pub clock : new.clock ≡ on_to (first_epoch terms + row.entered) (clock_behind old.clock (turns_of row.list))
   pub served : new.served ≡ served_behind old.served (turns_of row.list)
   pub stopped : new.stopped ≡ is_some row.stop
-  pub ended : ForSome row.stop (IsEnd more rest new.clock)
-  pub heard : row.warned ≡ true → 0 < more
+  pub ended : ForSome row.stop (IsEnd terms.more rest new.clock)
+  pub heard : row.warned ≡ true → 0 < terms.more
   pub holds : new.holds ≡ old.holds
   pub stuck : new.stuck ≡ old.stuck
 
@@ -82,7 +88,7 @@ pub record IsWhole (more : ℕ) (rest : List (ℕ × Request)) (row : Row) : Typ
   pub done : row.done ≡ more
 
 -- The worker did its part: all that it was asked, unless it stopped, or read that one stopped.
-pub record HasDone (first more : ℕ) (asked : List (ℕ × Request)) (row : Row) (old new : Worker) : Type 0 where
+pub record HasDone (terms : Terms) (asked : List (ℕ × Request)) (row : Row) (old new : Worker) : Type 0 where
   pub rest : List (ℕ × Request)
-  pub so_far : HasDoneUpTo first more asked rest row old new
-  pub whole : row.stop ≡ None → row.warned ≡ false → IsWhole more rest row
+  pub so_far : HasDoneUpTo terms asked rest row old new
+  pub whole : row.stop ≡ None → row.warned ≡ false → IsWhole terms.more rest row

@@ -1,5 +1,5 @@
 -- A worker that takes places, scans its own, and waits for others.
-use Rattle.std.specs.Prelude.{◌≡◌, ◌⊎◌, ℕ, ◌+◌, ◌<◌}
+use Rattle.std.specs.Prelude.{◌≡◌, ◌⊎◌, ℕ, ◌+◌, ◌/◌, ◌%◌, ◌<◌, ◌≤◌}
 use Rattle.atomic_table.specs.Seated.{TableId}
 use Rattle.host_shard.specs.declared.content.Content.{Content}
 use Rattle.host_shard.specs.declared.content.Content.TheVariants.{Vacant}
@@ -7,8 +7,11 @@ use Rattle.host_shard.specs.Content as shown
 use Rattle.host_epochs.specs.declared.hand.Hand.{Hand}
 use Rattle.host_epochs.specs.Calls.{HasReached}
 use Rattle.host_epochs.specs.Hands.{worker_of, row_of, entered, done, left, seen, content, history, Holds}
-use Rattle.host_epochs.specs.Terms.{Terms, IsNear, first_at, first_epoch, owner, place_count}
+use Rattle.host_epochs.specs.Terms.{Terms, IsNear, IsUpToDate, first_at, first_epoch, owner, place_count, places_each}
 use Rattle.host_epochs.specs.Told.{Leads}
+use Rattle.host_epochs.specs.declared.views.Row.{Row}
+use Rattle.table_order.specs.Rounds.{turns_of}
+use Rattle.round_workers.specs.Order.{epoch_behind, MayScan, NoneMay}
 
 -- ---- what is taken
 
@@ -26,12 +29,28 @@ pub record HasTaken (terms : Terms) (table : TableId) (hand : Hand) (place : ℕ
   pub content_is : content hand ≡ taken
   pub leads : Leads terms place (first_at terms place) (history hand) taken
   pub near : IsNear terms (entered hand) (done hand) taken
+  pub kept : IsUpToDate terms place (worker_of hand) (entered hand) (done hand) taken
 
 -- it waits with an element of a later epoch
 abbrev pub IsNewer : ℕ → shown.Content → Type 0
 IsNewer epoch (shown.cold shard) = epoch < shard.stamp.epoch
 IsNewer epoch (shown.hot record') = epoch < record'.stamp.epoch
 IsNewer epoch shown.vacant = ⊥
+
+-- ---- what may be scanned
+
+-- from this shard on the worker may scan in the epoch that it entered last
+abbrev pub ScansFrom : Terms → Row → ℕ → Type 0
+ScansFrom terms row from =
+    (shard : ℕ) → from ≤ shard → MayScan (first_epoch terms + row.entered) (first_epoch terms) NoneMay (turns_of row.list) shard
+
+-- so it may at this place, which is the first of its shard
+abbrev pub ScansAt : Terms → Row → ℕ → Type 0
+ScansAt terms row place = (place % places_each ≡ 0) × ScansFrom terms row (place / places_each)
+
+-- it has done nothing yet in that epoch
+abbrev pub HasOpened : Terms → Row → Type 0
+HasOpened terms row = epoch_behind (first_epoch terms) (turns_of row.list) < first_epoch terms + row.entered
 
 -- ---- what is noted
 

@@ -16,6 +16,7 @@ use Rattle.verifier_feeds.specs.Feeds.{sent_bytes, HasSentFrontOf, KeepsPlace, S
 use Rattle.round_workers.specs.declared.turn.Turn.{Turn}
 use Rattle.round_workers.specs.declared.shared_round.SharedRound.{SharedRound}
 use Rattle.round_workers.specs.declared.worker_thread.WorkerThread.{WorkerThread}
+use Rattle.round_workers.specs.Order.{CallsFor}
 use Rattle.round_workers.specs.Parts.{asked_in, HasDone, HasDoneUpTo}
 use Rattle.round_workers.specs.Sharing.{turns_in, IsSharedRound}
 
@@ -40,7 +41,7 @@ pub record IsThrough (terms : Terms) (table : TableId) (turns : List (List Turn)
   pub number : worker_of new.hand ≡ worker_of old.hand
   pub writer : writer_in new.worker ≡ writer_in old.worker
   pub part : new.wanting ≡ false
-      → HasDone (first_epoch terms) terms.more (asked_in (get_or turns (worker_of old.hand) [])) (row_of new.hand)
+      → HasDone terms (asked_in (get_or turns (worker_of old.hand) [])) (row_of new.hand)
       (shown_worker old.worker) (shown_worker new.worker)
 
 -- What its outbox has sent is a front of its log. Where memory was not wanting all of the log is written.
@@ -92,11 +93,16 @@ own_asked shared thread = asked_in (get_or (turns_in shared) (worker_of thread.h
 -- from this worker on, up to this rest of what it was asked
 abbrev pub HasCome : Terms → List (ℕ × Request) → List (ℕ × Request) → machine.Worker → WorkerThread → Type 0
 HasCome terms asked rest start thread =
-    HasDoneUpTo (first_epoch terms) terms.more asked rest (row_of thread.hand) start (shown_worker thread.worker)
+    HasDoneUpTo terms asked rest (row_of thread.hand) start (shown_worker thread.worker)
 
 -- as much is left to do as before
 abbrev pub Keeps : Terms → WorkerThread → WorkerThread → Type 0
 Keeps terms old new = (asked rest : List (ℕ × Request)) (start : machine.Worker) → HasCome terms asked rest start old → HasCome terms asked rest start new
+
+-- the same, where what is left calls for so many epochs, or there are other workers
+abbrev pub KeepsUpTo : ℕ → Terms → WorkerThread → WorkerThread → Type 0
+KeepsUpTo epochs terms old new = (asked rest : List (ℕ × Request)) (start : machine.Worker) → (terms.workers ≡ 1 → CallsFor rest epochs)
+    → HasCome terms asked rest start old → HasCome terms asked rest start new
 
 -- the next request, of this phase, is done
 abbrev pub Serves : Terms → ℕ → Request → WorkerThread → WorkerThread → Type 0

@@ -5,13 +5,13 @@ ghost use Rattle.log_codec.specs.declared.command.Command.TheVariants.{NextEpoch
 ghost use Rattle.host_core.specs.WorldEvent.{logging, next_clock};
 ghost use Rattle.host_world.specs.Workers.{shown_worker, writer_in};
 ghost use Rattle.host_shard.specs.Shown.{shown_content};
-ghost use Rattle.host_epochs.specs.Hands.{content, done, entered, left, worker_of, IsFree, IsSeated, KeepsSeat};
+ghost use Rattle.host_epochs.specs.Hands.{content, done, entered, left, row_of, worker_of, IsFree, IsSeated, KeepsSeat};
 ghost use Rattle.host_epochs.specs.Table.{table, terms};
 ghost use Rattle.host_epochs.specs.Terms.{Waits, first_epoch};
 ghost use Rattle.host_epochs.specs.declared.hand.Hand.{Hand};
-ghost use Rattle.round_workers.specs.Placed.{StandsAs};
+ghost use Rattle.round_workers.specs.Placed.{HasOpened, StandsAs};
 ghost use Rattle.round_workers.specs.Sharing.{IsSharedRound};
-ghost use Rattle.round_workers.specs.Working.{GoesOnAs, HasEnded, IsRunning, IsOn, IsSending, Keeps};
+ghost use Rattle.round_workers.specs.Working.{GoesOnAs, HasEnded, IsRunning, IsOn, IsSending, Keeps, KeepsUpTo};
 
 use crate::shared_round::SharedRound;
 use crate::worker_thread::WorkerThread;
@@ -34,7 +34,8 @@ impl WorkerThread {
         ensures sends { IsSending self.new }
         ensures goes_on { GoesOnAs self.old self.new }
         ensures going { OnOk result (IsRunning (terms D.functions shared.now.epochs.now) self.new) }
-        ensures keeps { OnOk result (Keeps (terms D.functions shared.now.epochs.now) self.old self.new) }
+        ensures keeps { OnOk result (KeepsUpTo (suc (entered self.old.hand)) (terms D.functions shared.now.epochs.now) self.old self.new) }
+        ensures opened { IfOk result (λ turned. turned ≡ true → HasOpened (terms D.functions shared.now.epochs.now) (row_of self.new.hand)) }
         ensures entered { IfOk result (λ turned. turned ≡ true → entered self.new.hand ≡ suc (entered self.old.hand)) }
         ensures through { OnOk result (done self.new.hand ≡ done self.old.hand) }
         ensures settled { result ≡ Ok true → self.new.worker.log.settled ≡ true }
@@ -52,8 +53,8 @@ impl WorkerThread {
         Ok(true)
     }
 
-    /// Before a request: it enters the next epoch where it may be entered, and is then through with that too. It goes on, unless its
-    /// counters end: the answer says so.
+    /// Before a request: where there are other workers, it enters the next epoch where it may be entered, and is then through with that
+    /// too. It goes on, unless its counters end: the answer says so.
     pub(crate) fn keep_up<R: Wait, D: Digests>(
         &mut self,
         rt: &R,
@@ -71,6 +72,10 @@ impl WorkerThread {
         ensures ended { IfOk result (λ on. on ≡ false → HasEnded self.new.hand) }
         ensures keeps { OnOk result (Keeps (terms D.functions shared.now.epochs.now) self.old self.new) }
     {
+        // Nobody else lets a worker go on that is alone: it enters an epoch only once it waits for that.
+        if shared.workers == 1 {
+            return Ok(true);
+        }
         if !self.enter(shared)? {
             return Ok(true);
         }
@@ -96,7 +101,7 @@ impl WorkerThread {
         ensures on { IfOk result (λ on. on ≡ true → IsOn (terms D.functions shared.now.epochs.now) self.new) }
         ensures reached { IfOk result (λ on. on ≡ true → phase ≤ entered self.new.hand) }
         ensures ended { IfOk result (λ on. on ≡ false → HasEnded self.new.hand) }
-        ensures keeps { OnOk result (Keeps (terms D.functions shared.now.epochs.now) self.old self.new) }
+        ensures keeps { OnOk result (KeepsUpTo phase (terms D.functions shared.now.epochs.now) self.old self.new) }
     {
         while self.entered < phase {
             if !self.come_on(rt, shared)? {
@@ -124,7 +129,7 @@ impl WorkerThread {
         ensures on { IfOk result (λ on. on ≡ true → IsOn (terms D.functions shared.now.epochs.now) self.new) }
         ensures next { IfOk result (λ on. on ≡ true → entered self.new.hand ≡ suc (entered self.old.hand)) }
         ensures ended { IfOk result (λ on. on ≡ false → HasEnded self.new.hand) }
-        ensures keeps { OnOk result (Keeps (terms D.functions shared.now.epochs.now) self.old self.new) }
+        ensures keeps { OnOk result (KeepsUpTo (suc (entered self.old.hand)) (terms D.functions shared.now.epochs.now) self.old self.new) }
     {
         let at = self.worker.clock.at();
         if at.epoch == u32::MAX {

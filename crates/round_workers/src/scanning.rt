@@ -1,16 +1,16 @@
 //! How a worker scans its own places in an epoch.
-ghost use Rattle.std.specs.Prelude.{◌≡◌, ◌≢◌, ◌↔◌, ◌≤◌, ◌+◌, ◌*◌, ◌<◌, [], true, false, IfOk, OnOk, vec_capacity};
+ghost use Rattle.std.specs.Prelude.{◌≡◌, ◌≢◌, ◌↔◌, ◌≤◌, ◌+◌, ◌*◌, ◌/◌, ◌<◌, suc, [], true, false, IfOk, OnOk, vec_capacity};
 ghost use Rattle.std.specs.List.{AllByRecursion};
 ghost use Rattle.record_text.specs.Longest.{longest_blob};
 ghost use Rattle.record_text.specs.Value.{IsOf};
 ghost use Rattle.log_codec.specs.Command.{IsPathCommand};
 ghost use Rattle.host_shard.specs.Shown.{shown_content};
 ghost use Rattle.host_plan.specs.Visit.{between};
-ghost use Rattle.host_epochs.specs.Hands.{content, entered, worker_of, IsFree};
+ghost use Rattle.host_epochs.specs.Hands.{content, entered, row_of, worker_of, IsFree};
 ghost use Rattle.host_epochs.specs.Scan.{IsStale};
 ghost use Rattle.host_epochs.specs.Table.{table, terms};
 ghost use Rattle.host_epochs.specs.Terms.{owner, place_count};
-ghost use Rattle.round_workers.specs.Placed.{HasTaken, IsRenewed, StandsAs};
+ghost use Rattle.round_workers.specs.Placed.{HasTaken, IsRenewed, ScansAt, ScansFrom, StandsAs};
 ghost use Rattle.round_workers.specs.Sharing.{IsSharedRound};
 ghost use Rattle.round_workers.specs.Working.{GoesOnAs, HasEnded, IsRunning, IsOn, IsSending, Keeps};
 
@@ -39,6 +39,7 @@ impl WorkerThread {
     ) -> Result<bool, Memory>
         requires shared { IsSharedRound D.functions shared.now }
         requires later { 0 < entered self.old.hand }
+        requires scans { ScansFrom (terms D.functions shared.now.epochs.now) (row_of self.old.hand) 0 }
         requires free { IsFree (table shared.now.epochs.now) self.old.hand }
         requires sends { IsSending self.old }
         requires going { IsRunning (terms D.functions shared.now.epochs.now) self.old }
@@ -71,6 +72,7 @@ impl WorkerThread {
         requires shared { IsSharedRound D.functions shared.now }
         requires later { 0 < entered self.old.hand }
         requires shard { shard < shared.now.shards }
+        requires scans { ScansFrom (terms D.functions shared.now.epochs.now) (row_of self.old.hand) shard }
         requires free { IsFree (table shared.now.epochs.now) self.old.hand }
         requires sends { IsSending self.old }
         requires going { IsRunning (terms D.functions shared.now.epochs.now) self.old }
@@ -79,6 +81,7 @@ impl WorkerThread {
         ensures goes_on { GoesOnAs self.old self.new }
         ensures going { IfOk result (λ on. on ≡ true → IsRunning (terms D.functions shared.now.epochs.now) self.new) }
         ensures stands { IfOk result (λ on. on ≡ true → StandsAs self.old.hand self.new.hand) }
+        ensures scans { IfOk result (λ on. on ≡ true → ScansFrom (terms D.functions shared.now.epochs.now) (row_of self.new.hand) (suc shard)) }
         ensures renewed { IfOk result (λ on. on ≡ true → owner (terms D.functions shared.now.epochs.now) (shard * 5) ≡ worker_of self.new.hand
             → IsRenewed (terms D.functions shared.now.epochs.now) self.new.hand (shard * 5)) }
         ensures ended { IfOk result (λ on. on ≡ false → HasEnded self.new.hand) }
@@ -102,6 +105,7 @@ impl WorkerThread {
         requires later { 0 < entered self.old.hand }
         requires place { place < place_count (terms D.functions shared.now.epochs.now) }
         requires own { owner (terms D.functions shared.now.epochs.now) place ≡ worker_of self.old.hand }
+        requires scans { ScansAt (terms D.functions shared.now.epochs.now) (row_of self.old.hand) place }
         requires free { IsFree (table shared.now.epochs.now) self.old.hand }
         requires sends { IsSending self.old }
         requires going { IsRunning (terms D.functions shared.now.epochs.now) self.old }
@@ -110,6 +114,7 @@ impl WorkerThread {
         ensures goes_on { GoesOnAs self.old self.new }
         ensures going { IfOk result (λ on. on ≡ true → IsRunning (terms D.functions shared.now.epochs.now) self.new) }
         ensures stands { IfOk result (λ on. on ≡ true → StandsAs self.old.hand self.new.hand) }
+        ensures scans { IfOk result (λ on. on ≡ true → ScansFrom (terms D.functions shared.now.epochs.now) (row_of self.new.hand) (suc (place / 5))) }
         ensures renewed { IfOk result (λ on. on ≡ true → IsRenewed (terms D.functions shared.now.epochs.now) self.new.hand place) }
         ensures ended { IfOk result (λ on. on ≡ false → HasEnded self.new.hand) }
         ensures keeps { OnOk result (Keeps (terms D.functions shared.now.epochs.now) self.old self.new) }
@@ -136,6 +141,7 @@ impl WorkerThread {
         requires shared { IsSharedRound D.functions shared.now }
         requires later { 0 < entered self.old.hand }
         requires own { owner (terms D.functions shared.now.epochs.now) place ≡ worker_of self.old.hand }
+        requires scans { ScansAt (terms D.functions shared.now.epochs.now) (row_of self.old.hand) place }
         requires taken { HasTaken (terms D.functions shared.now.epochs.now) (table shared.now.epochs.now) self.old.hand place content }
         requires stale { IsStale self.old.worker.clock.at.epoch (shown_content content) }
         requires room { (commands.items ≡ []) × (2 ≤ vec_capacity commands) }
@@ -147,6 +153,7 @@ impl WorkerThread {
         ensures goes_on { GoesOnAs self.old self.new }
         ensures going { result ≡ true → IsRunning (terms D.functions shared.now.epochs.now) self.new }
         ensures stands { result ≡ true → StandsAs self.old.hand self.new.hand }
+        ensures scans { result ≡ true → ScansFrom (terms D.functions shared.now.epochs.now) (row_of self.new.hand) (suc (place / 5)) }
         ensures renewed { result ≡ true → IsRenewed (terms D.functions shared.now.epochs.now) self.new.hand place }
         ensures ended { result ≡ false → HasEnded self.new.hand }
         ensures keeps { Keeps (terms D.functions shared.now.epochs.now) self.old self.new }

@@ -3,11 +3,11 @@ ghost use Rattle.std.specs.Prelude.{◌≡◌, ℕ, ◌↔◌, ◌≤◌, ◌+�
 ghost use Rattle.record_text.specs.Longest.{longest_blob};
 ghost use Rattle.record_text.specs.Value.{IsBlob};
 ghost use Rattle.host_shard.specs.Shown.{shown_content};
-ghost use Rattle.host_epochs.specs.Hands.{entered, IsFree};
+ghost use Rattle.host_epochs.specs.Hands.{entered, row_of, worker_of, IsFree};
 ghost use Rattle.host_epochs.specs.Table.{table, terms};
-ghost use Rattle.host_epochs.specs.Terms.{Waits, IsPlaceOf, first_epoch};
+ghost use Rattle.host_epochs.specs.Terms.{Waits, IsPlaceOf, first_epoch, owner};
 ghost use Rattle.round_workers.specs.Parts.{HasPlace};
-ghost use Rattle.round_workers.specs.Placed.{HasTaken, IsNewer, StandsAs};
+ghost use Rattle.round_workers.specs.Placed.{HasOpened, HasTaken, IsNewer, ScansFrom, StandsAs};
 ghost use Rattle.round_workers.specs.Sharing.{IsSharedRound};
 ghost use Rattle.round_workers.specs.Working.{EndsBy, GoesOnAs, HasEnded, IsRunning, IsOn, IsSending, Serves};
 
@@ -150,6 +150,8 @@ impl WorkerThread {
         requires place { IsPlaceOf (terms D.functions shared.now.epochs.now) place request.now.key }
         requires taken { HasTaken (terms D.functions shared.now.epochs.now) (table shared.now.epochs.now) self.old.hand place content }
         requires not_newer { Waits (λ epoch. epoch ≤ first_epoch (terms D.functions shared.now.epochs.now) + entered self.old.hand) (shown_content content) }
+        requires fresh { owner (terms D.functions shared.now.epochs.now) place ≡ worker_of self.old.hand
+            → Waits (λ epoch. first_epoch (terms D.functions shared.now.epochs.now) + entered self.old.hand ≤ epoch) (shown_content content) }
         requires settled { self.old.worker.log.settled ≡ true }
         requires few { self.old.worker.served + 1 < 2 ^ 64 }
         requires sends { IsSending self.old }
@@ -161,6 +163,8 @@ impl WorkerThread {
         ensures stands { IfOk result (λ on. on ≡ true → StandsAs self.old.hand self.new.hand) }
         ensures serves { IfOk result (λ on. on ≡ true → (phase : ℕ) → phase ≤ entered self.old.hand
             → Serves (terms D.functions shared.now.epochs.now) phase request.now self.old self.new) }
+        ensures scans { IfOk result (λ on. on ≡ true → HasOpened (terms D.functions shared.now.epochs.now) (row_of self.old.hand)
+            → ScansFrom (terms D.functions shared.now.epochs.now) (row_of self.new.hand) 0) }
         ensures ended { IfOk result (λ on. on ≡ false → HasEnded self.new.hand) }
         ensures ends { IfOk result (λ on. on ≡ false → (phase : ℕ)
             → EndsBy (terms D.functions shared.now.epochs.now) phase request.now self.old self.new) }

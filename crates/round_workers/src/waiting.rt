@@ -4,9 +4,9 @@ ghost use Rattle.lamport_clocks.specs.Clock.{last_epoch};
 ghost use Rattle.host_epochs.specs.Hands.{entered, row_of, IsFree};
 ghost use Rattle.host_epochs.specs.Table.{table, terms};
 ghost use Rattle.host_epochs.specs.Terms.{first_epoch};
-ghost use Rattle.round_workers.specs.Placed.{AreSeen, StandsAs};
+ghost use Rattle.round_workers.specs.Placed.{AreSeen, HasOpened, StandsAs};
 ghost use Rattle.round_workers.specs.Sharing.{IsSharedRound};
-ghost use Rattle.round_workers.specs.Working.{GoesOnAs, HasEnded, IsRunning, IsOn, IsSending, Keeps};
+ghost use Rattle.round_workers.specs.Working.{GoesOnAs, HasEnded, IsRunning, IsOn, IsSending, KeepsUpTo};
 
 use crate::shared_round::SharedRound;
 use crate::worker_thread::WorkerThread;
@@ -35,7 +35,8 @@ impl WorkerThread {
         ensures going { IfOk result (λ on. on ≡ true → IsRunning (terms D.functions shared.now.epochs.now) self.new) }
         ensures next { IfOk result (λ on. on ≡ true → entered self.new.hand ≡ suc (entered self.old.hand)) }
         ensures ended { IfOk result (λ on. on ≡ false → HasEnded self.new.hand) }
-        ensures keeps { OnOk result (Keeps (terms D.functions shared.now.epochs.now) self.old self.new) }
+        ensures keeps { OnOk result (KeepsUpTo (suc (entered self.old.hand)) (terms D.functions shared.now.epochs.now) self.old self.new) }
+        ensures opened { IfOk result (λ on. on ≡ true → HasOpened (terms D.functions shared.now.epochs.now) (row_of self.new.hand)) }
     {
         let mut found = 0;
         for _ in rt.forever() {

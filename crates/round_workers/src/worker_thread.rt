@@ -24,7 +24,6 @@ impl WorkerThread {
     ghost use Rattle.worker_log.specs.Logged.{text_of};
     ghost use Rattle.host_epochs.specs.Hands.{worker_of, row_of, IsFree};
     ghost use Rattle.host_epochs.specs.Table.{table, terms};
-    ghost use Rattle.host_epochs.specs.Terms.{first_epoch};
     ghost use Rattle.host_world.specs.Workers.{shown_worker, writer_in};
     ghost use Rattle.verifier_feeds.specs.Feeds.{HasSentFrontOf, KeepsPlace, SameOutbox};
     ghost use Rattle.round_workers.specs.Parts.{HasDone};
@@ -63,7 +62,7 @@ impl WorkerThread {
         ensures free { IsFree (table shared.now.epochs.now) self.new.hand }
         ensures front { HasSentFrontOf self.new.outbox (text_of self.new.worker.log) }
         ensures goes_on { GoesOnAs self.old self.new }
-        ensures done { OnOk result (HasDone (first_epoch (terms D.functions shared.now.epochs.now)) (terms D.functions shared.now.epochs.now).more
+        ensures done { OnOk result (HasDone (terms D.functions shared.now.epochs.now)
             (own_asked shared.now self.old) (row_of self.new.hand) (shown_worker self.old.worker) (shown_worker self.new.worker)) }
         ensures settled { OnOk result (self.new.worker.log.settled ≡ true) }
     {
@@ -88,7 +87,7 @@ impl WorkerThread {
         ensures free { IsFree (table shared.now.epochs.now) self.new.hand }
         ensures sends { IsSending self.new }
         ensures goes_on { GoesOnAs self.old self.new }
-        ensures done { OnOk result (HasDone (first_epoch (terms D.functions shared.now.epochs.now)) (terms D.functions shared.now.epochs.now).more
+        ensures done { OnOk result (HasDone (terms D.functions shared.now.epochs.now)
             (own_asked shared.now self.old) (row_of self.new.hand) (shown_worker self.old.worker) (shown_worker self.new.worker)) }
     {
         let own = &shared.turns[usize::from(self.hand.worker())];

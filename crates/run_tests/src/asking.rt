@@ -1,7 +1,7 @@
 //! The program, asked between objects in memory, what it must leave, and reports whose lines it takes again.
 //!
 //! What must be is said by a call: a comparison that stands in a test costs far more to prove, the more is alive there.
-use crate::serving::words_of;
+use crate::serving::{counter_that_fails, words_of};
 use fastver_top::{Status, fastver};
 use fv_outside::{FreeGate, MemorySink, MemorySource, MemoryVault};
 use std::alloc::Global;
@@ -96,6 +96,7 @@ pub(crate) fn ask_by<R: Threads + Wait + Sync + Abort>(
     let mut vault = MemoryVault::new(alloc, way.vault_room, way.write.max(1), &[]).expect(
         rt, "memory",
     );
+    let mut counter = counter_that_fails(rt, alloc);
     let status = fastver(
         rt,
         alloc,
@@ -104,6 +105,7 @@ pub(crate) fn ask_by<R: Threads + Wait + Sync + Abort>(
         &mut out,
         &mut vault,
         &FreeGate,
+        &mut counter,
     );
     Asked { out, vault, status }
 }

@@ -1,12 +1,12 @@
 //! Objects that fail, one call after the other, such that are too small, and objects that never fail.
 use crate::serving::{
-    Objects, REPORT, SCRIPT, assert_ended, assert_front, checked, holds, line_of, one, program,
-    same, served, words_of,
+    Objects, REPORT, SCRIPT, assert_ended, assert_front, checked, counter_that_fails, holds,
+    line_of, one, program, same, served, words_of,
 };
 use crate::sure_objects::run_surely;
 use fastver_top::{Status, fastver};
 use fv_outside::{
-    FreeGate, MemorySink, MemorySource, MemoryVault, SureSink, SureSource, SureVault,
+    FreeGate, MemorySink, MemorySource, MemoryVault, SureCounter, SureSink, SureSource, SureVault,
 };
 use std::alloc::Global;
 use std::process::Abort;
@@ -167,6 +167,7 @@ fn cramped<R: Threads + Wait + Sync + Abort>(
     let mut source = MemorySource::new(alloc, SCRIPT.as_bytes(), 7, &[]).expect(rt, "memory");
     let mut out = MemorySink::new(alloc, rooms.0, 7, &[]).expect(rt, "memory");
     let mut vault = MemoryVault::new(alloc, rooms.1, 7, &[]).expect(rt, "memory");
+    let mut counter = counter_that_fails(rt, alloc);
     let status = fastver(
         rt,
         alloc,
@@ -175,6 +176,7 @@ fn cramped<R: Threads + Wait + Sync + Abort>(
         &mut out,
         &mut vault,
         &FreeGate,
+        &mut counter,
     );
     (Objects { source, out, vault }, status)
 }
@@ -239,7 +241,17 @@ fn objects_that_never_fail(rt: HostRuntime) {
     let mut source = SureSource::new(rt.alloc(), SCRIPT.as_bytes(), 3).expect(&rt, "memory");
     let mut out = SureSink::new(rt.alloc(), 1000, 3).expect(&rt, "memory");
     let mut vault = SureVault::new(rt.alloc(), 10_000, 3).expect(&rt, "memory");
-    let status = run_surely(&rt, rt.alloc(), &words, &mut source, &mut out, &mut vault);
+    let mut counter = SureCounter::new(5);
+    let status = run_surely(
+        &rt,
+        rt.alloc(),
+        &words,
+        &mut source,
+        &mut out,
+        &mut vault,
+        &mut counter,
+    );
+    same(&rt, "the counter", 0, &counter.number(), &5);
     assert_ended(&rt, "run", 0, &status, &Status::Done { epochs: 1 });
     same(&rt, "run", 0, &out.bytes(), &Some(REPORT.as_bytes()));
     same(&rt, "is named", 0, &vault.is_named(), &true);

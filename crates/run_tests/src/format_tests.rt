@@ -10,7 +10,7 @@ use std::sync::Wait;
 use std::thread::Threads;
 
 // Each case is a script that other files have too, there in version 1: the reports are the same. One worker with a put and a get, a
-// clock that ends, keys that become hot of which one goes back, and two workers.
+// clock that ends, keys that become hot of which one goes back, and two workers, twice.
 const BY_SLOT: &str = "\
 == 1 --shards 2 --format 2
 0 put 5 6162
@@ -55,11 +55,19 @@ epoch 0 certified 3
 0.3 v1 put 9223372036854775808 62
 0.5 v1 get 9223372036854775808 62
 done 1
+== 2 --shards 2 --format 2
+1 put 9223372036854775808 01
+0 get 7
+-> 0
+epoch 0 certified 2
+0.3 v0 get 7 none
+0.3 v1 put 9223372036854775808 01
+done 1
 ";
 
 #[test]
 fn reports_are_the_same_by_slot(rt: HostRuntime) {
-    assert_all_served(&rt, rt.alloc(), BY_SLOT, 4);
+    assert_all_served(&rt, rt.alloc(), BY_SLOT, 5);
 }
 
 // Each case is of version 3. With keys of 64 bits reports are those of version 1; with keys of 128 a shard is that of a key's

@@ -5,7 +5,7 @@ use crate::serving::{
 };
 use bundle_rows::Case;
 use fastver_top::{Status, fastver};
-use fv_outside::{FreeGate, SureSink, SureSource, SureVault};
+use fv_outside::{FreeGate, SureCounter, SureSink, SureSource, SureVault};
 use std::alloc::Global;
 use std::process::Abort;
 use std::sync::Wait;
@@ -92,6 +92,7 @@ fn large_load<R: Threads + Wait + Sync + Abort>(rt: &R, alloc: Global) -> SureSi
     let mut source = SureSource::new(alloc, b"", 1).expect(rt, "memory");
     let mut out = SureSink::new(alloc, 1000, 1000).expect(rt, "memory");
     let mut vault = SureVault::new(alloc, 0, 100_000).expect(rt, "memory");
+    let mut counter = SureCounter::new(5);
     let status = fastver(
         rt,
         alloc,
@@ -100,6 +101,7 @@ fn large_load<R: Threads + Wait + Sync + Abort>(rt: &R, alloc: Global) -> SureSi
         &mut out,
         &mut vault,
         &FreeGate,
+        &mut counter,
     );
     assert_ended(rt, "load", 0, &status, &Status::Done { epochs: 7 });
     out

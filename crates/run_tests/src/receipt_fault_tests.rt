@@ -3,7 +3,7 @@ use crate::asking::{
     ACCEPT, ACCEPTED, REPORT, RUN, SCRIPT, Way, ask, ask_by, assert_stops, same, text_of,
 };
 use fastver_top::{Status, fastver};
-use fv_outside::{FreeGate, SureSink, SureSource, SureVault};
+use fv_outside::{FreeGate, SureCounter, SureSink, SureSource, SureVault};
 use std::alloc::Global;
 use std::process::Abort;
 use std::sync::Wait;
@@ -111,6 +111,7 @@ fn objects_that_never_fail(rt: HostRuntime) {
     let mut source = SureSource::new(rt.alloc(), &text, 7).expect(&rt, "memory");
     let mut out = SureSink::new(rt.alloc(), 1000, 7).expect(&rt, "memory");
     let mut vault = SureVault::new(rt.alloc(), 1000, 7).expect(&rt, "memory");
+    let mut counter = SureCounter::new(5);
     let status = fastver(
         &rt,
         rt.alloc(),
@@ -119,6 +120,7 @@ fn objects_that_never_fail(rt: HostRuntime) {
         &mut out,
         &mut vault,
         &FreeGate,
+        &mut counter,
     );
     same(&rt, "status", &status, &Status::Done { epochs: 0 });
     same(&rt, "written", &out.bytes(), &Some(ACCEPTED.as_bytes()));

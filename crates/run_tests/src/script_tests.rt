@@ -108,10 +108,12 @@ fn the_vault_holds_the_bundle_of_an_empty_script(rt: HostRuntime) {
 fn where_counters_do_not_suffice_for_the_setup_the_vault_holds_a_header(rt: HostRuntime) {
     let header = bundle_in(&rt, rt.alloc(), "cache 128 end 1\n", 18);
     let line = line_of(&rt, rt.alloc(), "2 --counter 1 --logs x");
-    let (objects, status) = served(&rt, rt.alloc(), &line, "0 get 5\n", 10);
-    let report = b"clock end worker 0 at 0.0\n";
-    objects.assert_hold(&rt, 0, report, &header, Some("x"));
-    same(&rt, "counters", 0, &status.number(), &10);
+    for script in ["", "0 get 5\n"] {
+        let (objects, status) = served(&rt, rt.alloc(), &line, script, 10);
+        let report = b"clock end worker 0 at 0.0\n";
+        objects.assert_hold(&rt, 0, report, &header, Some("x"));
+        same(&rt, "counters", 0, &status.number(), &10);
+    }
 }
 
 // Bad scripts, each with what the program then says.

@@ -3,7 +3,7 @@
 //! What must be is said by a call: a comparison that stands in a test costs far more to prove, the more is alive there.
 use bundle_rows::{Case, bundle_of, cases_of};
 use fastver_top::{Status, fastver};
-use fv_outside::{FreeGate, Gate, MemorySink, MemorySource, MemoryVault};
+use fv_outside::{FreeGate, Gate, MemoryCounter, MemorySink, MemorySource, MemoryVault};
 use std::alloc::Global;
 use std::fmt::Debug;
 use std::process::Abort;
@@ -127,7 +127,12 @@ pub(crate) fn words_of<'a>(rt: &impl Abort, alloc: Global, line: &'a str) -> Vec
     words
 }
 
-/// The same where its workers pass a gate.
+/// A counter whose first call fails: what asks it has a fault.
+pub(crate) fn counter_that_fails(rt: &impl Abort, alloc: Global) -> MemoryCounter {
+    MemoryCounter::new(alloc, 0, &[0]).expect(rt, "memory")
+}
+
+/// The same where its workers pass a gate. The counter is not asked.
 pub(crate) fn program_at<R: Threads + Wait + Sync + Abort, G: Gate + Sync>(
     rt: &R,
     alloc: Global,
@@ -142,7 +147,18 @@ pub(crate) fn program_at<R: Threads + Wait + Sync + Abort, G: Gate + Sync>(
     let mut source = MemorySource::new(alloc, bytes, piece, fails.0).expect(rt, "memory");
     let mut out = MemorySink::new(alloc, ROOM, piece, fails.1).expect(rt, "memory");
     let mut vault = MemoryVault::new(alloc, ROOM, piece, fails.2).expect(rt, "memory");
-    let status = fastver(rt, alloc, &words, &mut source, &mut out, &mut vault, gate);
+    let mut counter = counter_that_fails(rt, alloc);
+    let status = fastver(
+        rt,
+        alloc,
+        &words,
+        &mut source,
+        &mut out,
+        &mut vault,
+        gate,
+        &mut counter,
+    );
+    same(rt, "the counter", 0, &counter.faults(), &0);
     (Objects { source, out, vault }, status)
 }
 

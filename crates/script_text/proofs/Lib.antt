@@ -3,6 +3,7 @@ pub mod SplittingLaws
 mod WordLemmas
 mod DecimalLemmas
 mod ScriptLemmas
+mod SigningLemmas
 mod GeneratorLemmas
 mod KeysLemmas
 mod TextLemmas

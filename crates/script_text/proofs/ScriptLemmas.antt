@@ -1,18 +1,21 @@
 -- How the phases of a script grow line by line, and how far a script was read.
-use Rattle.std.proofs.Common.{◌≡◌, ℕ, ◌+◌, ◌≤◌, ◌==◌, true, Option, Some, None, is_some, length, List, [], ◌∷◌, ◌++◌, append_assoc, Result, Ok, Err, refl, ap, sym, ◌∙◌, arith}
+use Rattle.std.proofs.Common.{◌≡◌, ℕ, ◌+◌, ◌≤◌, ◌==◌, Bool, true, Option, Some, None, is_some, length, List, [], ◌∷◌, ◌++◌, append_assoc, Result, Ok, Err, refl, ap, sym, ◌∙◌, arith}
 use Rattle.std.specs.List.{onto_first}
 use Rattle.std.proofs.lemmas.Bool.{eqb-true}
 use Rattle.std.proofs.lemmas.Bool.Decides.{nat_tests}
 use Rattle.std.proofs.lemmas.List.{append-nil}
-use Rattle.base_words.specs.Steps.{and_then}
+use Rattle.base_words.specs.Steps.{need, and_then}
 use Rattle.lamport_clocks.specs.declared.header.Header.{Header}
 use Rattle.record_text.specs.declared.cause.Cause.{Cause}
-use Rattle.record_text.specs.declared.cause.Cause.TheVariants.{Shape}
+use Rattle.record_text.specs.declared.cause.Cause.TheVariants.{Shape, Key, Hex}
+use Rattle.record_text.specs.declared.request.Request.{Request}
+use Rattle.record_text.specs.Longest.{longest_of}
 use Rattle.script_text.specs.declared.task.Task.{Task}
 use Rattle.script_text.specs.declared.task.Line.{Line}
 use Rattle.script_text.specs.declared.task.Line.TheVariants as said
 use Rattle.script_text.specs.Lines.{lines_of, words_of, words_behind}
-use Rattle.script_text.specs.Script.{BadLine, longest_line, at_line, line_says, lines_say, words_say, with_line, phases_of, script_of, then_line}
+use Rattle.script_text.specs.Words.{key_in}
+use Rattle.script_text.specs.Script.{BadLine, Asked, asked_by, request_then, task_in, longest_line, at_line, line_says, lines_say, words_say, with_line, phases_of, script_of, then_line}
 use Rattle.script_text.proofs.SplittingLaws.{words_of-some}
 
 -- ---- a line
@@ -22,27 +25,51 @@ pub line_says-short : (header : Header) (line : List ℕ) → length line ≤ lo
 unfolding line_says
 line_says-short header line short = grind (arith, nat_tests)
 
--- five words and more are none of the forms
-pub words_say-more : (header : Header) (a b c d : List ℕ) (behind : Option (List ℕ)) → is_some behind ≡ true
-    → words_say header (a ∷ b ∷ c ∷ d ∷ words_behind behind) ≡ Err Shape
+-- behind a worker's word stands what is asked
+pub words_say-asked : (header : Header) (worker behind : List ℕ)
+    → words_say header (worker ∷ words_of behind) ≡ need (asked_by (longest_of header) (words_of behind)) Shape (task_in header worker)
 unfolding words_say
-words_say-more header a b c d None there = cc
-words_say-more header a b c d (Some line) there =
+words_say-asked header worker behind =
+    let some = words_of-some behind in
+    ap (λ words. words_say header (worker ∷ words)) some.2
+    ∙ sym (ap (λ words. need (asked_by (longest_of header) words) Shape (task_in header worker)) some.2)
+
+-- four words and more are none of the forms
+pub asked_by-more : (longest : ℕ) (a b c : List ℕ) (behind : Option (List ℕ)) → is_some behind ≡ true
+    → asked_by longest (a ∷ b ∷ c ∷ words_behind behind) ≡ None
+asked_by-more longest a b c None there = cc
+asked_by-more longest a b c (Some line) there =
     let some = words_of-some line in
-    ap (λ words. words_say header (a ∷ b ∷ c ∷ d ∷ words)) some.2
+    ap (λ words. asked_by longest (a ∷ b ∷ c ∷ words)) some.2
 
 -- words one behind another
-pub words_of-four : (line a b c d : List ℕ) (behind1 behind2 behind3 behind4 : Option (List ℕ)) (line1 line2 line3 : List ℕ)
+pub words_of-three : (line a b c : List ℕ) (behind1 behind2 behind3 : Option (List ℕ)) (line1 line2 : List ℕ)
     → words_of line ≡ a ∷ words_behind behind1 → behind1 ≡ Some line1
     → words_of line1 ≡ b ∷ words_behind behind2 → behind2 ≡ Some line2
-    → words_of line2 ≡ c ∷ words_behind behind3 → behind3 ≡ Some line3
-    → words_of line3 ≡ d ∷ words_behind behind4
-    → words_of line ≡ a ∷ b ∷ c ∷ d ∷ words_behind behind4
-words_of-four line a b c d behind1 behind2 behind3 behind4 line1 line2 line3 first is1 second is2 third is3 fourth =
+    → words_of line2 ≡ c ∷ words_behind behind3
+    → words_of line ≡ a ∷ b ∷ c ∷ words_behind behind3
+words_of-three line a b c behind1 behind2 behind3 line1 line2 first is1 second is2 third =
     first ∙ ap (λ o. a ∷ words_behind o) is1
     ∙ ap (λ words. a ∷ words) (second ∙ ap (λ o. b ∷ words_behind o) is2)
-    ∙ ap (λ words. a ∷ b ∷ words) (third ∙ ap (λ o. c ∷ words_behind o) is3)
-    ∙ ap (λ words. a ∷ b ∷ c ∷ words) fourth
+    ∙ ap (λ words. a ∷ b ∷ words) third
+
+pub words_of-two : (line a b : List ℕ) (behind1 behind2 : Option (List ℕ)) (line1 : List ℕ)
+    → words_of line ≡ a ∷ words_behind behind1 → behind1 ≡ Some line1
+    → words_of line1 ≡ b ∷ words_behind behind2
+    → words_of line ≡ a ∷ b ∷ words_behind behind2
+words_of-two line a b behind1 behind2 line1 first is1 second =
+    first ∙ ap (λ o. a ∷ words_behind o) is1 ∙ ap (λ words. a ∷ words) second
+
+-- a request is tested before what is made of it
+pub request_then-made : {A : Type 0} (wide : Bool) (asked : Asked) (made : Request → Result A Cause)
+    → request_then wide asked made ≡ and_then (request_then wide asked Ok) made
+request_then-made wide asked made = go (key_in wide asked.key) asked.value where
+  go : (k : Option ℕ) (v : Option (Option (List ℕ)))
+      → need k Key (λ key. need v Hex (λ value. made (record { put = asked.put; key = key; value = value })))
+      ≡ and_then (need k Key (λ key. need v Hex (λ value. Ok (record { put = asked.put; key = key; value = value })))) made
+  go None v = refl
+  go (Some k) None = refl
+  go (Some k) (Some v) = refl
 
 -- ---- phases
 

@@ -20,7 +20,7 @@ use Rattle.script_text.specs.declared.task.Line.{Line}
 use Rattle.script_text.specs.declared.task.Line.TheVariants as said
 use Rattle.script_text.specs.Lines.{line_feed, blank, lines_of, words_of}
 use Rattle.script_text.specs.Words.{worker_in, key_in, value_in}
-use Rattle.script_text.specs.Script.{BadLine, longest_line, task_in, words_say, line_says, at_line, lines_say, phases_of, script_of}
+use Rattle.script_text.specs.Script.{BadLine, longest_line, asking, asked_by, task_in, words_say, line_says, at_line, lines_say, phases_of, script_of}
 use Rattle.script_text.specs.Text.{value_word, request_words, task_line, task_text, phase_text, behind_text, script_text, IsTask, AreTasks, IsScriptOf}
 use Rattle.script_text.proofs.ScriptLemmas.{some_phase}
 use Rattle.script_text.proofs.DecimalLemmas.{key-fits}
@@ -40,7 +40,7 @@ pub record Tells (header : Header) (first third : List ℕ) (is_put : Bool) (fou
   pub value : found ≡ Some task.request.value
 
 task_in-tells : (header : Header) (worker key : List ℕ) (put : Bool) (value : Option (Option (List ℕ))) (line : Line) → header.verifiers < 2 ^ 16
-    → task_in header worker key put value ≡ Ok line → Tells header worker key put value line
+    → task_in header worker (asking put key value) ≡ Ok line → Tells header worker key put value line
 unfolding task_in
 task_in-tells header worker key put value line few is = go (worker_in header.verifiers worker) refl (key_in (wide_of header) key) refl value refl is where
   go : (w : Option ℕ) → worker_in header.verifiers worker ≡ w → (k : Option ℕ) → key_in (wide_of header) key ≡ k → (v : Option (Option (List ℕ))) → value ≡ v
@@ -98,9 +98,7 @@ words-four is_put verb key value bytes same is is_verb =
 
 -- a get, or a put of none
 says-three : (header : Header) (worker verb key : List ℕ) (read : Line) → header.verifiers < 2 ^ 16
-    → (if bytes_eq verb (codes "get") then task_in header worker key false (Some None)
-    else if bytes_eq verb (codes "del") then task_in header worker key true (Some None)
-    else Err Shape) ≡ Ok read
+    → need (asked_by (longest_of header) (verb ∷ key ∷ [])) Shape (task_in header worker) ≡ Ok read
     → IsSpelled header (worker ++ blank ∷ (verb ++ blank ∷ key)) read
 says-three header worker verb key read few is = get (bytes_eq verb (codes "get")) refl (bytes_eq verb (codes "del")) refl is where
   none_of : (value : Option (List ℕ)) → Some None ≡ Some value → value ≡ None
@@ -119,20 +117,21 @@ says-three header worker verb key read few is = get (bytes_eq verb (codes "get")
       (ap (λ w. w ++ blank ∷ (verb ++ blank ∷ key)) told.worker ∙ ap (λ k. decimal task.worker ++ blank ∷ (verb ++ blank ∷ k)) told.key ∙ ap (λ text. decimal task.worker ++ text) (sym words))
       (nothing (λ bytes. length bytes ≤ longest_of header) task.request.value value) (nothing IsBytes task.request.value value) (λ _. value)
 
-  del : (test : Bool) → bytes_eq verb (codes "del") ≡ test → (if test then task_in header worker key true (Some None) else Err Shape) ≡ Ok read
+  del : (test : Bool) → bytes_eq verb (codes "del") ≡ test
+      → need (if test then Some (asking true key (Some None)) else None) Shape (task_in header worker) ≡ Ok read
       → IsSpelled header (worker ++ blank ∷ (verb ++ blank ∷ key)) read
   del true tested same = spelled true (task_in-tells header worker key true (Some None) read few same) ((bytes_eq-Decides verb (codes "del")).0 tested)
   del false tested same = cc
 
   get : (test : Bool) → bytes_eq verb (codes "get") ≡ test → (more : Bool) → bytes_eq verb (codes "del") ≡ more
-      → (if test then task_in header worker key false (Some None) else if more then task_in header worker key true (Some None) else Err Shape) ≡ Ok read
+      → need (if test then Some (asking false key (Some None)) else if more then Some (asking true key (Some None)) else None) Shape (task_in header worker) ≡ Ok read
       → IsSpelled header (worker ++ blank ∷ (verb ++ blank ∷ key)) read
   get true tested more is_more same = spelled false (task_in-tells header worker key false (Some None) read few same) ((bytes_eq-Decides verb (codes "get")).0 tested)
   get false tested more is_more same = del more is_more same
 
 -- a put
 says-four : (header : Header) (worker verb key value : List ℕ) (read : Line) → header.verifiers < 2 ^ 16
-    → (if bytes_eq verb (codes "put") then task_in header worker key true (option_map Some (value_in (longest_of header) value)) else Err Shape) ≡ Ok read
+    → need (asked_by (longest_of header) (verb ∷ key ∷ value ∷ [])) Shape (task_in header worker) ≡ Ok read
     → IsSpelled header (worker ++ blank ∷ (verb ++ blank ∷ (key ++ blank ∷ value))) read
 says-four header worker verb key value read few is = put (bytes_eq verb (codes "put")) refl is where
   found : (may : Option (List ℕ)) (task_value : Option (List ℕ)) → option_map Some may ≡ Some task_value → (bytes : List ℕ) × (may ≡ Some bytes) × (task_value ≡ Some bytes)
@@ -157,7 +156,7 @@ says-four header worker verb key value read few is = put (bytes_eq verb (codes "
       (λ is_get. let e : true ≡ false = sym told.put ∙ is_get in cc)
 
   put : (test : Bool) → bytes_eq verb (codes "put") ≡ test
-      → (if test then task_in header worker key true (option_map Some (value_in (longest_of header) value)) else Err Shape) ≡ Ok read
+      → need (if test then Some (asking true key (option_map Some (value_in (longest_of header) value))) else None) Shape (task_in header worker) ≡ Ok read
       → IsSpelled header (worker ++ blank ∷ (verb ++ blank ∷ (key ++ blank ∷ value))) read
   put true tested same = spelled (task_in-tells header worker key true (option_map Some (value_in (longest_of header) value)) read few same) ((bytes_eq-Decides verb (codes "put")).0 tested)
   put false tested same = cc

@@ -17,7 +17,7 @@ use Rattle.script_text.specs.declared.task.Line.{Line}
 use Rattle.script_text.specs.declared.task.Line.TheVariants as said
 use Rattle.script_text.specs.Lines.{line_feed, blank, lines_of, words_of}
 use Rattle.script_text.specs.Words.{value_in}
-use Rattle.script_text.specs.Script.{longest_line, task_in, words_say, line_says, at_line, lines_say, phases_of, script_of}
+use Rattle.script_text.specs.Script.{asking, longest_line, task_in, words_say, line_says, at_line, lines_say, phases_of, script_of}
 use Rattle.script_text.specs.Text.{value_word, request_words, task_line, task_text, phase_text, behind_text, script_text, IsTask, AreTasks}
 use Rattle.script_text.proofs.DecimalLemmas.{key-fits, length-key-le}
 use Rattle.script_text.proofs.SplittingLaws.{IsOther, IsWithout, lines_of-at, words_of-at, words_of-last}
@@ -43,7 +43,7 @@ IsWithout-from_test byte (b ∷ bytes) test =
 -- a task that its words ask
 says-task : (header : Header) (worker key : ℕ) (put : Bool) (value : Option (Option (List ℕ))) (data_value : Option (List ℕ))
     → worker < header.verifiers → header.verifiers < 2 ^ 16 → key < 2 ^ key_bits (wide_of header) → value ≡ Some data_value
-    → task_in header (decimal worker) (decimal key) put value
+    → task_in header (decimal worker) (asking put (decimal key) value)
     ≡ Ok (said.Task (record { worker = worker; request = record { put = put; key = key; value = data_value } }))
 unfolding task_in
 says-task header worker key put value data_value one few small is =

@@ -3,6 +3,7 @@ pub mod Lines
 pub mod Words
 pub mod Script
 pub mod Text
+pub mod Signing
 pub mod Generator
 pub mod Heads
 pub mod Extents

@@ -6,6 +6,7 @@ use Rattle.std.specs.Str.{bytes_eq}
 use Rattle.base_words.specs.Steps.{need, and_then}
 use Rattle.lamport_clocks.specs.declared.header.Header.{Header}
 use Rattle.record_text.specs.declared.cause.Cause.{Cause}
+use Rattle.record_text.specs.declared.request.Request.{Request}
 use Rattle.record_text.specs.declared.cause.Cause.TheVariants.{Shape, Worker, Key, Hex}
 use Rattle.record_text.specs.Longest.{longest_of}
 use Rattle.record_text.specs.Tree.{wide_of}
@@ -23,25 +24,42 @@ use Rattle.script_text.specs.Words.{worker_in, key_in, value_in}
 abbrev pub longest_line : Header → ℕ
 longest_line header = if nat_lt header.version 3 then 256 else 640
 
--- a get or a put of a worker, of a key and with a value, tested in this order
-unfoldable pub task_in : Header → List ℕ → List ℕ → Bool → Option (Option (List ℕ)) → Result Line Cause
-task_in header worker key put value =
-    need (worker_in header.verifiers worker) Worker (λ w.
-    need (key_in (wide_of header) key) Key (λ k.
-    need value Hex (λ v.
-    Ok (said.Task (record { worker = w; request = record { put = put; key = k; value = v } })))))
+-- what words ask for: a get or a put, the word of its key, and what is put, where the word of that is a data value
+pub record Asked : Type 0 where
+  pub put : Bool
+  pub key : List ℕ
+  pub value : Option (Option (List ℕ))
 
--- the forms of a line, by the number of its words and the second of them
+abbrev pub asking : Bool → List ℕ → Option (Option (List ℕ)) → Asked
+asking put key value = record { put = put; key = key; value = value }
+
+-- the forms of words, from the one on that says what is asked, by their number and that word
+abbrev pub asked_by : ℕ → List (List ℕ) → Option Asked
+asked_by longest (verb ∷ key ∷ []) =
+    if bytes_eq verb (codes "get") then Some (asking false key (Some None))
+    else if bytes_eq verb (codes "del") then Some (asking true key (Some None))
+    else None
+asked_by longest (verb ∷ key ∷ value ∷ []) =
+    if bytes_eq verb (codes "put") then Some (asking true key (option_map Some (value_in longest value))) else None
+asked_by longest words = None
+
+-- the request that is asked, its key and then its value tested, and what is made of it
+abbrev pub request_then : {A : Type 0} → Bool → Asked → (Request → Result A Cause) → Result A Cause
+request_then wide asked made =
+    need (key_in wide asked.key) Key (λ key. need asked.value Hex (λ value. made (record { put = asked.put; key = key; value = value })))
+
+-- the task of a worker, tested in this order
+unfoldable pub task_in : Header → List ℕ → Asked → Result Line Cause
+task_in header worker asked =
+    need (worker_in header.verifiers worker) Worker (λ w.
+    request_then (wide_of header) asked (λ request.
+    Ok (said.Task (record { worker = w; request = request }))))
+
+-- what the words of a line say: one closes an epoch, and behind a worker's stands what is asked
 unfoldable pub words_say : Header → List (List ℕ) → Result Line Cause
+words_say header [] = Err Shape
 words_say header (word ∷ []) = if bytes_eq word (codes "epoch") then Ok said.Epoch else Err Shape
-words_say header (worker ∷ verb ∷ key ∷ []) =
-    if bytes_eq verb (codes "get") then task_in header worker key false (Some None)
-    else if bytes_eq verb (codes "del") then task_in header worker key true (Some None)
-    else Err Shape
-words_say header (worker ∷ verb ∷ key ∷ value ∷ []) =
-    if bytes_eq verb (codes "put") then task_in header worker key true (option_map Some (value_in (longest_of header) value))
-    else Err Shape
-words_say header words = Err Shape
+words_say header (worker ∷ verb ∷ words) = need (asked_by (longest_of header) (verb ∷ words)) Shape (task_in header worker)
 
 -- What a line says in a script for this header, or the first cause for which it is refused.
 unfoldable pub line_says : Header → List ℕ → Result Line Cause
@@ -91,6 +109,6 @@ then_line (phase ∷ []) (said.Task task) = (phase ++ task ∷ []) ∷ []
 then_line (phase ∷ next ∷ phases) (said.Task task) = phase ∷ then_line (next ∷ phases) (said.Task task)
 
 -- a fault that names a line names the one that is refused
-abbrev pub IsFaultOf : Result (List (List Task)) BadLine → ScriptFault → Type 0
+abbrev pub IsFaultOf : {A : Type 0} → Result A BadLine → ScriptFault → Type 0
 IsFaultOf script (BadScript line cause) = script ≡ Err (record { line = line; cause = cause })
 IsFaultOf script Memory = Unit {0}

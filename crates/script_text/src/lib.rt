@@ -4,9 +4,11 @@
 //! mean as a script is defined in `specs/Script.antt`, over the lines and words of `specs/Lines.antt` and
 //! `specs/Words.antt`. The crate stands on `record_text` for requests and for the causes of a refused line, and on the
 //! kit's `hex` and `memchr`. Begin with `Requests` in `requests.rt`, which reads a script. `task_list.rt` keeps
-//! its tasks, of which `Phase` lends those of one phase. `generator.rt` makes a script of a seed, in place of one that is read.
+//! its tasks, of which `Phase` lends those of one phase. `generator.rt` makes a script of a seed, in place of one that is read. `signing.rt` signs
+//! the requests of a client, by `client_requests`.
 #![tactic(auto)]
 
+mod asked;
 mod extent;
 mod fault;
 mod generator;
@@ -16,6 +18,7 @@ mod line;
 mod phase;
 mod requests;
 mod shape;
+mod signing;
 mod splitting;
 mod task;
 mod task_list;
@@ -29,6 +32,7 @@ pub use laws::{keys_are_of_one_worker, scripts_are_read_back};
 pub use phase::Phase;
 pub use requests::Requests;
 pub use shape::Shape;
+pub use signing::{Numbered, sign_lines};
 pub use task::{Line, Task};
 pub use task_ref::TaskRef;
 pub use writing::write_script;

@@ -5,10 +5,11 @@ ghost use Rattle.std.specs.Option.{option_map};
 ghost use Rattle.std.specs.Result.{result_ok};
 ghost use Rattle.hex.specs.Hex.{decode_of};
 ghost use Rattle.script_text.specs.Words.{begins_well, number_in, below, worker_in, key_in, is_lower_digit, is_value, value_in};
+ghost use Rattle.script_text.specs.Signing.{number_behind};
 
 use record_text::{Blob, LONGEST_BLOB};
 
-// The greatest key of 64 bits.
+// The greatest number of 64 bits.
 const LAST_SHORT_KEY: u128 = 18_446_744_073_709_551_615;
 
 /// The number of a worker, one of so many.
@@ -17,6 +18,18 @@ pub(crate) fn worker(word: &[u8], verifiers: u16) -> Option<u16>
 {
     match number(word) {
         Some(worker) if worker < u128::from(verifiers) => Some(worker as u16),
+        _ => None,
+    }
+}
+
+/// The number of a request behind one of this number: of 64 bits, and above it.
+pub(crate) fn number_behind(last: u64, word: &[u8]) -> Option<u64>
+    ensures value { result ≡ number_behind last word.now }
+{
+    match number(word) {
+        Some(number) if number <= LAST_SHORT_KEY && number > u128::from(last) => Some(
+            number as u64,
+        ),
         _ => None,
     }
 }

@@ -8,7 +8,7 @@ use crate::phase::Phase;
 use crate::requests::Requests;
 use crate::task_ref::TaskRef;
 use base_words::Memory;
-use record_text::LONGEST_BLOB;
+use record_text::{BlobRef, LONGEST_BLOB};
 use std::alloc::Global;
 
 /// The script of these phases. It is read as them.
@@ -41,32 +41,36 @@ fn write_task(task: &TaskRef, text: &mut Vec<u8>) -> Result<(), Memory>
     ensures appended { OnOk result (text.new.items ≡ text.old.items ++ task_text task.now) }
 {
     write_decimal(u128::from(task.worker()), text)?;
-    write_request(task, text)?;
+    write_request(task.is_put(), task.key(), &task.value(), text)?;
     text.push(b'\n')?;
     Ok(())
 }
 
-// Adds the words behind the number of a worker.
-fn write_request(task: &TaskRef, text: &mut Vec<u8>) -> Result<(), Memory>
-    ensures appended { OnOk result (text.new.items ≡ text.old.items
-        ++ request_words task.now.request.put task.now.request.key task.now.request.value) }
+/// Adds the words of a request, behind those that say who asks it.
+pub(crate) fn write_request(
+    put: bool,
+    key: u128,
+    value: &BlobRef,
+    text: &mut Vec<u8>,
+) -> Result<(), Memory>
+    ensures appended { OnOk result (text.new.items ≡ text.old.items ++ request_words put key value.now) }
 {
-    if !task.is_put() {
+    if !put {
         text.extend_from_slice(b" get ")?;
-        return write_decimal(task.key(), text);
+        return write_decimal(key, text);
     }
-    let Some(bytes) = task.value().bytes() else {
+    let Some(bytes) = value.bytes() else {
         text.extend_from_slice(b" del ")?;
-        return write_decimal(task.key(), text);
+        return write_decimal(key, text);
     };
     text.extend_from_slice(b" put ")?;
-    write_decimal(task.key(), text)?;
+    write_decimal(key, text)?;
     text.push(b' ')?;
     write_value(bytes, text)
 }
 
-// Adds a number in decimal.
-fn write_decimal(number: u128, text: &mut Vec<u8>) -> Result<(), Memory>
+/// Adds a number in decimal.
+pub(crate) fn write_decimal(number: u128, text: &mut Vec<u8>) -> Result<(), Memory>
     ensures appended { OnOk result (text.new.items ≡ text.old.items ++ decimal number) }
 {
     let mut buffer = itoa::Buffer::new();
@@ -83,6 +87,14 @@ fn write_value(bytes: &[u8], text: &mut Vec<u8>) -> Result<(), Memory>
         text.push(b'.')?;
         return Ok(());
     }
+    write_digits(bytes, text)
+}
+
+/// Adds two digits for each of these bytes.
+pub(crate) fn write_digits(bytes: &[u8], text: &mut Vec<u8>) -> Result<(), Memory>
+    requires few { length bytes.now ≤ LONGEST_BLOB }
+    ensures appended { OnOk result (text.new.items ≡ text.old.items ++ encode_lower bytes.now) }
+{
     let mut digits = [0; 2 * LONGEST_BLOB];
     let digits = encode(bytes, &mut digits);
     text.extend_from_slice(digits)?;

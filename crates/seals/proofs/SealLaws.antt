@@ -6,7 +6,6 @@ use Rattle.std.specs.List.{flat_map}
 use Rattle.std.proofs.lemmas.Bool.{leb-true, le-leb, eqb-true}
 use Rattle.std.proofs.lemmas.List.{take_at, take-append-le}
 use Rattle.lamport_clocks.specs.declared.header.Header.{Header}
-use Rattle.lamport_clocks.specs.Header.{IsHeader}
 use Rattle.record_hash.specs.Functions.{DigestFunctions}
 use Rattle.receipts.specs.Receipts.{tagged}
 use Rattle.record_text.specs.declared.reader.TextFault.TheVariants.{Truncated}
@@ -44,10 +43,6 @@ codec-head =
     codec-then _ _ _ _ (λ counter f. to_be_bytes w64 f.0 ++ (header_text f.1.0 ++ to_be_bytes w32 f.1.1)) (λ counter f. (IsTrue (at_most most_taken f.0) × (f.0 < 2 ^ 64)) × (IsGoodHeader f.1.0 × (f.1.1 < 2 ^ 32))) codec-u64 (λ counter small.
     codec-then _ _ _ _ (λ taken f. header_text f.0 ++ to_be_bytes w32 f.1) (λ taken f. IsGoodHeader f.0 × (f.1 < 2 ^ 32)) (codec-tested (at_most most_taken) u64_at (to_be_bytes w64) (λ n. n < 2 ^ 64) codec-u64) (λ taken few.
     codec-then _ _ _ _ (λ header certified. to_be_bytes w32 certified) (λ header certified. certified < 2 ^ 32) codec-header (λ header ranges. codec-u32))))
-
--- a header that was read is in its ranges
-pub head_ranges : (bytes : List ℕ) (f : HeadFields) (rest : List ℕ) → AreBytes bytes → head_at bytes ≡ Ok (f, rest) → IsHeader f.1.1.1.0
-head_ranges bytes f rest fits e = (codec-head.begins bytes f rest fits e).1.1.1.1.0.ranges
 
 keeps_on-head : KeepsOn head_at
 unfolding head_at
@@ -207,6 +202,20 @@ whole_tagged functions bytes state count fits whole =
     let tag : whole.tag ≡ functions.tag (seal_text (seal_in state)) = sym whole.tagged ∙ ap functions.tag front in
     let len : length (seal_text (seal_in state) ++ whole.tag) ≡ count = omega (arith, ap length spelled.0, length-append (seal_text (seal_in state) ++ whole.tag) whole.rest, whole.counted) in
     (ap (take count) spelled.0 ∙ (take_at (seal_text (seal_in state) ++ whole.tag) whole.rest count len ∙ ap (λ (t : List ℕ). seal_text (seal_in state) ++ t) tag), spelled.1)
+
+-- ---- bytes begin with one seal
+
+pub one_seal : (functions : DigestFunctions) (bytes : List ℕ) (state other : SealedState) (count size : ℕ) → IsWhole functions bytes state count → IsWhole functions bytes other size
+    → (seal_in state ≡ seal_in other) × (count ≡ size)
+one_seal functions bytes state other count size whole again =
+    let same = Ok-is ((seal_in state, whole.tag), whole.rest) ((seal_in other, again.tag), again.rest) (sym whole.read ∙ again.read) in
+    (ap (λ (f : (Seal × List ℕ) × List ℕ). f.0.0) same, omega (arith, whole.counted, again.counted, ap (λ (f : (Seal × List ℕ) × List ℕ). length f.1) same))
+
+pub one_tag : (functions : DigestFunctions) (bytes : List ℕ) (state : SealedState) (count : ℕ) → IsWhole functions bytes state count → IsUntagged functions bytes → ⊥
+one_tag functions bytes state count whole untagged =
+    let same = Ok-is ((seal_in state, whole.tag), whole.rest) ((untagged.seal, untagged.tag), untagged.rest) (sym whole.read ∙ untagged.read) in
+    untagged.other
+    (ap (λ (f : (Seal × List ℕ) × List ℕ). functions.tag (tagged_front bytes f.1)) (sym same) ∙ (whole.tagged ∙ ap (λ (f : (Seal × List ℕ) × List ℕ). f.0.1) same))
 
 -- ---- more bytes behind a seal
 

@@ -89,7 +89,7 @@ good_sum : (most : ℕ) (sum : Tally) → IsTally sum → sum.count ≤ most →
 good_sum most sum is within =
     let bounded = each_lane (sum.count * (2 ^ 32 - 1)) sum.lanes is.bounded in
     let small : sum.count * (2 ^ 32 - 1) < 2 ^ 63 = omega (arith, is.count) in
-    record { eight = is.eight; lanes = lanes_fit (sum.count * (2 ^ 32 - 1)) sum.lanes small bounded; count = omega (arith, is.count); within = within; bounded = bounded }
+    record { eight = is.eight; lanes = lanes_fit (sum.count * (2 ^ 32 - 1)) sum.lanes small bounded; count = is.count; within = within; bounded = bounded }
 
 good_parts : (bounds : Bounds) (parts : List Part) → AllByRecursion (IsPartOf bounds.number) parts → AreSmall bounds.header parts → AllByRecursion (IsGoodPart bounds) parts
 good_parts bounds [] parts small = tt

@@ -1,8 +1,8 @@
 -- Sums and parts are read as they are spelled.
-use Rattle.std.proofs.Common.{◌≡◌, ℕ, ◌*◌, ◌-◌, ◌^◌, ◌<◌, ◌≤◌, leb, Bool, true, false, cond, List, [], ◌∷◌, ◌++◌, Option, Some, None, refl, sym, ap, subst}
+use Rattle.std.proofs.Common.{arith, ◌≡◌, ℕ, ◌*◌, ◌-◌, ◌^◌, ◌<◌, ◌≤◌, leb, Bool, true, false, cond, List, [], ◌∷◌, ◌++◌, Option, Some, None, refl, sym, ap, subst}
 use Rattle.std.specs.List.{flat_map, list_all, AllByRecursion}
 use Rattle.std.specs.Int.{w32, w64, to_be_bytes}
-use Rattle.std.proofs.lemmas.Bool.{leb-true, le-leb, and_parts, and_from}
+use Rattle.std.proofs.lemmas.Bool.{leb-true, le-leb, ltb-true, lt-ltb, and_parts, and_from}
 use Rattle.multiset_sum.specs.Tally.{Tally}
 use Rattle.multiset_sum.specs.Sum.{sum_with}
 use Rattle.multiset_sum.specs.declared.part.Part.{Part}
@@ -44,20 +44,21 @@ picked-sum most = record {
   back = λ f sum good e.
       let passed = summed (is_sum most f.0 f.1) (sum_with f.0 f.1) sum e in
       let tests = and_parts _ _ passed.0 in
+      let is_one = and_parts _ _ tests.1 in
       let P : Tally → Type 0 = λ x. ((x.lanes, x.count) ≡ f) × IsGoodSum most x in
       subst P {x = sum_with f.0 f.1} passed.1 (
         refl,
         record {
           eight = good.0.0;
           lanes = good.0.2;
-          count = good.1;
+          count = ltb-true _ _ is_one.0;
           within = leb-true _ _ tests.0;
-          bounded = all_at_most (f.1 * (2 ^ 32 - 1)) f.0 tests.1;
+          bounded = all_at_most (f.1 * (2 ^ 32 - 1)) f.0 is_one.1;
         },
       );
   again = λ sum good.
-      let passes : is_sum most sum.lanes sum.count ≡ true = and_from _ _ (le-leb _ _ good.within) (at_most_all (sum.count * (2 ^ 32 - 1)) sum.lanes good.bounded) in
-      (ap (λ (b : Bool). cond b (Some (sum_with sum.lanes sum.count)) None) passes, ((good.eight, free_row None sum.lanes, good.lanes), good.count));
+      let passes : is_sum most sum.lanes sum.count ≡ true = and_from _ _ (le-leb _ _ good.within) (and_from _ _ (lt-ltb _ _ good.count) (at_most_all (sum.count * (2 ^ 32 - 1)) sum.lanes good.bounded)) in
+      (ap (λ (b : Bool). cond b (Some (sum_with sum.lanes sum.count)) None) passes, ((good.eight, free_row None sum.lanes, good.lanes), omega (arith, good.count)));
 }
 
 codec-lanes : IsCodec lanes_at (flat_map (to_be_bytes w64)) (AreRow (λ previous lane. true) (λ lane. lane < 2 ^ 64) None 8)

@@ -1,5 +1,11 @@
 -- Texts that are written piece by piece.
-use Rattle.std.proofs.Common.{◌≡◌, ℕ, List, [], ◌++◌, ap, ◌∙◌, append_assoc}
+use Rattle.std.proofs.Common.{◌≡◌, ℕ, ◌+◌, ◌≤◌, List, [], ◌++◌, length, ap, ◌∙◌, append_assoc, length-append, arith}
+use Rattle.std.specs.Int.{w32, w64, to_be_bytes}
+use Rattle.std.specs.List.{flat_map}
+use Rattle.bundle_frames.specs.Bundle.{header_text}
+use Rattle.seals.specs.State.{Seal}
+use Rattle.seals.specs.Run.{run_text}
+use Rattle.seals.specs.Seal.{magic_number, seal_text}
 
 -- two pieces, each behind those before it
 pub both_joined : (old a b t1 t2 : List ℕ) → t1 ≡ old ++ a → t2 ≡ t1 ++ b → t2 ≡ old ++ (a ++ b)
@@ -21,3 +27,11 @@ pub seal_joined : (tag : List ℕ → List ℕ) (head runs own t0 t1 t2 t3 : Lis
 seal_joined tag head runs own t0 t1 t2 t3 e0 e1 e2 e3 is =
     let whole : t2 ≡ head ++ runs = e2 ∙ ap (λ (t : List ℕ). t ++ runs) (e1 ∙ ap (λ (t : List ℕ). t ++ head) e0) in
     e3 ∙ (ap (λ (t : List ℕ). t2 ++ t) is ∙ ap (λ (t : List ℕ). t ++ tag t) whole)
+
+-- a seal has room for its number and its tag
+pub seal_long : (text tag : List ℕ) (seal : Seal) → text ≡ seal_text seal ++ tag → length tag ≡ 32 → 44 ≤ length text
+seal_long text tag seal is len =
+    let behind = (to_be_bytes w64 seal.taken ++ (header_text seal.header ++ to_be_bytes w32 seal.certified)) ++ flat_map run_text seal.runs in
+    let front = to_be_bytes w32 magic_number ++ to_be_bytes w64 seal.counter in
+    let size : length (seal_text seal) ≡ length front + length behind = length-append front behind in
+    omega (arith, ap length is, length-append (seal_text seal) tag)

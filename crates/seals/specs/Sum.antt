@@ -1,9 +1,9 @@
 -- The sum of a multiset as a text, the part of a sealed epoch, and what bytes mean as such.
 use Rattle.std.specs.Prelude.{◌≡◌, ◌<◌, ◌≤◌, ◌^◌, ℕ, ◌*◌, ◌-◌, ◌&&◌, nat_le, Bool, true, List, ◌++◌, length, Option, Some, None, if◌then◌else◌}
 use Rattle.std.specs.Int.{w32, w64, to_be_bytes}
-use Rattle.std.specs.List.{flat_map, list_all, AllByRecursion}
+use Rattle.std.specs.List.{flat_map, AllByRecursion}
 use Rattle.multiset_sum.specs.Tally.{Tally}
-use Rattle.multiset_sum.specs.Sum.{sum_with}
+use Rattle.multiset_sum.specs.Sum.{sum_with, is_tally}
 use Rattle.multiset_sum.specs.declared.part.Part.{Part}
 use Rattle.record_text.specs.Fields.{Parsed}
 use Rattle.record_text.specs.Reading.{u32_at, u64_at}
@@ -11,9 +11,9 @@ use Rattle.seals.specs.declared.bounds.Bounds.{Bounds}
 use Rattle.seals.specs.Combined.{then_at, pick_at, row_at}
 use Rattle.seals.specs.Bounds.{most_sealed}
 
--- so many elements are no more than these, and each gave a lane at most 2^32 - 1
+-- these may be the lanes of so many elements, which are no more than these
 abbrev pub is_sum : ℕ → List ℕ → ℕ → Bool
-is_sum most lanes count = nat_le count most && list_all (λ lane. nat_le lane (count * (2 ^ 32 - 1))) lanes
+is_sum most lanes count = nat_le count most && is_tally lanes count
 
 -- the sum of at most so many elements with these lanes and this count
 abbrev pub sum_in : ℕ → List ℕ × ℕ → Option Tally
@@ -34,7 +34,7 @@ sum_text sum = flat_map (to_be_bytes w64) sum.lanes ++ to_be_bytes w64 sum.count
 pub record IsGoodSum (most : ℕ) (sum : Tally) : Type 0 where
   pub eight : length sum.lanes ≡ 8
   pub lanes : AllByRecursion (λ lane. lane < 2 ^ 64) sum.lanes
-  pub count : sum.count < 2 ^ 64
+  pub count : sum.count < 2 ^ 31
   pub within : sum.count ≤ most
   pub bounded : AllByRecursion (λ lane. lane ≤ sum.count * (2 ^ 32 - 1)) sum.lanes
 

@@ -34,7 +34,6 @@ pub(crate) trait Item: Drop {
 
     /// The item that the bytes begin with.
     fn read(bounds: &Bounds, reader: &mut Reader<'_>) -> Result<Self, TextFault>
-        requires small { bounds.now.header.end ≤ 16777215 }
         ensures takes { Takes result reader.new (read_as bounds.now reader.old) };
 
     /// Whether it may stand behind another, or be the first.
@@ -49,7 +48,6 @@ pub(crate) fn read_row<T: Item>(
     count: u64,
     reader: &mut Reader<'_>,
 ) -> Result<Vec<T>, Fault>
-    requires small { bounds.now.header.end ≤ 16777215 }
     ensures reads { Reads (λ made. made.items) result reader.new
         (row_at (T.may_follow bounds.now) (T.read_as bounds.now) None count reader.old) }
 {

@@ -56,6 +56,16 @@ pub fn whole_seals_are_tagged()
         → IsGoodSeal (seal_in state) }
 {}
 
+/// Bytes begin with no more than one seal, of so many bytes, and its tag holds or it doesn't.
+pub fn bytes_begin_with_one_seal()
+    ensures state { (functions : DigestFunctions) (bytes : List ℕ) (state other : SealedState) (count size : ℕ)
+        → IsWhole functions bytes state count → IsWhole functions bytes other size → seal_in state ≡ seal_in other }
+    ensures count { (functions : DigestFunctions) (bytes : List ℕ) (state other : SealedState) (count size : ℕ)
+        → IsWhole functions bytes state count → IsWhole functions bytes other size → count ≡ size }
+    ensures tag { (functions : DigestFunctions) (bytes : List ℕ) (state : SealedState) (count : ℕ)
+        → IsWhole functions bytes state count → IsUntagged functions bytes → ⊥ }
+{}
+
 /// More bytes behind change neither what was read as a seal, nor that the bytes are none: so an answer to the front of a source stands
 /// whatever follows, but that it is open.
 pub fn seals_keep_on()

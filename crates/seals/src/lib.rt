@@ -25,8 +25,8 @@ mod writing;
 
 pub use answer::{ReadSeal, SealFront};
 pub use laws::{
-    bounds_say_more, runs_are_read_back, seals_are_read_back, seals_keep_on,
-    seals_take_their_numbers, what_stands_is_good, whole_seals_are_tagged,
+    bounds_say_more, bytes_begin_with_one_seal, runs_are_read_back, seals_are_read_back,
+    seals_keep_on, seals_take_their_numbers, what_stands_is_good, whole_seals_are_tagged,
 };
 pub use placing::{Unplaced, place};
 pub use reading::{read_seal, read_seal_front};

@@ -1,8 +1,10 @@
 //! The texts of a sum and of a part, both ways.
-ghost use Rattle.std.specs.Prelude.{nat_le, ◌≡◌, ◌+◌, ◌≤◌, ◌^◌, ◌<◌, ◌++◌};
+ghost use Rattle.std.specs.Prelude.{◌≡◌, ◌+◌, ◌≤◌, ◌++◌, IsTrue};
 ghost use Rattle.std.specs.Int.{w64, to_be_bytes};
-ghost use Rattle.std.specs.List.{flat_map, list_all};
+ghost use Rattle.std.specs.List.{flat_map};
 ghost use Rattle.std.specs.Option.{option_copied};
+ghost use Rattle.multiset_sum.specs.Tally.{IsTally};
+ghost use Rattle.multiset_sum.specs.Sum.{sum_with};
 ghost use Rattle.arrayvec.specs.ArrayVec.{array_vec_len};
 ghost use Rattle.record_text.specs.Fields.{Takes};
 ghost use Rattle.seals.specs.Sum.{is_sum, lanes_at, sum_at, sum_text};
@@ -12,9 +14,6 @@ use crate::item::{Item, LONGEST_ITEM};
 use arrayvec::ArrayVec;
 use multiset_sum::{Part, Sum};
 use record_text::{Reader, TextFault, push_u32, push_u64};
-
-// The most that an element gives to a lane.
-const MOST_LANE: u64 = 4_294_967_295;
 
 impl Item for Part {
     ghost use Rattle.seals.specs.Sum.{part_at, part_text};
@@ -55,7 +54,6 @@ impl Item for Part {
 /// The sum of at most so many elements that the bytes begin with.
 #[tactic(auto, unfolding(crate::specs::Sum::sum_at))]
 pub(crate) fn read_sum(most: u64, reader: &mut Reader<'_>) -> Result<Sum, TextFault>
-    requires small { most < 2 ^ 31 }
     ensures takes { Takes result reader.new (sum_at most reader.old) }
 {
     let lanes = read_lanes(reader)?;
@@ -82,19 +80,12 @@ fn read_lanes(reader: &mut Reader<'_>) -> Result<[u64; 8], TextFault>
     Ok([lane0, lane1, lane2, lane3, lane4, lane5, lane6, lane7])
 }
 
-// Whether so many elements are no more than these and can have given these lanes.
-fn is_sum(most: u64, lanes: &[u64], count: u64) -> bool
-    requires small { most < 2 ^ 31 }
+// Whether these may be the lanes of so many elements, which are no more than these.
+fn is_sum(most: u64, lanes: &[u64; 8], count: u64) -> bool
     ensures value { result ≡ is_sum most lanes.now count }
+    ensures tally { IsTrue result → IsTally (sum_with lanes.now count) }
 {
-    count <= most && are_at_most(count * MOST_LANE, lanes)
-}
-
-// Whether no lane is more than this.
-fn are_at_most(most: u64, lanes: &[u64]) -> bool
-    ensures value { result ≡ list_all (λ lane. nat_le lane most) lanes.now }
-{
-    lanes.iter().all(|lane| *lane <= most)
+    count <= most && Sum::is_sum(lanes, count)
 }
 
 /// Appends the text of a sum, of 72 bytes.

@@ -1,5 +1,5 @@
 //! Reads a seal.
-ghost use Rattle.std.specs.Prelude.{◌≡◌, ◌≤◌, length, take, map, Ok, Err, IfOk, IfErr};
+ghost use Rattle.std.specs.Prelude.{◌≡◌, ◌↔◌, IsTrue, ◌≤◌, length, take, map, Ok, Err, IfOk, IfErr};
 ghost use Rattle.record_text.specs.Fields.{Takes};
 ghost use Rattle.seals.specs.Seal.{header_at, head_at, runs_at, untagged_at, tag_bytes};
 ghost use Rattle.seals.specs.Kept.{kept_in, seal_in, head_in};
@@ -83,7 +83,6 @@ fn read_header<'a>(bytes: &'a [u8], reader: &mut Reader<'a>) -> Result<Header, T
 // What is kept of each verifier.
 #[tactic(auto, unfolding(crate::specs::Seal::runs_at))]
 fn read_runs(alloc: Global, head: &Head, reader: &mut Reader<'_>) -> Result<Vec<RunState>, Fault>
-    requires small { head.now.header.end ≤ 16777215 }
     ensures reads { Reads (λ made. map kept_in made.items) result reader.new
         (runs_at head.now.header head.now.certified head.now.taken 0 head.now.header.verifiers reader.old) }
 {
@@ -140,10 +139,18 @@ pub fn read_seal_front<D: Digests>(alloc: Global, digests: &D, bytes: &[u8]) -> 
         return SealFront::Open;
     }
     let (text, behind) = bytes.split_at(bytes.len() - left);
-    if !is_same_tag(&digests.tag(text), &tag_in(behind)) {
+    if !is_tagged(digests, text, behind) {
         return SealFront::NotTagged;
     }
     SealFront::Whole(state, text.len() + TAG_LEN)
+}
+
+// Whether the bytes behind a text begin with its tag.
+fn is_tagged<D: Digests>(digests: &D, text: &[u8], behind: &[u8]) -> bool
+    requires there { tag_bytes ≤ length behind.now }
+    ensures same { IsTrue result ↔ ((D.functions digests.now).tag text.now ≡ take tag_bytes behind.now) }
+{
+    is_same_tag(&digests.tag(text), &tag_in(behind))
 }
 
 // What a fault says of the bytes so far.

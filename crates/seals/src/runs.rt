@@ -42,7 +42,6 @@ pub(crate) fn read_run(
     number: u16,
     reader: &mut Reader<'_>,
 ) -> Result<RunState, Fault>
-    requires small { header.now.end ≤ 16777215 }
     ensures reads { Reads kept_in result reader.new (run_at header.now certified taken number reader.old) }
 {
     let bounds = read_bounds(header, certified, taken, number, reader)?;
@@ -72,9 +71,7 @@ fn read_bounds(
     number: u16,
     reader: &mut Reader<'_>,
 ) -> Result<Bounds, Fault>
-    requires small { header.now.end ≤ 16777215 }
     ensures reads { Reads (λ bounds. bounds) result reader.new (bounds_at header.now certified taken number reader.old) }
-    ensures small { IfOk result (λ bounds. (bounds.header.end ≤ 16777215) × (bounds.at.counter ≤ bounds.header.end)) }
 {
     let (at, accepted) = match read_clock(reader) {
         Ok(clock) => clock,
@@ -108,7 +105,6 @@ fn read_entries(
     bounds: &Bounds,
     reader: &mut Reader<'_>,
 ) -> Result<Vec<ListedEntry>, Fault>
-    requires small { bounds.now.header.end ≤ 16777215 }
     ensures reads { Reads (λ made. made.items) result reader.new (entries_at bounds.now reader.old) }
 {
     let count = match reader.u32() {
@@ -124,7 +120,6 @@ fn read_entries(
 // The parts, one of each epoch that is sealed and not certified.
 #[tactic(auto, unfolding(crate::specs::Run::parts_at))]
 fn read_parts(alloc: Global, bounds: &Bounds, reader: &mut Reader<'_>) -> Result<Vec<Part>, Fault>
-    requires small { bounds.now.header.end ≤ 16777215 }
     ensures reads { Reads (λ made. made.items) result reader.new (parts_at bounds.now reader.old) }
 {
     let count = match reader.u32() {
@@ -144,7 +139,6 @@ fn read_operations(
     bounds: &Bounds,
     reader: &mut Reader<'_>,
 ) -> Result<Vec<Operation>, Fault>
-    requires small { bounds.now.header.end ≤ 16777215 }
     ensures reads { Reads (λ made. made.items) result reader.new (operations_at bounds.now reader.old) }
 {
     let count = match reader.u64() {
@@ -159,8 +153,6 @@ fn read_operations(
 
 // The four sums.
 fn read_sums(bounds: &Bounds, reader: &mut Reader<'_>) -> Result<FourSums, Fault>
-    requires small { bounds.now.header.end ≤ 16777215 }
-    requires within { bounds.now.at.counter ≤ bounds.now.header.end }
     ensures reads { Reads sums_in result reader.new (sums_at bounds.now reader.old) }
 {
     match read_four(bounds, reader) {
@@ -171,8 +163,6 @@ fn read_sums(bounds: &Bounds, reader: &mut Reader<'_>) -> Result<FourSums, Fault
 
 #[tactic(auto, unfolding(crate::specs::Run::sums_at))]
 fn read_four(bounds: &Bounds, reader: &mut Reader<'_>) -> Result<FourSums, TextFault>
-    requires small { bounds.now.header.end ≤ 16777215 }
-    requires within { bounds.now.at.counter ≤ bounds.now.header.end }
     ensures ok { IfOk result (λ sums. sums_at bounds.now reader.old ≡ Ok (sums_in sums, reader.new)) }
     ensures err { IfErr result (λ fault. sums_at bounds.now reader.old ≡ Err fault) }
 {

@@ -1,5 +1,5 @@
 //! Writes a seal.
-ghost use Rattle.std.specs.Prelude.{◌≡◌, ◌++◌, OnOk, IfOk};
+ghost use Rattle.std.specs.Prelude.{◌≡◌, ◌≤◌, ◌++◌, length, OnOk, IfOk};
 ghost use Rattle.std.specs.List.{flat_map};
 ghost use Rattle.std.specs.Int.{w32, w64, to_be_bytes};
 ghost use Rattle.receipts.specs.Receipts.{tagged};
@@ -27,6 +27,9 @@ pub fn write_seal<D: Digests>(
 ) -> Result<Vec<u8>, Memory>
     ensures text { IfOk result (λ text. text.items
         ≡ tagged (D.functions digests.now) (seal_text (seal_in state.now))) }
+
+    // So `place` may be asked to place it.
+    ensures long { IfOk result (λ text. 44 ≤ length text.items) }
 {
     let mut text = Vec::new(alloc);
     write_head(&mut text, state)?;

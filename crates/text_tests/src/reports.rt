@@ -6,7 +6,7 @@ use record_text::{
     Blob, Cause, Element, Elements, Exhibit, Node, Operation, Pointer, Refusal, Value, ValueText,
 };
 use report_text::{
-    PAGE_ROOM, Page, Status, write_epoch, write_exhibit, write_last, write_operation,
+    PAGE_ROOM, Page, Status, write_epoch, write_exhibit, write_last, write_operation, write_sealed,
 };
 use std::alloc::Global;
 use std::process::Abort;
@@ -22,6 +22,8 @@ fn plain_status(name: &str) -> Option<Status> {
         "NotTagged" => Some(Status::NotTagged),
         "NotCertified" => Some(Status::NotCertified),
         "Exhibit" => Some(Status::Exhibit),
+        "BadSeal" => Some(Status::BadSeal),
+        "CounterFault" => Some(Status::CounterFault),
         _ => None,
     }
 }
@@ -50,6 +52,10 @@ fn status_with_numbers(name: &str) -> Option<Status> {
             at: stamp(4294967295, 6),
         }),
         "InputLimit" => Some(Status::InputLimit { taken: 50 }),
+        "Stale" => Some(Status::Stale {
+            sealed: 1,
+            device: u64::MAX,
+        }),
         _ => None,
     }
 }
@@ -79,6 +85,9 @@ NotTagged | 11 | not tagged
 NotCertified | 12 | not certified
 Exhibit | 13 | exhibit
 InputLimit | 14 | input limit
+BadSeal | 15 | bad seal
+Stale | 16 | stale sealed 1 device 18446744073709551615
+CounterFault | 17 | counter fault
 ";
 
 #[test]
@@ -149,6 +158,16 @@ fn lines_are_written_whole(rt: HostRuntime) {
     }
     same(&rt, "last", &is_last_written(&mut sink), &true);
     same_bytes(&rt, "sink.bytes()", sink.bytes(), REPORT.as_bytes());
+}
+
+#[test]
+fn the_last_line_of_a_sealed_report(rt: HostRuntime) {
+    let mut sink = MemorySink::new(rt.alloc(), 100, 7, &[]).expect(&rt, "memory");
+    write_sealed(12, &mut sink).ok().expect(&rt, "line");
+    same_bytes(&rt, "whole", sink.bytes(), b"sealed 12\n".as_slice());
+    let mut cut = MemorySink::new(rt.alloc(), 100, 1, &[3]).expect(&rt, "memory");
+    same(&rt, "cut", &write_sealed(12, &mut cut).is_ok(), &false);
+    same_bytes(&rt, "front", cut.bytes(), b"sea".as_slice());
 }
 
 #[test]

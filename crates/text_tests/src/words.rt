@@ -1,6 +1,8 @@
 //! Words that were judged by hand, as they stand on a command line.
 use crate::rows::{bytes_of, field, same, same_bytes};
-use program_words::{Asked, HostNumbers, LoadNumbers, PathWord, WordsFault, read_words};
+use program_words::{
+    Asked, HostNumbers, LoadNumbers, PathWord, SignNumbers, WordsFault, read_words,
+};
 use std::alloc::Global;
 use std::fmt::Debug;
 use std::process::Abort;
@@ -15,11 +17,12 @@ fn asked_by(rt: &impl Abort, alloc: Global, line: &str) -> Result<Asked, WordsFa
     read_words(alloc, &words)
 }
 
-// A word in short for what was answered, and the bytes of its key.
+// A word in short for what was answered, or the path of a seal, and the bytes of its key.
 fn told(answer: &Result<Asked, WordsFault>) -> (&str, &[u8]) {
     match answer {
         Ok(Asked::Check(check)) if check.receipts => ("check with receipts", check.key.as_slice()),
         Ok(Asked::Check(check)) => ("check", check.key.as_slice()),
+        Ok(Asked::Seal(seal)) => (seal.path.as_str(), seal.key.as_slice()),
         Ok(Asked::Audit(key)) => ("audit", key.as_slice()),
         Ok(Asked::Run(run)) if run.receipts => ("run with receipts", run.key.as_slice()),
         Ok(Asked::Run(run)) => ("run", run.key.as_slice()),
@@ -27,6 +30,8 @@ fn told(answer: &Result<Asked, WordsFault>) -> (&str, &[u8]) {
         Ok(Asked::Accept(key)) => ("accept", key.as_slice()),
         Ok(Asked::Follow(key)) => ("follow", key.as_slice()),
         Ok(Asked::Upgrade(key)) => ("upgrade", key.as_slice()),
+        Ok(Asked::Resume(key)) => ("resume", key.as_slice()),
+        Ok(Asked::Sign(sign)) => ("sign", sign.key.as_slice()),
         Err(WordsFault::Usage) => ("usage", b""),
         Err(WordsFault::Memory) => ("memory", b""),
     }
@@ -58,6 +63,13 @@ fastver follow --key 00112233445566778899aabbccddeeff | follow | 001122334455667
 fastver follow --key=00112233445566778899AABBCCDDEEFF | follow | 00112233445566778899aabbccddeeff
 fastver upgrade --key 00112233445566778899aabbccddeeff | upgrade | 00112233445566778899aabbccddeeff
 fastver upgrade --key=00112233445566778899AABBCCDDEEFF | upgrade | 00112233445566778899aabbccddeeff
+fastver check --key 00112233445566778899aabbccddeeff --seal kept/seal | kept/seal | 00112233445566778899aabbccddeeff
+fastver check --seal=check --key=00112233445566778899AABBCCDDEEFF | check | 00112233445566778899aabbccddeeff
+fastver check --seal - --key 303132333435363738393a3b3c3d3e3f404142434445464748494a4b4c4d4e4f505152535455565758595a5b5c5d5e5f606162636465666768696a6b6c6d6e6f | - | most
+fastver resume --key 00112233445566778899aabbccddeeff | resume | 00112233445566778899aabbccddeeff
+fastver resume --key=00112233445566778899AABBCCDDEEFF | resume | 00112233445566778899aabbccddeeff
+fastver sign --key 00112233445566778899aabbccddeeff --client 0 | sign | 00112233445566778899aabbccddeeff
+fastver sign --bits=64 --client=1 --key=00112233445566778899AABBCCDDEEFF | sign | 00112233445566778899aabbccddeeff
 ";
 
 const MOST_BYTES: &str = "0123456789:;<=>?@ABCDEFGHIJKLMNOPQRSTUVWXYZ[\\]^_`abcdefghijklmno";
@@ -127,6 +139,33 @@ fastver follow --key 00112233445566778899aabbccddeeff --shards 2 | an option of 
 fastver upgrade | no key to upgrade under
 fastver upgrade --key 00112233445566778899aabbccddeeff --receipts | receipts of an upgrade
 fastver upgrade --key 00112233445566778899aabbccddeeff --format 3 | a version for an upgrade
+fastver check --key 00112233445566778899aabbccddeeff --seal | no path for a seal
+fastver check --key 00112233445566778899aabbccddeeff --seal a --seal b | two paths for a seal
+fastver check --key 00112233445566778899aabbccddeeff --seal a --receipts | receipts of what is sealed
+fastver check --receipts --seal=a --key=00112233445566778899aabbccddeeff | the same the other way round
+fastver check --key 00112233445566778899aabbccddeeff --seal --receipts | receipts in the place of a path for a seal
+fastver check --seal a | a seal under no key
+fastver audit --key 00112233445566778899aabbccddeeff --seal a | a seal of an audit
+fastver run --key 00112233445566778899aabbccddeeff --verifiers 1 --shards 2 --seal a | a seal of a run
+fastver check --key 00112233445566778899aabbccddeeff --logs a | the logs of a check
+fastver resume | no key to resume under
+fastver resume --key 00112233445566778899aabbccddee | 30 digits to resume under
+fastver resume --key 00112233445566778899aabbccddeeff --seal a | a seal of what is resumed
+fastver resume --key 00112233445566778899aabbccddeeff --receipts | receipts of what is resumed
+fastver resume --key 00112233445566778899aabbccddeeff more | a word more to resume
+fastver sign --key 00112233445566778899aabbccddeeff | no client
+fastver sign --client 0 | no key to sign under
+fastver sign --key 00112233445566778899aabbccddee --client 0 | 30 digits to sign under
+fastver sign --key 00112233445566778899aabbccddeeff --client 65536 | a client past the last
+fastver sign --key 00112233445566778899aabbccddeeff --client 00 | a client with a leading zero
+fastver sign --key 00112233445566778899aabbccddeeff --client= | a client with no digit
+fastver sign --key 00112233445566778899aabbccddeeff --client 0 --client 0 | two clients
+fastver sign --key 00112233445566778899aabbccddeeff --client 0 --bits 32 | too few bits of keys to be signed
+fastver sign --key 00112233445566778899aabbccddeeff --client 0 --bits 96 | bits between the two numbers for a client
+fastver sign --key 00112233445566778899aabbccddeeff --client 0 --format 3 | a version for a client
+fastver sign --key 00112233445566778899aabbccddeeff --client 0 --receipts | receipts of a client
+fastver sign --key 00112233445566778899aabbccddeeff --client 0 more | a word more to sign
+fastver run --key 00112233445566778899aabbccddeeff --verifiers 1 --shards 2 --client 0 | a client for a run
 fastver Accept --key 00112233445566778899aabbccddeeff | a capital letter
 check --key 00112233445566778899aabbccddeeff | no name
 fastver check --key 00112233445566778899aabbccddeeff --shards 2 | an option of a run
@@ -388,5 +427,44 @@ fn loads_that_are_refused(rt: HostRuntime) {
         let (words, why) = (field(&rt, row, 0), field(&rt, row, 1));
         let line = line_of(&rt, rt.alloc(), "gen", words);
         assert_refused(&rt, rt.alloc(), &line, why);
+    }
+}
+
+// What stands behind `fastver sign` and its key, and the client and the bits of a key that it asks for.
+const SIGNING: &str = "
+--client 0 | 0 64
+--client=65535 | 65535 64
+--bits 64 --client 7 | 7 64
+--client 65535 --bits=128 | 65535 128
+";
+
+// The numbers of a row of a client.
+fn signer_in(rt: &impl Abort, row: &str) -> SignNumbers {
+    let text = field(rt, row, 1);
+    SignNumbers {
+        client: number_in(rt, text, 0),
+        bits: number_in(rt, text, 1),
+    }
+}
+
+// The numbers that words of a client ask for.
+fn signer_of(rt: &impl Abort, answer: &Result<Asked, WordsFault>) -> SignNumbers {
+    match answer {
+        Ok(Asked::Sign(sign)) => sign.numbers,
+        _ => panic!(rt; "no signing is asked for"),
+    }
+}
+
+// A row's words ask for its numbers.
+fn assert_signing(rt: &impl Abort, alloc: Global, row: &str) {
+    let line = line_of(rt, alloc, "sign", field(rt, row, 0));
+    let answer = asked_by(rt, alloc, &line);
+    same(rt, row, &signer_of(rt, &answer), &signer_in(rt, row));
+}
+
+#[test]
+fn what_a_client_asks_for(rt: HostRuntime) {
+    for row in SIGNING.trim().lines() {
+        assert_signing(&rt, rt.alloc(), row);
     }
 }

@@ -8,8 +8,9 @@
 //! commands name slots; these are checked, and what isn't done is audited too. Under digests that collide at will `audit_tests.rt` has audits, `exhibit_tests.rt` what is
 //! exhibited of a log, and `collision_tests.rt` checks that certify what is not serial. In `object_tests.rt` bundles
 //! are cut, and no more is read than the limit; in `fault_tests.rt` reads and writes fail one by one. `upgrade_tests.rt` has bundles of
-//! all versions beside what is written of each in version 3. `word_tests.rt` has the program's words. Begin with `running.rt`, which
-//! runs a bundle.
+//! all versions beside what is written of each in version 3. `seal_tests.rt` has bundles that are sealed where they are cut, and gone on
+//! from, by `sealing.rt`; `refused_seal_tests.rt` has seals that are refused, and `seal_fault_tests.rt` objects that fail. `word_tests.rt` has
+//! the program's words. Begin with `running.rt`, which runs a bundle.
 #![tactic(auto)]
 
 #[cfg(test)]
@@ -29,7 +30,15 @@ mod lying_log_tests;
 #[cfg(test)]
 mod object_tests;
 #[cfg(test)]
+mod refused_seal_tests;
+#[cfg(test)]
 mod running;
+#[cfg(test)]
+mod seal_fault_tests;
+#[cfg(test)]
+mod seal_tests;
+#[cfg(test)]
+mod sealing;
 #[cfg(test)]
 mod tree_tests;
 #[cfg(test)]

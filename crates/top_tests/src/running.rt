@@ -4,7 +4,7 @@
 use bundle_rows::{Case, bundle_of, cases_of};
 use check_core::check;
 use fastver_top::{Status, fastver};
-use fv_outside::{FreeGate, MemorySink, MemorySource, MemoryVault};
+use fv_outside::{FreeGate, MemoryCounter, MemorySink, MemorySource, MemoryVault};
 use record_hash::Digests;
 use std::alloc::Global;
 use std::fmt::Debug;
@@ -82,8 +82,8 @@ pub(crate) fn objects(
     (source, out)
 }
 
-// The words of a line.
-fn words_of<'a>(rt: &impl Abort, alloc: Global, line: &'a str) -> Vec<&'a str> {
+/// The words of a line.
+pub(crate) fn words_of<'a>(rt: &impl Abort, alloc: Global, line: &'a str) -> Vec<&'a str> {
     let mut words = Vec::new(alloc);
     for word in line.split_whitespace() {
         words.push(word).expect(rt, "memory");
@@ -92,7 +92,7 @@ fn words_of<'a>(rt: &impl Abort, alloc: Global, line: &'a str) -> Vec<&'a str> {
 }
 
 /// What is there behind the program with the words of a line, over these bytes. No check, no audit, no follower and no upgrade touches its
-/// vault, and no refusal.
+/// vault or asks its counter, whose first call would fail; and no refusal does.
 pub(crate) fn ask<R: Threads + Wait + Sync + Abort>(
     rt: &R,
     alloc: Global,
@@ -103,6 +103,7 @@ pub(crate) fn ask<R: Threads + Wait + Sync + Abort>(
     let words = words_of(rt, alloc, line);
     let (mut source, mut out) = objects(rt, alloc, bytes, way);
     let mut vault = MemoryVault::new(alloc, 100, 1, &[]).expect(rt, "memory");
+    let mut counter = MemoryCounter::new(alloc, 0, &[0]).expect(rt, "memory");
     let status = fastver(
         rt,
         alloc,
@@ -111,8 +112,10 @@ pub(crate) fn ask<R: Threads + Wait + Sync + Abort>(
         &mut out,
         &mut vault,
         &FreeGate,
+        &mut counter,
     );
     assert_unused(rt, line, &vault);
+    same(rt, line, 0, &counter.faults(), &0);
     Ended {
         source,
         out,

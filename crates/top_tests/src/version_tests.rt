@@ -112,7 +112,7 @@ fn bundles_of_slots_have_their_reports(rt: HostRuntime) {
     assert_cases(&rt, rt.alloc(), SLOTS, 9);
 }
 
-// A log of one version in a bundle of the other, and a version that there is not.
+// A log of one version in a bundle of the other, versions that there are not, and keys as no version has them.
 const OTHER_VERSIONS: &str = "\
 == paths where slots are named
 version 2
@@ -133,9 +133,14 @@ version 0
 next
 -> 7
 bad bundle at byte 0
+== keys of 65 bits
+version 3 bits 65
+next
+-> 7
+bad bundle at byte 0
 ";
 
 #[test]
 fn a_log_is_of_its_bundles_version(rt: HostRuntime) {
-    assert_cases(&rt, rt.alloc(), OTHER_VERSIONS, 4);
+    assert_cases(&rt, rt.alloc(), OTHER_VERSIONS, 5);
 }

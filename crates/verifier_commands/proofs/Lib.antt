@@ -5,8 +5,15 @@ mod CacheLemmas
 mod LinkLemmas
 mod SlotLemmas
 mod EitherLemmas
+mod LeavesLemmas
+mod SlotCountLemmas
+mod ResumeLemmas
 mod AnswerLemmas
 pub mod BoundLaws
 pub mod InvertLaws
 pub mod TickLaws
 pub mod TraceLaws
+mod AlikeLemmas
+mod AlikeStepLemmas
+pub mod LikenessLaws
+pub mod SizeLaws

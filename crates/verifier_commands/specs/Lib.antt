@@ -9,6 +9,8 @@ pub mod VerifierState
 pub mod Outcome
 pub mod Sums
 pub mod Machine
+pub mod Likeness
+pub mod Resumed
 pub mod Answer
 pub mod Ticks
 pub mod Event

@@ -12,7 +12,7 @@ use Rattle.verifier_commands.specs.declared.sums.Sums.{Sums}
 use Rattle.verifier_commands.specs.declared.effect.Effect.{Effect}
 use Rattle.verifier_commands.specs.declared.effect.Effect.TheVariants.{Plain, Did, Opened, Sealed}
 use Rattle.verifier_commands.specs.Transition.{Rules}
-use Rattle.verifier_commands.specs.VerifierState.{VerifierState, first_state, perform}
+use Rattle.verifier_commands.specs.VerifierState.{VerifierState, slots_in, first_state, perform}
 use Rattle.verifier_commands.specs.Outcome.{Outcome, AddM, EvictM, AddB, EvictB, EvictBM, Get, Put, NextEpoch, told}
 use Rattle.verifier_commands.specs.Sums.{zero_sums, sums_after}
 
@@ -83,7 +83,12 @@ pub record AreBounded (sums : Sums) (clock : Reading) : Type 0 where
   pub added : sums.added.count ≤ clock.at.counter
   pub evicted : sums.evicted.count ≤ clock.at.counter
   pub added_before : sums.added_before.count ≤ clock.end + clock.at.counter
-  pub evicted_before : sums.evicted_before.count ≤ clock.end
+  pub evicted_before : sums.evicted_before.count ≤ clock.end + clock.at.counter
+
+-- A verifier keeps to this: its sums are bounded, and a word of 16 bits names each of its slots.
+pub record KeepsBounds (sums : Sums) (state : VerifierState) : Type 0 where
+  pub bounded : AreBounded sums state.clock
+  pub slots : slots_in state.cache ≤ 65536
 
 -- one add more is counted, in one epoch or the other
 pub record CountsAdd (old new : Sums) : Type 0 where

@@ -1,5 +1,5 @@
 -- The state of a verifier of any version: it keeps entries by path, where commands name paths, or slots.
-use Rattle.std.specs.Prelude.{ℕ, Bool, true, false, List, Option, None, Result, Ok, Err}
+use Rattle.std.specs.Prelude.{ℕ, Bool, true, false, List, length, Option, None, Result, Ok, Err}
 use Rattle.lamport_clocks.specs.declared.header.Header.{Header}
 use Rattle.lamport_clocks.specs.Header.{names_paths}
 use Rattle.lamport_clocks.specs.Reading.{Reading}
@@ -50,6 +50,11 @@ path_entry (by_slot slots) path = None
 abbrev pub slot_entry : AnyCache → ℕ → Option Entry
 slot_entry (by_path held) slot = None
 slot_entry (by_slot slots) slot = entry_at slots slot
+
+-- how many slots there are: none, where entries are by path
+abbrev pub slots_in : AnyCache → ℕ
+slots_in (by_path held) = 0
+slots_in (by_slot slots) = length slots
 
 -- ---- one command
 

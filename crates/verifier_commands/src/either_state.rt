@@ -1,10 +1,14 @@
 //! The state of a verifier, by what its commands name.
-ghost use Rattle.std.specs.Prelude.{◌≡◌, ◌≤◌, IfOk};
+ghost use Rattle.std.specs.Prelude.{◌≡◌, ◌≤◌, true, false, length, IfOk};
 ghost use Rattle.std.specs.Option.{option_copied};
 ghost use Rattle.base_words.specs.Follows.{Follows};
+ghost use Rattle.lamport_clocks.specs.Header.{names_paths};
 ghost use Rattle.log_codec.specs.declared.log_command.LogCommand.TheVariants.{ByPath, BySlot};
 ghost use Rattle.merkle_records.specs.Scheme.{scheme_of};
-ghost use Rattle.verifier_commands.specs.VerifierState.{state_of, first_state, path_entry, slot_entry, perform};
+ghost use Rattle.verifier_cache.specs.Cache.{AreDistinct};
+ghost use Rattle.verifier_cache.specs.Listed.{entries_in, SlotsRise};
+ghost use Rattle.verifier_commands.specs.VerifierState.{state_of, first_state, path_entry, slot_entry, slots_in, perform};
+ghost use Rattle.verifier_commands.specs.Resumed.{AreListedOf, cache_of};
 ghost use Rattle.verifier_commands.specs.Answer.{answered, ClockMoves};
 
 use crate::answer::Answer;
@@ -17,7 +21,7 @@ use record_hash::Digests;
 use record_text::Refusal;
 use std::alloc::Global;
 use tree_keys::Path;
-use verifier_cache::Entry;
+use verifier_cache::{Cache, Entry, ListedEntry, SlotCache};
 
 /// The cache and the clock of a verifier whose commands name paths, or slots.
 #[derive(Drop)]
@@ -28,9 +32,11 @@ pub enum EitherState {
 
 impl EitherState {
     /// The state of the verifier of this number before its first command.
+    #[tactic(auto, using(crate::proofs::SlotCountLemmas::opening_count))]
     pub(crate) fn new(alloc: Global, number: u16, header: &Header) -> Result<Self, Memory>
         requires cache { 1 ≤ header.now.cache }
         ensures opening { IfOk result (λ state. state_of state ≡ first_state number header.now) }
+        ensures slots { IfOk result (λ state. slots_in (state_of state).cache ≤ header.now.cache) }
     {
         if header.names_paths() {
             let state = State::new(alloc, number, header)?;
@@ -38,6 +44,41 @@ impl EitherState {
         } else {
             let state = SlotState::new(alloc, number, header)?;
             Ok(EitherState::BySlot(state))
+        }
+    }
+
+    /// The state that goes on with listed entries, from where a clock stands.
+    #[tactic(auto, using(crate::proofs::ResumeLemmas::resuming))]
+    pub(crate) fn resume(
+        alloc: Global,
+        header: &Header,
+        entries: &[ListedEntry],
+        clock: Clock,
+    ) -> Result<Self, Memory>
+        requires by_path { names_paths header.now ≡ true → AreDistinct (entries_in entries.now) }
+        requires within { names_paths header.now ≡ true → length entries.now ≤ header.now.cache }
+        requires by_slot { names_paths header.now ≡ false → SlotsRise 0 header.now.cache entries.now }
+        ensures state { IfOk result (λ state. state_of state
+            ≡ record { cache = cache_of (names_paths header.now) header.now entries.now; clock = clock }) }
+        ensures slots { IfOk result (λ state. slots_in (state_of state).cache ≤ header.now.cache) }
+    {
+        if header.names_paths() {
+            let cache = Cache::of_entries(alloc, header.cache, entries)?;
+            Ok(EitherState::ByPath(State { cache, clock }))
+        } else {
+            let slots = SlotCache::of_entries(alloc, header.cache, entries)?;
+            Ok(EitherState::BySlot(SlotState { slots, clock }))
+        }
+    }
+
+    /// The entries: by rising path with slot 0, or by rising slot.
+    pub(crate) fn listed(&self, alloc: Global) -> Result<Vec<ListedEntry>, Memory>
+        requires numbered { slots_in (state_of self.now).cache ≤ 65536 }
+        ensures listed { IfOk result (λ listed. AreListedOf (state_of self.now).cache listed.items) }
+    {
+        match self {
+            EitherState::ByPath(state) => state.cache.listed(alloc),
+            EitherState::BySlot(state) => state.slots.listed(alloc),
         }
     }
 
@@ -82,6 +123,7 @@ impl EitherState {
         ensures follows { Follows result (state_of self.old) (state_of self.new)
             (answered (D.functions d.now).lanes (perform (record { scheme = scheme_of (D.functions d.now) header.now; number = number; verifiers = header.now.verifiers }) (state_of self.old) (ByPath command.now))) }
         ensures clock { IfOk result (ClockMoves (state_of self.old).clock (state_of self.new).clock) }
+        ensures slots { slots_in (state_of self.new).cache ≡ slots_in (state_of self.old).cache }
     {
         match self {
             EitherState::ByPath(state) => state.apply(d, number, header, command),
@@ -100,6 +142,7 @@ impl EitherState {
         ensures follows { Follows result (state_of self.old) (state_of self.new)
             (answered (D.functions d.now).lanes (perform (record { scheme = scheme_of (D.functions d.now) header.now; number = number; verifiers = header.now.verifiers }) (state_of self.old) (BySlot command.now))) }
         ensures clock { IfOk result (ClockMoves (state_of self.old).clock (state_of self.new).clock) }
+        ensures slots { slots_in (state_of self.new).cache ≡ slots_in (state_of self.old).cache }
     {
         match self {
             EitherState::ByPath(_) => Err(Refusal::Malformed),

@@ -4,8 +4,8 @@
 //! and `slot_transition` in `specs/SlotTransition.antt` where they name slots of the cache: tests in one order, over a
 //! `State` of cached entries, or a `SlotState`, and a clock. `perform` in `specs/VerifierState.antt` is both. Beside its
 //! state a verifier keeps sums of what it added and evicted in two epochs. The crate stands on `log_codec` for the
-//! commands, and on `merkle_records`, `verifier_cache`, `lamport_clocks` and `multiset_sum` for what they change. It has no
-//! laws of its own. Begin with `Verifier::step_any` in `verifier.rt`, beside `stepped` in `specs/Machine.antt`.
+//! commands, and on `merkle_records`, `verifier_cache`, `lamport_clocks` and `multiset_sum` for what they change. Its
+//! laws are in `laws.rt`. Begin with `Verifier::step_any` in `verifier.rt`, beside `stepped` in `specs/Machine.antt`.
 #![tactic(auto)]
 
 mod answer;
@@ -15,6 +15,7 @@ mod deferred;
 mod effect;
 mod either_state;
 mod lanes;
+mod laws;
 mod merkle;
 mod records;
 mod slot_deferred;
@@ -28,6 +29,7 @@ mod verifier;
 pub use answer::Answer;
 pub use effect::Effect;
 pub use either_state::EitherState;
+pub use laws::like_verifiers_stay_like;
 pub use slot_state::SlotState;
 pub use state::State;
 pub use sums::Sums;

@@ -1,12 +1,16 @@
 //! A verifier: its state and its sums, stepped command by command.
-ghost use Rattle.std.specs.Prelude.{◌≡◌, ◌<◌, ◌^◌, IfOk};
+ghost use Rattle.std.specs.Prelude.{◌≡◌, ◌<◌, ◌≤◌, ◌^◌, true, false, length, IfOk};
 ghost use Rattle.std.specs.Option.{option_copied};
 ghost use Rattle.base_words.specs.Follows.{Follows};
-ghost use Rattle.lamport_clocks.specs.Header.{IsHeader};
+ghost use Rattle.lamport_clocks.specs.Header.{IsHeader, names_paths};
+ghost use Rattle.lamport_clocks.specs.Clock.{reading_at};
 ghost use Rattle.log_codec.specs.declared.log_command.LogCommand.TheVariants.{ByPath, BySlot};
 ghost use Rattle.merkle_records.specs.Scheme.{scheme_of};
+ghost use Rattle.verifier_cache.specs.Cache.{AreDistinct};
+ghost use Rattle.verifier_cache.specs.Listed.{entries_in, SlotsRise};
 ghost use Rattle.verifier_commands.specs.VerifierState.{state_of, first_state, path_entry, slot_entry};
-ghost use Rattle.verifier_commands.specs.Machine.{Machine, opening_machine, stepped};
+ghost use Rattle.verifier_commands.specs.Machine.{Machine, AreBounded, opening_machine, stepped};
+ghost use Rattle.verifier_commands.specs.Resumed.{AreListedOf, resumed_machine};
 ghost use Rattle.verifier_commands.specs.Answer.{effect_by};
 
 use crate::answer::Answer;
@@ -22,7 +26,7 @@ use record_text::{BlobRef, OperationRef, Refusal};
 use std::alloc::Global;
 use std::marker::Model;
 use tree_keys::Path;
-use verifier_cache::Entry;
+use verifier_cache::{Entry, ListedEntry};
 
 /// One verifier: contracts see it as a `Machine`.
 #[derive(Drop)]
@@ -35,14 +39,14 @@ pub struct Verifier {
 }
 
 impl Model for Verifier {
-    ghost use Rattle.verifier_commands.specs.Machine.{Machine, AreBounded};
+    ghost use Rattle.verifier_commands.specs.Machine.{Machine, KeepsBounds};
     ghost use Rattle.verifier_commands.specs.VerifierState.{state_of};
 
     ghost Value = { Machine };
 
     ghost view = { λ v. record { number = v.number; header = v.header; state = state_of v.state; sums = v.sums; accepted = v.accepted } };
 
-    ghost invariant = { λ v. AreBounded v.sums (state_of v.state).clock };
+    ghost invariant = { λ v. KeepsBounds v.sums (state_of v.state) };
 }
 
 impl Verifier {
@@ -59,6 +63,41 @@ impl Verifier {
             state,
             sums: Sums::zero(),
             accepted: 0,
+        })
+    }
+
+    /// The verifier of this number that goes on with listed entries, from where its clock stood, with the sums that it had,
+    /// and so many accepted commands. It takes all of its memory here.
+    pub fn resume(
+        alloc: Global,
+        number: u16,
+        header: &Header,
+        entries: &[ListedEntry],
+        at: Stamp,
+        sums: &Sums,
+        accepted: u64,
+    ) -> Result<Self, Memory>
+        requires header { IsHeader header.now }
+        requires number { number < header.now.verifiers }
+
+        // The entries are no more than a cache holds, each in a place of its own.
+        requires by_path { names_paths header.now ≡ true → AreDistinct (entries_in entries.now) }
+        requires within { names_paths header.now ≡ true → length entries.now ≤ header.now.cache }
+        requires by_slot { names_paths header.now ≡ false → SlotsRise 0 header.now.cache entries.now }
+
+        // The clock is not before the first epoch, and bounds the sums.
+        requires from_first { header.now.first ≤ at.epoch }
+        requires bounded { AreBounded sums.now (reading_at header.now.first header.now.end at) }
+        ensures resumed { IfOk result (λ verifier. verifier ≡ resumed_machine number header.now entries.now at sums.now accepted) }
+    {
+        let clock = Clock::resume(header.first, header.end, at);
+        let state = EitherState::resume(alloc, header, entries, clock)?;
+        Ok(Verifier {
+            number,
+            header: *header,
+            state,
+            sums: *sums,
+            accepted,
         })
     }
 
@@ -153,6 +192,20 @@ impl Verifier {
         ensures value { result ≡ self.now.state.clock.at }
     {
         self.state.clock().at()
+    }
+
+    /// What it has added and evicted, in its clock's epoch and in the one before.
+    pub fn sums(&self) -> &Sums
+        ensures value { result.now ≡ self.now.sums }
+    {
+        &self.sums
+    }
+
+    /// The entries of its cache: by rising path with slot 0 where commands name paths, else by rising slot.
+    pub fn listed(&self, alloc: Global) -> Result<Vec<ListedEntry>, Memory>
+        ensures listed { IfOk result (λ listed. AreListedOf self.now.state.cache listed.items) }
+    {
+        self.state.listed(alloc)
     }
 
     /// Its cache and its clock, by what its commands name.

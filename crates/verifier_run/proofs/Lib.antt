@@ -8,3 +8,5 @@ mod OrderLemmas
 mod HandOutLemmas
 mod TakenLemmas
 pub mod RunLaws
+pub mod LikenessLaws
+pub mod KeptRunLaws

@@ -6,3 +6,6 @@ pub mod Progress
 pub mod LogCourse
 pub mod Order
 pub mod Taken
+pub mod Likeness
+pub mod Sealed
+pub mod Under

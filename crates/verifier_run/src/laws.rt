@@ -1,8 +1,10 @@
 //! What follows from the definitions of runs. These functions do nothing: their contracts are the laws.
-ghost use Rattle.std.specs.Prelude.{◌≡◌, ℕ, ◌+◌, ◌<◌, ◌≤◌, List, ◌++◌, length};
+ghost use Rattle.std.specs.Prelude.{◌≡◌, ℕ, ◌+◌, ◌<◌, ◌≤◌, List, [], ◌++◌, length, None};
 ghost use Rattle.lamport_clocks.specs.declared.header.Header.{Header};
+ghost use Rattle.lamport_clocks.specs.Header.{IsHeader};
 ghost use Rattle.merkle_records.specs.Scheme.{Scheme};
 ghost use Rattle.record_text.specs.declared.operation.Operation.{Operation};
+ghost use Rattle.seals.specs.State.{KeptRun};
 ghost use Rattle.verifier_commands.specs.Event.{Event};
 ghost use Rattle.verifier_commands.specs.Machine.{Machine, opening_machine};
 ghost use Rattle.verifier_run.specs.Course.{Course, opening_course};
@@ -11,8 +13,12 @@ ghost use Rattle.verifier_run.specs.LogCourse.{log_course};
 ghost use Rattle.verifier_run.specs.Order.{clock_of, HandsOut, GoesOn};
 ghost use Rattle.verifier_run.specs.Kept.{keeps_operations};
 ghost use Rattle.verifier_run.specs.Taken.{left_of};
+ghost use Rattle.verifier_run.specs.Likeness.{IsLike};
+ghost use Rattle.verifier_run.specs.Sealed.{run_from, IsKeptOf};
+ghost use Rattle.verifier_run.specs.Under.{IsUnder};
 
 use crate::kept::Kept;
+use verifier_cache::slots_are_made_again;
 
 /// Bytes that are fed in two pieces come to what they come to as one, wherever they are cut.
 pub fn pieces_do_not_matter<T: Kept>()
@@ -59,3 +65,38 @@ pub fn what_was_taken_leaves_no_trace()
         → fed keeps_operations scheme (left_of through progress) piece ≡ left_of through (fed keeps_operations scheme progress piece) }
     ensures ended { (progress : Progress Operation) (through : ℕ) → ended (left_of through progress) ≡ left_of through (ended progress) }
 {}
+
+/// Runs that are one but for the order in which their caches list entries by path stay so, and hand out the same.
+pub fn like_runs_stay_like<T: Kept>()
+    // Before the first byte a run is like itself.
+    ensures opening { (number : ℕ) (header : Header) → let run : Progress T = opening_progress number header in IsLike run run }
+
+    // What they are fed, and the log's end, leave them alike.
+    ensures fed { (scheme : Scheme) (run other : Progress T) (piece : List ℕ) → IsLike run other
+        → IsLike (fed T.keeps scheme run piece) (fed T.keeps scheme other piece) }
+    ensures ended { (run other : Progress T) → IsLike run other → IsLike (ended run) (ended other) }
+
+    // They have kept and handed in the same, and are refused for the same.
+    ensures items { (run other : Progress T) → IsLike run other → other.course.items ≡ run.course.items }
+    ensures parts { (run other : Progress T) → IsLike run other → other.course.parts ≡ run.course.parts }
+    ensures refused { (run other : Progress T) → IsLike run other → other.course.refused ≡ run.course.refused }
+{}
+
+/// So do runs without what was taken of them.
+pub fn like_runs_are_taken_alike()
+    ensures left { (run other : Progress Operation) (through : ℕ) → IsLike run other → IsLike (left_of through run) (left_of through other) }
+{}
+
+/// The run that goes on from what was kept of a run with no cut command and no refusal is like that run. It is so of each run that was
+/// fed from its start: that is under its header.
+pub fn runs_go_on_from_what_was_kept()
+    ensures like { (number : ℕ) (header : Header) (run : Progress Operation) (kept : KeptRun)
+        → run.held ≡ [] → run.course.refused ≡ None → IsUnder number header run.course.machine → IsKeptOf run.course kept
+        → IsLike run (run_from number header kept) }
+    ensures opening { (number : ℕ) (header : Header) → IsHeader header → IsUnder number header (opening_machine number header) }
+    ensures fed { (scheme : Scheme) (number : ℕ) (header : Header) (run : Progress Operation) (piece : List ℕ)
+        → IsUnder number header run.course.machine
+        → IsUnder number header (fed keeps_operations scheme run piece).course.machine }
+{
+    slots_are_made_again();
+}

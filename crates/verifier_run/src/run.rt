@@ -32,10 +32,10 @@ pub struct FeedStop {
 /// A verifier that takes its log in pieces, and what is kept of its commands. Contracts see it as a `Progress`.
 #[derive(Drop)]
 pub struct Run<T: Kept = Operation> {
-    tracer: Tracer<T>,
+    pub(crate) tracer: Tracer<T>,
     // the commands that come next, while a piece is taken
-    window: CommandWindow,
-    held: ArrayVec<u8, LONGEST_COMMAND_TEXT>,
+    pub(crate) window: CommandWindow,
+    pub(crate) held: ArrayVec<u8, LONGEST_COMMAND_TEXT>,
 }
 
 impl<T: Kept> Model for Run<T> {
@@ -227,7 +227,7 @@ impl Run<Operation> {
 }
 
 // Copies of operations.
-fn copies(alloc: Global, operations: Operations) -> Result<Vec<Operation>, Memory>
+pub(crate) fn copies(alloc: Global, operations: Operations) -> Result<Vec<Operation>, Memory>
     ensures items { IfOk result (λ v. v.items ≡ operations.entry) }
 {
     let mut copies = Vec::new(alloc);

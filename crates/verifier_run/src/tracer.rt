@@ -23,10 +23,10 @@ use verifier_commands::Verifier;
 /// A verifier, and the course of its commands. The store and the queue are all that grows.
 #[derive(Drop)]
 pub(crate) struct Tracer<T: Kept> {
-    verifier: Verifier,
-    items: T::Store,
-    parts: SliceQueue<Part>,
-    refused: Option<(u64, Refusal)>,
+    pub(crate) verifier: Verifier,
+    pub(crate) items: T::Store,
+    pub(crate) parts: SliceQueue<Part>,
+    pub(crate) refused: Option<(u64, Refusal)>,
 }
 
 impl<T: Kept> Model for Tracer<T> {

@@ -5,6 +5,7 @@ use Rattle.record_hash.specs.Functions.{DigestFunctions}
 use Rattle.lamport_clocks.specs.declared.header.Header.{Header}
 use Rattle.merkle_records.specs.Scheme.{Scheme, scheme_of}
 use Rattle.bundle_report.specs.SoFar.{runs_from}
+use Rattle.bundle_report.proofs.LikeRunsLaws.{like-length}
 use Rattle.record_text.specs.declared.request.Request.{Request}
 use Rattle.host_core.specs.Host.{Host}
 use Rattle.host_core.specs.World.{World, logs_of, set_up}
@@ -74,7 +75,8 @@ length-runs scheme header count number (log ∷ logs) = ap suc (length-runs sche
 pub run-count : (functions : DigestFunctions) (header : Header) (logs : List (List ℕ)) (so_far : RunsSoFar) → HaveRun functions header logs so_far
     → length so_far.runs ≡ header.verifiers
 run-count functions header logs so_far have =
-    sym (length-map so_far.runs (λ fed. fed.run)) ∙ ap length have.taken.runs_are
+    sym (length-map so_far.runs (λ fed. fed.run))
+    ∙ like-length (runs_from (scheme_of functions header) header so_far.judged.count 0 logs) (map (λ fed. fed.run) so_far.runs) have.taken.runs_are
     ∙ length-runs (scheme_of functions header) header so_far.judged.count 0 logs ∙ have.taken.whole
 
 -- ---- a round

@@ -1,5 +1,5 @@
 -- How a run stands between two calls: its world, the vault, what the verifiers read, and what is written.
-use Rattle.std.specs.Prelude.{◌≡◌, ◌≢◌, ◌⊎◌, ℕ, suc, ◌+◌, ◌*◌, ◌≤◌, true, List, [], length, map, take, Option, None, if◌then◌else◌}
+use Rattle.std.specs.Prelude.{◌≡◌, ◌≢◌, ◌⊎◌, ℕ, suc, ◌+◌, ◌*◌, ◌≤◌, max, Bool, true, List, [], length, map, take, Option, None, if◌then◌else◌}
 use Rattle.std.specs.List.{AllByRecursion}
 use Rattle.fv_outside.specs.Written.{GrowsByFront}
 use Rattle.record_hash.specs.Functions.{DigestFunctions}
@@ -40,6 +40,13 @@ with_no_log worker = record worker { log = [] }
 -- a world whose workers have
 abbrev pub all_handed_out : {C : Type 0} → machine.World C → machine.World C
 all_handed_out world = record world { workers = map with_no_log world.workers }
+
+-- ---- what a close may seal
+
+-- How many epochs: a close one, the last close two. In a rolling host, where no phase has a close of its own, the one close is the last,
+-- and may seal an epoch for each phase.
+abbrev pub may_seal : Bool → Bool → ℕ → ℕ
+may_seal last rolling phases = if last then (if rolling then max phases 2 else 2) else 1
 
 -- ---- what is written
 

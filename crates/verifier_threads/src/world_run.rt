@@ -19,7 +19,7 @@ ghost use Rattle.verifier_threads.specs.declared.runner.State.{State};
 ghost use Rattle.verifier_threads.specs.InRounds.{Logs, IsBehindRounds};
 ghost use Rattle.verifier_threads.specs.Serving.{Outputs, IfDone, HoldsWhatIsCertified, IsServed, IsCutOff, IsCutInHeader, IsCutInRound, IsCutAtEnd, end_by, told_for};
 ghost use Rattle.verifier_threads.specs.Runners.{StandsBefore, TellsLines, left_by};
-ghost use Rattle.verifier_threads.specs.Running.{Runs, RunsSome, RunsTold, RunsBehind, RunsWhole, RunsToEnd, rounds_before, IsUnderWay, IsUnderWayBehind, IsUnderWayWhole, IsFedUnderWay, HaveReadRound, IsAtRound, IsAtClose, IsAtEnd, all_handed_out, with_runs_of};
+ghost use Rattle.verifier_threads.specs.Running.{Runs, RunsSome, RunsTold, RunsBehind, RunsWhole, RunsToEnd, rounds_before, IsUnderWay, IsUnderWayBehind, IsUnderWayWhole, IsFedUnderWay, HaveReadRound, IsAtRound, IsAtClose, IsAtEnd, all_handed_out, with_runs_of, may_seal};
 
 use crate::accounts::Account;
 use crate::ending::RunEnd;
@@ -280,7 +280,7 @@ impl<'a, D: Digests + Sync> WorldRun<'a, D> {
     }
 
     // Hands out what all workers logged in a close: it goes to the vault, and the verifiers' runs take it, each in a thread of its
-    // own. The answer is the verdicts on what they sealed.
+    // own. The answer is the verdicts on what they sealed, one for each epoch that the close may seal.
     fn pass_to_seal<R: Threads + Sync, V: Sink>(
         &mut self,
         rt: &R,
@@ -294,6 +294,8 @@ impl<'a, D: Digests + Sync> WorldRun<'a, D> {
             → OnOk result (Runs account D.functions self.new (past ++ (logs_of (shown_world self.old.world) ∷ [])) (record outputs { vault_after = V.held vault.new })) }
         ensures handed { OnOk result (shown_world self.new.world ≡ all_handed_out (shown_world self.old.world)) }
         ensures settled { IfOk result (λ settled. AreVerdictsOn self.new.rounds.judged (map (λ fed. fed.run) self.new.rounds.runs) settled.items) }
+        ensures count { IfOk result (λ settled. length settled.items
+            ≡ may_seal last (settings_of self.old.world).rolling (length (requests_of self.old.world))) }
         ensures end { self.new.end ≡ self.old.end }
         ensures cut { (account : Account) (outputs : Outputs) → RunsSome account D.functions self.old outputs → outputs.vault_after ≡ V.held vault.old
             → OnErr result (IsCutOff account (D.functions (digests_of self.old.world)) (settings_of self.old.world) (requests_of self.old.world)
@@ -314,8 +316,13 @@ impl<'a, D: Digests + Sync> WorldRun<'a, D> {
         hand_out_all(&mut self.world, self.buffers.as_mut_slice())?;
         let d = self.world.digests();
         digests_have_32_bytes(d);
+        let count = may_seal(
+            last,
+            self.world.settings().rolling,
+            self.world.requests().len(),
+        );
         self.rounds
-            .seal(rt, self.alloc, d, self.buffers.as_slice(), last, vault)
+            .seal(rt, self.alloc, d, self.buffers.as_slice(), count, vault)
     }
 
     /// A round: its requests are served, and the verifiers read what is logged meanwhile. Then that goes to the vault. A clock may
@@ -460,6 +467,19 @@ fn closes_last(left: usize, end: Option<ClockEnd>) -> bool
     ensures going { 1 < left → end ≡ None → result ≡ false }
 {
     left <= 1 || end.is_some()
+}
+
+// How many epochs a close may seal, of a script of so many phases.
+fn may_seal(last: bool, rolling: bool, phases: usize) -> usize
+    ensures value { result ≡ may_seal last rolling phases }
+{
+    if !last {
+        1
+    } else if rolling {
+        phases.max(2)
+    } else {
+        2
+    }
 }
 
 // The call behind a close: the next round, or where the close was the last or a clock has ended, the end.

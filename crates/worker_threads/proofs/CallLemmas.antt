@@ -251,12 +251,12 @@ served_at_once functions settings script world later terms table after workers n
           let some = some_of workers i within in
           let old_is = shown_at workers world.workers same i some (fresh settings.header) within in
           let new_is = shown_at new later.workers new_are i some (fresh settings.header) (omega (arith, within, served.count)) in
-          let part = subst (λ (asks : List (ℕ × Request)). HasDone (epochs.first_epoch terms) terms.more asks (rounds.row_at rows i)
+          let part = subst (λ (asks : List (ℕ × Request)). HasDone terms asks (rounds.row_at rows i)
           (shown_worker (get_or workers i some)) (shown_worker (get_or new i some)))
           (are i [] (omega (arith, within, many))).requests (served.parts i some within) in
           let asks = asked_in_round host script world i in
-          subst (λ (w : Worker). HasDone (epochs.first_epoch terms) terms.more asks (rounds.row_at rows i) (worker_at host world i) w) (sym new_is)
-          (subst (λ (w : Worker). HasDone (epochs.first_epoch terms) terms.more asks (rounds.row_at rows i) w (shown_worker (get_or new i some))) (sym old_is) part);
+          subst (λ (w : Worker). HasDone terms asks (rounds.row_at rows i) (worker_at host world i) w) (sym new_is)
+          (subst (λ (w : Worker). HasDone terms asks (rounds.row_at rows i) w (shown_worker (get_or new i some))) (sym old_is) part);
       notes = notes;
       is = is ∙ ap (λ (ws : List Worker). record world {
         shards = filled world.shards (map shown_content after);

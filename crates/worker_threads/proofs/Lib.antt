@@ -18,6 +18,7 @@ mod RoundAskedLemmas
 mod RoundStopLemmas
 mod RoundShapeLemmas
 mod RoundWorldLemmas
+mod LoopLemmas
 mod RollingLemmas
 mod ModeLemmas
 mod ThreadLemmas

@@ -93,7 +93,7 @@ module _ (functions : DigestFunctions) (settings : Settings) (script : List (Lis
         count = is.count;
         parts = λ i there.
             let asks = asked_of i (get_or script world.phase []) in
-            let part = subst (λ (all : List (ℕ × Request)). parts.HasDone (first_epoch terms) terms.more all (row_at rows i) (worker_at host world i) (worker_at host later i))
+            let part = subst (λ (all : List (ℕ × Request)). parts.HasDone terms all (row_at rows i) (worker_at host world i) (worker_at host later i))
             (asked_plain functions settings script i world plain) (is.parts i there) in
             subst (λ (row : Row). HasDone asks row (worker_at host world i) (worker_at host later i)) (sym (row_at_phase rows i))
             (has_done_plain terms one i asks (row_at rows i) (worker_at host world i) (worker_at host later i)

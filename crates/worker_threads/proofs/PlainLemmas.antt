@@ -179,7 +179,7 @@ module _ (t : epochs.Terms) (one : t.more ≡ 0) where
 
   -- A worker that did its part of the round did its part of the phase.
   pub has_done_plain : (worker : ℕ) (asked : List Request) (row : round_rows.Row) (old new : Worker) → told.IsListOf t worker row.list row.entered
-      → old.clock.at.epoch ≡ epochs.first_epoch t → parts.HasDone (epochs.first_epoch t) t.more (numbered 0 asked) row old new → HasDone asked (row_of row) old new
+      → old.clock.at.epoch ≡ epochs.first_epoch t → parts.HasDone t (numbered 0 asked) row old new → HasDone asked (row_of row) old new
   has_done_plain worker asked row old new list here has =
       let first : ℕ = epochs.first_epoch t in
       let so_far = has.so_far in

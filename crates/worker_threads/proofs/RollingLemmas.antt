@@ -35,6 +35,7 @@ use Rattle.host_world.specs.Behind.{IsBehindSetup, with_logs}
 use Rattle.host_world.specs.Places.{place_of}
 use Rattle.host_world.proofs.FrontLaws.{length-before_each}
 use Rattle.host_serving.specs.Leading.{first_of, first_end, LeadsAs}
+use Rattle.host_serving.specs.Loop.{KeepsToLoop}
 use Rattle.host_serving.specs.Form.{AreOfRound, AreByWorker}
 use Rattle.host_serving.specs.Standing.{asked_by, first_of_round, EndsRound}
 use Rattle.host_serving.proofs.BeforeLaws.{rolling_last}
@@ -49,11 +50,12 @@ use Rattle.worker_threads.specs.Round.{asked_in_round, newest_of, noted_of, IsRo
 use Rattle.worker_threads.proofs.EndLemmas.{unended}
 use Rattle.worker_threads.proofs.FilledLemmas.{HaveFive}
 use Rattle.worker_threads.proofs.LeadLemmas.{enabled-without}
+use Rattle.worker_threads.proofs.LoopLemmas.{keeps_to_loop}
 use Rattle.worker_threads.proofs.MakingLemmas.{five}
 use Rattle.worker_threads.proofs.RoundAskedLemmas.{cut-none, are_next, asked_whole}
 use Rattle.worker_threads.proofs.RoundShapeLemmas.{finishes-of, round-of, finishes-newest, run-kept, run-then-kept}
 use Rattle.worker_threads.proofs.RoundStopLemmas.{by_worker_from, NoneFirst, SomeFirst, first_stop}
-use Rattle.worker_threads.proofs.RoundWorldLemmas.{rows_are, of_world, clock_left, world_same}
+use Rattle.worker_threads.proofs.RoundWorldLemmas.{rows_are, list_is, of_world, clock_left, world_same}
 use Rattle.worker_threads.proofs.ShapeLemmas.{IsOfRound}
 use Rattle.stamp_order.proofs.InOrderLaws.{every-append}
 
@@ -161,7 +163,7 @@ module _ (functions : DigestFunctions) (settings : Settings) (script : List (Lis
       there : i < length world.workers
       there = omega (arith, within, count)
 
-      part : HasDone first terms.more (asked_in_round host script world i) (row_at rows i) (worker_at host world i) (worker_at host later i)
+      part : HasDone terms (asked_in_round host script world i) (row_at rows i) (worker_at host world i) (worker_at host later i)
       part = is.parts i there
 
       clock_is : (worker_at host later i).clock ≡ on_to (first + (row_at rows i).entered) (clock_behind (worker_at host before i).clock (turns_of (row_at rows i).list))
@@ -195,6 +197,20 @@ module _ (functions : DigestFunctions) (settings : Settings) (script : List (Lis
     };
     turns = turns;
   }
+
+  -- Where there is one worker, it keeps to its loop.
+  keeps_loop : length before.workers ≡ 1 → KeepsToLoop host (worker_at host before 0).served before.newest (list_of lists 0)
+  keeps_loop one =
+      let alone : terms.workers ≡ 1 = is.made.workers ∙ sym count ∙ one in
+      let asks : List (ℕ × Request) = asked_in_round host script world 0 in
+      let cut : drop (worker_at host before 0).served (asked host 0) ≡ asks =
+      ap (λ (n : ℕ). drop n (asked host 0)) (served_none 0 some)
+      ∙ sym (asked_whole functions settings script 0 world rolling is.begins.served.within last) in
+      subst (λ (epoch : ℕ). KeepsToLoop host (worker_at host before 0).served epoch (list_of lists 0)) (sym (table.newest rolling).0)
+      (subst (KeepsToLoop host (worker_at host before 0).served first)
+      (sym (list_is functions settings script logs world later each terms after rows is 0))
+      (keeps_to_loop functions settings script terms alone is_first (worker_at host before 0).served asks (is.parts 0 some).rest (row_at rows 0)
+      (worker_at host world 0) (worker_at host later 0) (is.closed.own 0 (omega (arith, alone))).own cut (is.parts 0 some).so_far))
 
   -- ---- the worlds behind events
 
@@ -349,6 +365,7 @@ module _ (functions : DigestFunctions) (settings : Settings) (script : List (Lis
               pasts = pasts;
               stops = [];
               told = told_of;
+              loop = keeps_loop;
               by_worker = tt;
               are = ap (λ (n : ℕ). whole_events before finals (first + newest) n lists) (sym (table.newest rolling).0);
             });
@@ -486,6 +503,7 @@ module _ (functions : DigestFunctions) (settings : Settings) (script : List (Lis
             pasts = pasts;
             stops = found.stop ∷ found.others;
             told = told_of;
+            loop = keeps_loop;
             by_worker = subst (AreByWorker 0) found.stops (by_worker_from 0 0 rows (omega arith));
             are = ap (λ (n : ℕ). stopped_events before finals (first + newest) n lists (found.stop ∷ found.others)) (sym (table.newest rolling).0);
           });

@@ -19,7 +19,7 @@ use Rattle.host_shard.specs.Shown.{shown_content}
 use Rattle.host_epochs.specs.declared.views.Row.{Row}
 use Rattle.host_epochs.specs.Plays.{new_row}
 use Rattle.host_epochs.specs.Round.{row_at}
-use Rattle.host_epochs.specs.Terms.{Terms, first_epoch, place_count}
+use Rattle.host_epochs.specs.Terms.{Terms, place_count}
 use Rattle.shipped_host.specs.declared.settings.Settings.{Settings}
 use Rattle.host_world.specs.Behind.{with_logs}
 use Rattle.host_world.specs.Lending.{all_contents, filled}
@@ -58,7 +58,7 @@ module _ (functions : DigestFunctions) (settings : Settings) (script : List (Lis
   pub of_world : {A : Type 0} (show : Worker → A) (i : ℕ) → show (unlogged (worker_at host before i)) ≡ show (unlogged (worker_at host world i))
   of_world show i = ap show (same_unlogged logs world.workers i (fresh settings.header))
 
-  part : (i : ℕ) → i < length world.workers → HasDone (first_epoch terms) terms.more (asked_in_round host script world i) (row_at rows i) (worker_at host world i) (worker_at host later i)
+  part : (i : ℕ) → i < length world.workers → HasDone terms (asked_in_round host script world i) (row_at rows i) (worker_at host world i) (worker_at host later i)
   part i there = is.parts i there
 
   -- the clock that a worker's turns leave

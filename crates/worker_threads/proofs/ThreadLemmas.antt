@@ -181,7 +181,7 @@ module _ (terms : Terms) (table : TableId) (threads : List WorkerPair) (workers 
             ∙ sym (lists.get_or-map writer_in workers i d.thread.worker w in_workers)
 
     parts : (i : ℕ) (e : Worker) → i < length workers
-        → HasDone (first_epoch terms) terms.more (asked_in (get_or turns i [])) (row_at (map row_of left) i) (shown_worker (get_or workers i e)) (shown_worker (get_or new i e))
+        → HasDone terms (asked_in (get_or turns i [])) (row_at (map row_of left) i) (shown_worker (get_or workers i e)) (shown_worker (get_or new i e))
     parts i e within =
         let counts = threads_are in
         let there : i < length threads = omega (arith, within, counts.0) in
@@ -191,10 +191,10 @@ module _ (terms : Terms) (table : TableId) (threads : List WorkerPair) (workers 
         let row : row_at (map row_of left) i ≡ row_of (get_or later i d).thread.hand =
         lists.get_or-map row_of left i d.thread.hand new_row (omega (arith, there, left_count)) ∙ ap row_of (left_at i d) in
         let done = (through i d there).part (All-get_or HaveAll later i d (omega (arith, there, many)) none).worker in
-        subst (λ (w : Worker). HasDone (first_epoch terms) terms.more (asked_in (get_or turns i [])) (row_at (map row_of left) i) (shown_worker w) (shown_worker (get_or new i e))) (sym old_is)
-        (subst (λ (w : Worker). HasDone (first_epoch terms) terms.more (asked_in (get_or turns i [])) (row_at (map row_of left) i) (shown_worker (get_or threads i d).thread.worker) (shown_worker w)) (sym new_is)
-        (subst (λ (r : Row). HasDone (first_epoch terms) terms.more (asked_in (get_or turns i [])) r (shown_worker (get_or threads i d).thread.worker) (shown_worker (get_or later i d).thread.worker)) (sym row)
-        (subst (λ (n : ℕ). HasDone (first_epoch terms) terms.more (asked_in (get_or turns n [])) (row_of (get_or later i d).thread.hand) (shown_worker (get_or threads i d).thread.worker)
+        subst (λ (w : Worker). HasDone terms (asked_in (get_or turns i [])) (row_at (map row_of left) i) (shown_worker w) (shown_worker (get_or new i e))) (sym old_is)
+        (subst (λ (w : Worker). HasDone terms (asked_in (get_or turns i [])) (row_at (map row_of left) i) (shown_worker (get_or threads i d).thread.worker) (shown_worker w)) (sym new_is)
+        (subst (λ (r : Row). HasDone terms (asked_in (get_or turns i [])) r (shown_worker (get_or threads i d).thread.worker) (shown_worker (get_or later i d).thread.worker)) (sym row)
+        (subst (λ (n : ℕ). HasDone terms (asked_in (get_or turns n [])) (row_of (get_or later i d).thread.hand) (shown_worker (get_or threads i d).thread.worker)
         (shown_worker (get_or later i d).thread.worker)) (number_at ready i d there) done)))
 
     -- They have served.

@@ -49,7 +49,7 @@ pub record HaveServed (terms : Terms) (table : TableId) (turns : List (List Turn
   pub count : length new ≡ length old
   pub writers : map writer_in new ≡ map writer_in old
   pub parts : (i : ℕ) (d : Worker) → i < length old
-      → HasDone (first_epoch terms) terms.more (asked_in (get_or turns i [])) (row_at (map row_of hands) i)
+      → HasDone terms (asked_in (get_or turns i [])) (row_at (map row_of hands) i)
       (shown_worker (get_or old i d)) (shown_worker (get_or new i d))
 
 -- Each verifier's run took just what is in its worker's log.

@@ -70,7 +70,7 @@ pub record IsRoundServed (host : Host Content Request) (absent : Bool) (script :
   pub closed : IsRound terms after rows
   pub count : length later.workers ≡ length world.workers
   pub parts : (i : ℕ) → i < length world.workers
-      → HasDone (first_epoch terms) terms.more (asked_in_round host script world i) (row_at rows i) (worker_at host world i) (worker_at host later i)
+      → HasDone terms (asked_in_round host script world i) (row_at rows i) (worker_at host world i) (worker_at host later i)
   pub notes : NotesEpochs host world later
   pub is : later ≡ record world {
     shards = filled world.shards (map shown_content after);

@@ -5,7 +5,8 @@ use Rattle.script_text.specs.Text.{AreTasks}
 use Rattle.script_text.specs.declared.task.Task.{Task}
 use Rattle.script_text.specs.Generator.{generated}
 use Rattle.verifier_threads.specs.Serving.{Outputs, ServesTo}
-use Rattle.fastver_top.specs.Running.{Keeping, header_for, settings_for}
+use Rattle.check_core.specs.Sealing.{Keeping}
+use Rattle.fastver_top.specs.Running.{header_for, settings_for}
 use Rattle.fastver_top.specs.Generating.{GensTo, account_for}
 use Rattle.fastver_top.proofs.LoadLemmas.{load-asks, gens-nothing, gens-stopped, gens-served}
 use Rattle.fastver_top.proofs.generating.serve_generated.Goals as goal

@@ -3,7 +3,8 @@ use Rattle.lamport_clocks.specs.declared.header.Header.{Header}
 use Rattle.report_text.specs.declared.status.Status.{Status}
 use Rattle.report_text.specs.Answer.{Reading, Writing}
 use Rattle.script_text.specs.Text.{AreTasks}
-use Rattle.fastver_top.specs.Running.{Keeping, ReadsScript, RunsTo, header_for, settings_for}
+use Rattle.check_core.specs.Sealing.{Keeping}
+use Rattle.fastver_top.specs.Running.{ReadsScript, RunsTo, header_for, settings_for}
 use Rattle.fastver_top.proofs.RunLemmas.{runs-unread, runs-stopped, runs-served}
 use Rattle.fastver_top.proofs.ServedLemmas.{run-end}
 use Rattle.fastver_top.proofs.SettingLemmas.{settings_in_range}

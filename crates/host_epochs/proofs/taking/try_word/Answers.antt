@@ -27,7 +27,7 @@ compare_exchange-requires g c =
     let me : Sat = (Working (desk_with hand Idle), []) in
     let lemma : Allows (IsKept terms) slots hand.seat.id me p (λ n. either (eqb n 0) a n) (tried terms (step {S = Content} slots p 0 a none) me) =
     subst (λ (b : ℕ). Allows (IsKept terms) slots hand.seat.id me p (λ n. either (eqb n 0) b n) (tried terms (step {S = Content} slots p 0 b none) me)) own
-    (tries terms hand.seat.id i p slots (row_of hand) (losses hand) (left hand) (seen hand) c.requires.place) in (
+    (tries terms hand.seat.id i p slots (row_of hand) (losses hand) (left hand) (seen hand) c.requires.making c.requires.place) in (
       c.requires.free.at,
       c.requires.word,
       subst (λ (t : Terms × Sat). Allows (IsKept terms) slots hand.seat.id t.1 p (λ n. either (eqb n 0) a n) (tried t.0 (step {S = Content} slots p 0 a none) t.1))

@@ -1,6 +1,6 @@
 use Rattle.program_words.proofs.WordsLemmas.{asked_where_taken, nothing_where_refused, asked_if_ok, none_if_refused, same_fault}
 use Rattle.std.proofs.Common.{map}
-use Rattle.program_words.proofs.AskedLemmas.{result_range}
+use Rattle.program_words.proofs.AskedLaws.{result_range}
 use Rattle.program_words.proofs.words.read_words.Goals as goal
 
 pub returns-in_ok-asked_in-in-Ok-clause-asked : goal.returns-in_ok-asked_in-in-Ok-clause-asked

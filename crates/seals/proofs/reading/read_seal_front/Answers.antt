@@ -19,11 +19,11 @@ returns-then-left-lt-TAG_LEN g c = record { answer = tag_cut c.args.bytes.now _ 
 pub overflow_sub-bytes : goal.overflow_sub-bytes
 overflow_sub-bytes g c = left_fits c.args.bytes.now _ (seal_in c.in-Ok.state) c.left-left.result (λ i. omega (arith, c.type_inv.bytes i)) c.in-Ok.ensures.reads c.left-left.ensures.value
 
-pub tag_in-requires : goal.tag_in-requires
-tag_in-requires g c = record { there = omega (arith, c.split_at.ensures.back_len, c.if-left-lt-TAG_LEN.false, left_fits c.args.bytes.now _ (seal_in c.in-Ok.state) c.left-left.result (λ i. omega (arith, c.type_inv.bytes i)) c.in-Ok.ensures.reads c.left-left.ensures.value) }
+pub is_tagged-requires : goal.is_tagged-requires
+is_tagged-requires g c = record { there = omega (arith, c.split_at.ensures.back_len, c.if-left-lt-TAG_LEN.false, left_fits c.args.bytes.now _ (seal_in c.in-Ok.state) c.left-left.result (λ i. omega (arith, c.type_inv.bytes i)) c.in-Ok.ensures.reads c.left-left.ensures.value) }
 
-pub returns-then-not-is_same_tag : goal.returns-then-not-is_same_tag
-returns-then-not-is_same_tag g c =
+pub returns-then-not-is_tagged : goal.returns-then-not-is_tagged
+returns-then-not-is_tagged g c =
     let functions = g.D.Digests.functions c.args.digests.now in
     let fits : AreBytes c.args.bytes.now = λ i. omega (arith, c.type_inv.bytes i) in
     let before =
@@ -33,9 +33,7 @@ returns-then-not-is_same_tag g c =
         tag = take tag_bytes c.split_at.result.1.now;
         rest = drop tag_bytes c.split_at.result.1.now;
         read = before.read;
-        other = λ is.
-            let same = c.tag.ensures.value ∙ (ap functions.tag (sym before.front) ∙ (is ∙ sym c.tag_in.ensures.value)) in
-            absurd (true≢false (sym (c.is_same_tag.ensures.same.1 same) ∙ c.if-not-is_same_tag.true));
+        other = λ is. absurd (true≢false (sym (c.is_tagged.ensures.same.1 (ap functions.tag (sym before.front) ∙ is)) ∙ c.if-not-is_tagged.true));
       };
     }
 
@@ -49,7 +47,7 @@ returns g c =
         tag = take tag_bytes c.split_at.result.1.now;
         rest = drop tag_bytes c.split_at.result.1.now;
         read = before.read;
-        tagged = ap functions.tag before.front ∙ (sym c.tag.ensures.value ∙ (c.is_same_tag.ensures.same.0 c.if-not-is_same_tag.false ∙ c.tag_in.ensures.value));
+        tagged = ap functions.tag before.front ∙ c.is_tagged.ensures.same.0 c.if-not-is_tagged.false;
         counted = before.counted;
       };
     }

@@ -1,4 +1,4 @@
-use Rattle.std.proofs.Common.{◌≡◌, ℕ, ◌+◌, ◌-◌, ◌++◌, List, [], Option, None, Some, IfSome, Bor, slice_get, rules, refl, sym, ◌∙◌, ap, subst, append-nil, arith}
+use Rattle.std.proofs.Common.{◌≡◌, ℕ, suc, ◌+◌, ◌-◌, ◌≤◌, ◌++◌, List, [], Option, None, Some, IfSome, Bor, slice_get, rules, refl, sym, ◌∙◌, ap, subst, append-nil, arith}
 use Rattle.std.specs.List.{fold}
 use Rattle.std.specs.Slice.{IsItemAt}
 use Rattle.std.proofs.lemmas.Option.{slice_get-get_or}
@@ -7,6 +7,7 @@ use Rattle.std.proofs.lemmas.Result.{IfOk-from_err}
 use Rattle.fv_outside.specs.Written.{Grows}
 use Rattle.fv_outside.proofs.WrittenLaws.{Grows-nil}
 use Rattle.record_text.specs.declared.operation.Operation.{Operation}
+use Rattle.verifier_run.specs.Progress.{Progress}
 use Rattle.report_text.proofs.PassLaws.{Passes-then, Passes-flush, Passes-front, Passes-stop, on_err}
 use Rattle.epoch_gather.specs.declared.outcome.Verdict.{Verdict}
 use Rattle.bundle_report.specs.declared.judged.Judged.{Judged}
@@ -14,8 +15,9 @@ use Rattle.bundle_report.specs.Report.{operations_told}
 use Rattle.bundle_report.specs.RunReport.{courses_of}
 use Rattle.bundle_report.specs.SoFar.{lines_from}
 use Rattle.certified_epochs.specs.Telling.{text_by}
-use Rattle.certified_epochs.specs.Turn.{turn, next_epoch, IsVerdictAt}
-use Rattle.certified_epochs.proofs.TurnLemmas.{runs_of, settled-next, certified-turn, done-turn, same-judged, no-lines, lines-step, turn-front, turn-alike}
+use Rattle.certified_epochs.specs.Turn.{turn, next_epoch, IsVerdictAt, CanCertify}
+use Rattle.certified_epochs.proofs.TurnLemmas.{runs_of, certified-turn, done-turn, same-judged, no-lines, lines-step, turn-front, turn-alike}
+use Rattle.certified_epochs.proofs.GoingOnLemmas.{AreBehind, counted-turn, stayed-turn, behind-none, behind-turn, behind-can, behind-machines, behind-held, settled-next}
 use Rattle.certified_epochs.proofs.certifier.Certifier.certify.Goals as goal
 
 pub returns-in-Some-clause-judged : goal.returns-in-Some-clause-judged
@@ -38,13 +40,17 @@ epochs-preserved g c =
     let text = (turn tell c.epochs.self (runs_of c.epochs.runs)).text in
     let operations : List Operation = (turn operations_told c.epochs.self (runs_of c.epochs.runs)).text in
     let next = c.in_ok-certify_next.ensures in
-    let own = certified-turn tell inv.logs.0 inv.logs.1 inv.logs.2 c.epochs.self now (runs_of c.epochs.runs) (runs_of c.certify_next.new.runs) c.in_ok-certify_next.field-0 text
-    inv.logs.3 inv.even next.turned c.if-not-branch.false in
+    let own = counted-turn tell c.epochs.self (runs_of c.epochs.runs) c.in_ok-certify_next.field-0 now (runs_of c.certify_next.new.runs) text next.turned c.if-not-branch.false in
+    let more : suc (c.epochs.self.count - c.args.self.now.count) ≡ now.count - c.args.self.now.count = omega (arith, inv.counted, own.count) in
     record {
       text = inv.text ++ text;
       passes = Passes-then _ _ _ _ _ _ _ _ inv.passes next.text;
-      even = own.even;
-      logs = (inv.logs.0, inv.logs.1, inv.logs.2, own.taken);
+      even = own.even ∙ inv.even;
+      can = inv.can;
+      behind =
+          subst (λ (count : ℕ). AreBehind (inv.can.first + c.args.self.now.count) count (runs_of c.args.runs.now) (runs_of c.certify_next.new.runs)) more
+          (behind-turn (inv.can.first + c.args.self.now.count) (c.epochs.self.count - c.args.self.now.count) (runs_of c.args.runs.now) (runs_of c.epochs.runs)
+          c.epochs.self (record { more = c.in_ok-certify_next.field-0; judged = now; runs = runs_of c.certify_next.new.runs; text = text }) inv.behind own);
       taken = λ scheme header logs taken.
           (certified-turn tell scheme header logs c.epochs.self now (runs_of c.epochs.runs) (runs_of c.certify_next.new.runs) c.in_ok-certify_next.field-0 text
           (inv.taken scheme header logs taken) inv.even next.turned c.if-not-branch.false).taken;
@@ -132,17 +138,63 @@ found_told P verdicts index (Some v) at told = told v.now (slice_get-get_or verd
 pub certify_next-requires-clause-handed : goal.certify_next-requires-clause-handed
 certify_next-requires-clause-handed g c κs bounds =
     let inv = c.epochs.invariant in
-    let have = c.requires.logs inv.fed_before in
     let now = c.epochs.self in
     let runs = runs_of c.epochs.runs in
     let settled = c.args.settled.now in
+    let first = inv.can.first + c.args.self.now.count in
     let index = c.self-in-epochs.inside.judged.count - c.self.inside.judged.count in
     let place : now.count - c.args.self.now.count ≡ index =
     omega (arith, ap (λ (j : Judged). j.count) c.self-in-epochs.view_is, ap (λ (j : Judged). j.count) c.self.view_is) in
+    let behind = subst (λ (n : ℕ). AreBehind first n (runs_of c.args.runs.now) runs) place inv.behind in
     found_told (λ verdict. (epoch : ℕ) → next_epoch runs ≡ Some epoch → IsVerdictAt runs 0 epoch verdict) settled index c.get-handed.result c.get-handed.ensures.lookup
     (λ verdict there epoch next.
-    settled-next have.0 have.1 have.2 c.args.self.now now (runs_of c.args.runs.now) runs settled verdict epoch have.3
-    (inv.taken have.0 have.1 have.2 have.3) inv.even inv.counted (c.requires.settled inv.fed_before) (ap (slice_get settled) place ∙ there) next)
+    settled-next first index epoch (runs_of c.args.runs.now) runs verdict behind (c.requires.settled inv.fed_before inv.can index verdict there) next)
+
+-- the runs can be certified still, where there is no more
+still_can : (first start : ℕ) (so_far now : Judged) (olds runs next : List (Progress Operation)) → start ≤ so_far.count
+    → AreBehind (first + start) (so_far.count - start) olds runs → next ≡ runs → now.count ≡ so_far.count → CanCertify now next
+still_can first start so_far now olds runs next within behind same count =
+    subst (CanCertify now) (sym same) (behind-can first start so_far.count now olds runs count within behind)
+
+pub certify_next-requires-clause-can : goal.certify_next-requires-clause-can
+certify_next-requires-clause-can g c κs bounds =
+    let inv = c.epochs.invariant in
+    still_can inv.can.first c.args.self.now.count c.epochs.self c.epochs.self (runs_of c.args.runs.now) (runs_of c.epochs.runs) (runs_of c.epochs.runs) inv.counted inv.behind refl refl
+
+pub returns-in-Ok-clause-can : goal.returns-in-Ok-clause-can
+returns-in-Ok-clause-can g c =
+    let tell = text_by g.D.Digests.functions c.args.telling.now in
+    let inv = c.epochs.invariant in
+    let stays = stayed-turn tell c.epochs.self (runs_of c.epochs.runs) c.in_ok-certify_next.field-0 c.certify_next.new.self (runs_of c.certify_next.new.runs)
+    (turn tell c.epochs.self (runs_of c.epochs.runs)).text c.in_ok-certify_next.ensures.turned c.if-not-branch.true in
+    still_can inv.can.first c.args.self.now.count c.epochs.self c.certify_next.new.self (runs_of c.args.runs.now) (runs_of c.epochs.runs) (runs_of c.certify_next.new.runs)
+    inv.counted inv.behind stays.runs_are stays.count
+
+pub returns-in-Ok-clause-machines : goal.returns-in-Ok-clause-machines
+returns-in-Ok-clause-machines g c =
+    let tell = text_by g.D.Digests.functions c.args.telling.now in
+    let stays = stayed-turn tell c.epochs.self (runs_of c.epochs.runs) c.in_ok-certify_next.field-0 c.certify_next.new.self (runs_of c.certify_next.new.runs)
+    (turn tell c.epochs.self (runs_of c.epochs.runs)).text c.in_ok-certify_next.ensures.turned c.if-not-branch.true in
+    behind-machines _ _ c.args.runs.now c.epochs.runs c.certify_next.new.runs c.epochs.invariant.behind stays.runs_are
+
+pub returns-in-Ok-clause-held : goal.returns-in-Ok-clause-held
+returns-in-Ok-clause-held g c =
+    let tell = text_by g.D.Digests.functions c.args.telling.now in
+    let stays = stayed-turn tell c.epochs.self (runs_of c.epochs.runs) c.in_ok-certify_next.field-0 c.certify_next.new.self (runs_of c.certify_next.new.runs)
+    (turn tell c.epochs.self (runs_of c.epochs.runs)).text c.in_ok-certify_next.ensures.turned c.if-not-branch.true in
+    behind-held _ _ c.args.runs.now c.epochs.runs c.certify_next.new.runs c.epochs.invariant.behind stays.runs_are
+
+pub returns-in_err-certify_next-clause-machines : goal.returns-in_err-certify_next-clause-machines
+returns-in_err-certify_next-clause-machines g c = IfOk-from_err _ _ c.from_residual.ensures.0
+
+pub returns-in_err-certify_next-clause-held : goal.returns-in_err-certify_next-clause-held
+returns-in_err-certify_next-clause-held g c = IfOk-from_err _ _ c.from_residual.ensures.0
+
+pub returns-in-Some-clause-can : goal.returns-in-Some-clause-can
+returns-in-Some-clause-can g c = c.requires.can (c.any_starved.ensures.none c.if-any_starved.false)
+
+pub returns-in_err-certify_next-clause-can : goal.returns-in_err-certify_next-clause-can
+returns-in_err-certify_next-clause-can g c = IfOk-from_err _ _ c.from_residual.ensures.0
 
 pub returns-in_err-certify_next-clause-judged : goal.returns-in_err-certify_next-clause-judged
 returns-in_err-certify_next-clause-judged g c = λ scheme header logs taken. IfOk-from_err _ _ c.from_residual.ensures.0
@@ -192,7 +244,8 @@ epochs-init g c =
       text = [];
       passes = search rules;
       even = search rules;
-      logs = c.requires.logs fed;
+      can = c.requires.can fed;
+      behind = behind-none ((c.requires.can fed).first + c.args.self.now.count) c.args.self.now.count (runs_of c.args.runs.now) (c.requires.can fed).each;
       taken = λ scheme header logs taken. taken;
       lines = λ scheme header logs taken.
           no-lines (text_by g.D.Digests.functions c.args.telling.now) (courses_of scheme header logs) (header.first + c.args.self.now.count) c.args.self.now.count;

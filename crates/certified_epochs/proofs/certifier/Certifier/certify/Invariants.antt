@@ -6,9 +6,10 @@ use Rattle.record_text.specs.declared.operation.Operation.{Operation}
 use Rattle.report_text.specs.Page.{Passes}
 use Rattle.bundle_report.specs.Report.{operations_told}
 use Rattle.bundle_report.specs.RunReport.{courses_of}
-use Rattle.bundle_report.specs.SoFar.{HaveRead, HaveLogs, lines_from}
+use Rattle.bundle_report.specs.SoFar.{HaveRead, lines_from}
 use Rattle.certified_epochs.specs.Telling.{text_by}
-use Rattle.certified_epochs.specs.Turn.{AreFed, parts_left}
+use Rattle.certified_epochs.specs.Turn.{AreFed, CanCertify, parts_left}
+use Rattle.certified_epochs.proofs.GoingOnLemmas.{AreBehind}
 use Rattle.certified_epochs.proofs.certifier.Certifier.certify.Given as goal
 
 -- so many epochs are certified, their lines are written or wait on the page, and their operations are added
@@ -17,7 +18,8 @@ invariant-epochs g l = record {
   text : List ℕ;
   passes : Passes (g.O.Sink.held l.fn.out) [] text (g.O.Sink.held l.out) l.page;
   even : l.self.unbalanced ≡ None;
-  logs : HaveLogs l.self (map (λ fed. fed.run) l.runs);
+  can : CanCertify l.fn.self (map (λ fed. fed.run) l.fn.runs);
+  behind : AreBehind (can.first + l.fn.self.count) (l.self.count - l.fn.self.count) (map (λ fed. fed.run) l.fn.runs) (map (λ fed. fed.run) l.runs);
   taken : (scheme : Scheme) (header : Header) (logs : List (List ℕ))
       → HaveRead scheme header logs l.fn.self (map (λ fed. fed.run) l.fn.runs)
       → HaveRead scheme header logs l.self (map (λ fed. fed.run) l.runs);

@@ -10,7 +10,8 @@ use Rattle.bundle_report.specs.declared.judged.Judged.{Judged}
 use Rattle.bundle_report.specs.Report.{operations_told}
 use Rattle.certified_epochs.specs.Telling.{text_by}
 use Rattle.certified_epochs.specs.Turn.{Turned, IsVerdictAt, next_epoch}
-use Rattle.certified_epochs.proofs.TurnLemmas.{runs_of, fed-judged, handed-at, with_text, turn-none, turn-other, turn-balanced, less-left, count-small, fed_courses}
+use Rattle.certified_epochs.proofs.TurnLemmas.{runs_of, handed-at, with_text, turn-none, turn-other, turn-balanced, less-left, fed_courses}
+use Rattle.certified_epochs.proofs.GoingOnLemmas.{fed-judged, count-small}
 use Rattle.certified_epochs.proofs.OrderLemmas.{fed-in_order}
 use Rattle.stamp_order.specs.Operations.{merged_up_to}
 use Rattle.verifier_run.specs.Taken.{left_of}
@@ -43,7 +44,7 @@ returns-in_default-clause-folded g c =
 pub verdict_on-requires : goal.verdict_on-requires
 verdict_on-requires g c = record {
   few = c.requires.few;
-  parts = fed-judged c.args.self.now c.args.runs.now c.requires.logs;
+  parts = fed-judged c.args.self.now c.args.runs.now c.requires.can;
   handed =
       handed-at (λ epoch (verdict : Bor Verdict). IsVerdictAt (runs_of c.args.runs.now) 0 epoch verdict.now) c.in-Some.epoch (next_epoch (runs_of c.args.runs.now)) c.args.handed
       (sym c.next_epoch.ensures.value ∙ c.in-Some.is) c.requires.handed;
@@ -78,7 +79,7 @@ returns-in-Missing-clause-text g c =
     (Passes-start (g.O.Sink.held c.args.out.now) c.args.page.now)
 
 pub tell_epoch-requires-clause-in_order : goal.tell_epoch-requires-clause-in_order
-tell_epoch-requires-clause-in_order g c κs within = fed-in_order c.args.self.now c.args.runs.now c.requires.logs
+tell_epoch-requires-clause-in_order g c κs within = fed-in_order c.args.self.now c.args.runs.now c.requires.can
 
 pub returns-in_err-tell_epoch-clause-front : goal.returns-in_err-tell_epoch-clause-front
 returns-in_err-tell_epoch-clause-front g c =
@@ -93,7 +94,7 @@ returns-in_err-tell_epoch-clause-front g c =
 pub one_more-self-inside-requires : goal.one_more-self-inside-requires
 one_more-self-inside-requires g c = record {
   within =
-      let small = count-small c.args.self.now c.args.runs.now c.next_epoch.result c.in-Some.epoch c.requires.logs c.requires.even c.in-Some.is c.next_epoch.ensures.value in
+      let small = count-small c.args.self.now (runs_of c.args.runs.now) c.next_epoch.result c.in-Some.epoch c.requires.can c.in-Some.is c.next_epoch.ensures.value in
       let same = ap (λ (j : Judged). j.count) c.self.view_is in
       omega (arith, small, same);
 }

@@ -1,4 +1,4 @@
-use Rattle.std.proofs.Common.{◌≡◌, ℕ, List, length, sym, ◌∙◌, ap, subst, refl, arith}
+use Rattle.std.proofs.Common.{◌≡◌, ℕ, List, length, map, sym, ◌∙◌, ap, subst, refl, arith}
 use Rattle.std.proofs.lemmas.Result.{err_from_is_err_and}
 use Rattle.fv_outside.specs.Written.{Grows}
 use Rattle.merkle_records.specs.Scheme.{scheme_of}
@@ -6,6 +6,8 @@ use Rattle.bundle_report.specs.declared.judged.Judged.{Judged}
 use Rattle.load_summary.specs.Counting.{Counted}
 use Rattle.certified_epochs.specs.declared.fed_run.FedRun.{FedRun}
 use Rattle.certified_epochs.specs.Telling.{text_by}
+use Rattle.certified_epochs.specs.Turn.{AreVerdictsOn}
+use Rattle.certified_epochs.proofs.CanCertifyLaws.{can_certify-read}
 use Rattle.host_rounds.specs.SoFar.{RunsSoFar, HaveRun, lines_counted}
 use Rattle.host_rounds.proofs.RunLemmas.{lent_back, runs-few, front-due, certified-run, counted-due, all-due}
 use Rattle.host_rounds.proofs.rounds.Rounds.certify.Goals as goal
@@ -20,6 +22,20 @@ as_lent now judged items lent bytes summary same is =
 pub certify-requires-clause-few : goal.certify-requires-clause-few
 certify-requires-clause-few g c κs within =
     omega (arith, ap length c.as_mut_slice-runs.ensures.value, ap (λ (s : RunsSoFar). length s.runs) c.self.view_is, runs-few c.args.self.now c.requires.runs)
+
+pub certify-requires-clause-can : goal.certify-requires-clause-can
+certify-requires-clause-can g c κs within = λ fed.
+    let some = c.requires.runs in
+    let inside = c.self.inside in
+    let is = as_lent c.args.self.now inside.certifier inside.runs.items c.as_mut_slice-runs.result.now inside.bytes inside.summary c.as_mut_slice-runs.ensures.value c.self.view_is in
+    let run = subst (HaveRun some.0 some.1 some.2) is some.3 in
+    can_certify-read (scheme_of some.0 some.1) some.1 some.2 inside.certifier (map (λ (f : FedRun). f.run) c.as_mut_slice-runs.result.now) run.taken
+
+pub certify-requires-clause-settled : goal.certify-requires-clause-settled
+certify-requires-clause-settled g c κs within = λ fed.
+    let inside = c.self.inside in
+    let is = as_lent c.args.self.now inside.certifier inside.runs.items c.as_mut_slice-runs.result.now inside.bytes inside.summary c.as_mut_slice-runs.ensures.value c.self.view_is in
+    subst (λ (s : RunsSoFar). AreVerdictsOn s.judged (map (λ (f : FedRun). f.run) s.runs) c.args.settled.now) is c.requires.settled
 
 pub returns-in_err-certify-clause-front : goal.returns-in_err-certify-clause-front
 returns-in_err-certify-clause-front g c = λ functions header logs held have written.

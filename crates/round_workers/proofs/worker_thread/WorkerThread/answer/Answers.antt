@@ -12,18 +12,23 @@ use Rattle.round_order.specs.Turn.{served_more}
 use Rattle.host_epochs.specs.declared.hand.Hand.{Hand}
 use Rattle.host_epochs.specs.declared.told.Stop.{Stop}
 use Rattle.host_epochs.specs.Calls.{MayNote, stop_by}
-use Rattle.host_epochs.specs.Hands.{entered, done, history}
+use Rattle.host_epochs.specs.Hands.{entered, entries, done, history, row_of}
 use Rattle.host_epochs.specs.Table.{making, table, terms}
 use Rattle.host_epochs.specs.Terms.{Terms, clock_at, first_epoch}
 use Rattle.host_epochs.proofs.HandLaws.{holds_still}
 use Rattle.host_epochs.proofs.HistoryLaws.{leads_owns}
 use Rattle.host_epochs.proofs.ScanLaws.{near_open}
+use Rattle.host_epochs.specs.declared.views.Row.{Row}
+use Rattle.table_order.specs.Rounds.{turn_of, turns_of}
 use Rattle.round_workers.specs.declared.worker_thread.WorkerThread.{WorkerThread}
+use Rattle.round_workers.specs.Order.{NoneMay}
 use Rattle.round_workers.specs.Parts.{IsNext}
+use Rattle.round_workers.specs.Placed.{ScansFrom}
 use Rattle.round_workers.proofs.HandLemmas.{clock_told, stands-after}
+use Rattle.round_workers.proofs.OrderLemmas.{order-request, scans-served, IsInOrderBehind}
 use Rattle.round_workers.proofs.PartLemmas.{stopped-come, worked-come, worked-running}
 use Rattle.round_workers.proofs.SendLemmas.{log-grown}
-use Rattle.round_workers.proofs.WorkLemmas.{clock_later, may_serve, noted_plan}
+use Rattle.round_workers.proofs.WorkLemmas.{clock_later, may_serve, noted_fresh, noted_plan}
 use Rattle.round_workers.proofs.worker_thread.WorkerThread.answer.Goals as goal
 
 pub plan-requires-clause-own : goal.plan-requires-clause-own
@@ -93,6 +98,15 @@ returns-in-Ok-clause-stands g c = λ _.
     let notes = c.give.ensures.gives in
     stands-after c.args.self.now.hand c.give.new.hand _ [] _ [] notes.after refl refl
 
+pub returns-in-Ok-clause-scans : goal.returns-in-Ok-clause-scans
+returns-in-Ok-clause-scans g c = λ _ opened.
+    let t : Terms = terms g.D.Digests.functions c.args.shared.now.epochs.now in
+    let old : WorkerThread = c.args.self.now in
+    let same : clock_at t c.at-before.result ≡ old.worker.clock = clock_told t old.worker.clock c.at-before.result c.requires.going.behind.is c.at-before.ensures.value in
+    let notes = c.give.ensures.gives in
+    let here : notes.entry.clock.at.epoch ≡ first_epoch t + entered old.hand = ap (λ (r : Reading). r.at.epoch) (notes.is.clock_is ∙ same) ∙ c.requires.going.behind.epoch in
+    subst (λ (r : Row). ScansFrom t r 0) (sym notes.after.row) (scans-served t (row_of old.hand) notes.entry c.args.request.now notes.is.request_is here opened)
+
 pub returns-in-Ok-clause-serves : goal.returns-in-Ok-clause-serves
 returns-in-Ok-clause-serves g c = λ _ phase begun asked rest start come.
     let t : Terms = terms g.D.Digests.functions c.args.shared.now.epochs.now in
@@ -112,8 +126,13 @@ returns-in-Ok-clause-serves g c = λ _ phase begun asked rest start come.
     let here : notes.entry.clock.at.epoch ≡ first_epoch t + entered old.hand = ap (λ (r : Reading). r.at.epoch) from ∙ c.requires.going.behind.epoch in
     let next : IsNext (first_epoch t) ((phase, request) ∷ rest) notes.entry notes.entry.request rest =
     subst (λ (r : Option Request). IsNext (first_epoch t) ((phase, request) ∷ rest) notes.entry r rest) (sym notes.is.request_is) (phase, refl, omega (arith, begun, here)) in
+    let fresh = noted_fresh t old.hand c.give.new.hand c.args.place (clock_at t c.at-before.result) (Some request) c.args.content c.plan.new.content
+    c.requires.taken.content_is (ap (λ (r : Reading). r.at.epoch) same ∙ c.requires.going.behind.epoch) c.requires.fresh c.requires.not_newer notes in
+    let order : IsInOrderBehind (first_epoch t) NoneMay (turns_of (entries old.hand)) (turn_of notes.entry) notes.entry.request =
+    subst (IsInOrderBehind (first_epoch t) NoneMay (turns_of (entries old.hand)) (turn_of notes.entry)) (sym notes.is.request_is)
+    (order-request (first_epoch t) NoneMay (turns_of (entries old.hand)) (turn_of notes.entry) request) in
     let one : old.worker.served + 1 ≡ suc old.worker.served = omega arith in
-    worked-come t asked ((phase, request) ∷ rest) rest start old new notes.entry notes.after.row from notes.done.asked next
+    worked-come t asked ((phase, request) ∷ rest) rest start old new notes.entry notes.after.row from notes.done.asked next fresh order
     (c.push.ensures.commands ∙ ap (λ (p : Plan). old.worker.log.commands ++ p.commands) (sym planned.0))
     (sym planned.1) (one ∙ ap (served_more old.worker.served) (sym notes.is.request_is)) refl refl refl c.requires.going come
 

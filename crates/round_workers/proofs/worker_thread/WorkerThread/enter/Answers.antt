@@ -1,11 +1,15 @@
-use Rattle.std.proofs.Common.{◌≡◌, ◌+◌, Bool, true, List, [], ◌∷◌, Ok, refl, ◌∙◌, ap, subst, arith}
+use Rattle.std.proofs.Common.{◌≡◌, ◌+◌, Bool, true, List, [], ◌∷◌, Ok, refl, sym, ◌∙◌, ap, subst, arith}
 use Rattle.log_codec.specs.declared.command.Command.{Command}
 use Rattle.log_codec.specs.declared.command.Command.TheVariants.{NextEpoch}
 use Rattle.host_core.specs.World as machine
 use Rattle.host_core.specs.WorldEvent.{logging, next_clock}
 use Rattle.host_world.specs.Workers.{shown_worker}
+use Rattle.host_epochs.specs.Hands.{row_of}
 use Rattle.host_epochs.specs.Table.{terms}
+use Rattle.host_epochs.specs.Terms.{Terms}
 use Rattle.round_workers.specs.declared.worker_thread.WorkerThread.{WorkerThread}
+use Rattle.round_workers.specs.Placed.{HasOpened}
+use Rattle.round_workers.proofs.OrderLemmas.{opened-entered}
 use Rattle.round_workers.proofs.PartLemmas.{advanced-true, entered-keeps, entered-running}
 use Rattle.round_workers.proofs.SendLemmas.{log-grown}
 use Rattle.round_workers.proofs.worker_thread.WorkerThread.enter.Goals as goal
@@ -66,4 +70,10 @@ returns-clause-keeps g c =
     let new : WorkerThread = record old { worker = record (c.advance.new.worker) { log = c.settle.new.self }; hand = c.newest.new.hand; entered = old.entered + 1 } in
     let after = c.if-not-newest.ensures.enters.0 in
     entered-keeps (terms g.D.Digests.functions c.args.shared.now.epochs.now) old new after.row
-    (ap (λ (commands : List Command). record (shown_worker c.advance.new.worker) { log = commands }) c.settle.ensures.commands ∙ went) c.requires.going
+    (ap (λ (commands : List Command). record (shown_worker c.advance.new.worker) { log = commands }) c.settle.ensures.commands ∙ went) c.if-not-newest.ensures.enters.1 c.requires.going
+
+pub returns-clause-opened : goal.returns-clause-opened
+returns-clause-opened g c = λ _.
+    let t : Terms = terms g.D.Digests.functions c.args.shared.now.epochs.now in
+    let old : WorkerThread = c.args.self.now in
+    subst (HasOpened t) (sym c.if-not-newest.ensures.enters.0.row) (opened-entered t (row_of old.hand) old.worker.clock c.requires.going.behind)

@@ -1,4 +1,4 @@
-use Rattle.std.proofs.Common.{◌≡◌, ℕ, ◌+◌, ◌≤◌, List, [], ◌++◌, Option, None, refl, sym, ◌∙◌, ap, subst, arith, rules, inr}
+use Rattle.std.proofs.Common.{◌≡◌, ℕ, suc, ◌+◌, ◌/◌, ◌≤◌, List, [], ◌++◌, Option, None, refl, sym, ◌∙◌, ap, subst, arith, rules, inr}
 use Rattle.lamport_clocks.specs.Reading.{Reading}
 use Rattle.lamport_clocks.specs.declared.stamp.Stamp.{Stamp}
 use Rattle.record_text.specs.declared.request.Request.{Request}
@@ -12,17 +12,22 @@ use Rattle.round_order.specs.Turn.{served_more}
 use Rattle.host_epochs.specs.declared.hand.Hand.{Hand}
 use Rattle.host_epochs.specs.declared.told.Reached.{Reached}
 use Rattle.host_epochs.specs.Calls.{MayNote, HasReached}
-use Rattle.host_epochs.specs.Hands.{entered, done, left, content, history}
+use Rattle.host_epochs.specs.Hands.{entered, entries, done, left, row_of, content, history}
 use Rattle.host_epochs.specs.Plays.{given_back}
 use Rattle.host_epochs.specs.Scan.{IsStale, scan_commands, scanned}
 use Rattle.host_epochs.specs.Table.{making, table, terms}
 use Rattle.host_epochs.specs.Terms.{Terms, clock_at, epoch_of, first_epoch}
 use Rattle.host_epochs.proofs.HandLaws.{holds_still}
 use Rattle.host_epochs.proofs.ScanLaws.{may_scan, near_open, reached_last, scanned_epoch}
+use Rattle.host_epochs.specs.declared.views.Row.{Row}
+use Rattle.table_order.specs.Rounds.{turn_of, turns_of}
 use Rattle.round_workers.specs.declared.worker_thread.WorkerThread.{WorkerThread}
+use Rattle.round_workers.specs.Order.{IsFresh, NoneMay}
+use Rattle.round_workers.specs.Placed.{ScansAt, ScansFrom}
 use Rattle.round_workers.specs.Parts.{IsNext}
 use Rattle.round_workers.proofs.ColdLemmas.{element_kind, scan_between, stale_some}
 use Rattle.round_workers.proofs.HandLemmas.{clock_told, stale_waits, stands-after}
+use Rattle.round_workers.proofs.OrderLemmas.{scan_in_order, scans-scanned, IsInOrderBehind}
 use Rattle.round_workers.proofs.PartLemmas.{worked-come, worked-running}
 use Rattle.round_workers.proofs.SendLemmas.{log-grown}
 use Rattle.round_workers.proofs.WorkLemmas.{clock_later, entered_within, noted_scan}
@@ -99,6 +104,13 @@ returns-clause-stands g c = λ _.
     let notes = c.give-2.ensures.gives in
     stands-after c.args.self.now.hand c.give-2.new.hand _ [] _ [] notes.after refl refl
 
+pub returns-clause-scans : goal.returns-clause-scans
+returns-clause-scans g c = λ _.
+    let t : Terms = terms g.D.Digests.functions c.args.shared.now.epochs.now in
+    let notes = c.give-2.ensures.gives in
+    subst (λ (at : Row × ℕ). ScansFrom t at.0 (suc (at.1 / 5))) (λ i. (sym notes.after.row i, notes.is.place_is i))
+    (scans-scanned t (row_of c.args.self.now.hand) notes.entry notes.is.request_is)
+
 pub returns-clause-renewed : goal.returns-clause-renewed
 returns-clause-renewed g c = λ _.
     let t : Terms = terms g.D.Digests.functions c.args.shared.now.epochs.now in
@@ -131,6 +143,11 @@ returns-clause-keeps g c = λ asked rest start come.
     ∙ (λ i. scan_commands (sym found i) (sym same i)) ∙ sym noted.0 in
     let next : IsNext (first_epoch t) rest notes.entry notes.entry.request rest =
     subst (λ (r : Option Request). IsNext (first_epoch t) rest notes.entry r rest) (sym notes.is.request_is) refl in
-    worked-come t asked rest rest start old new notes.entry notes.after.row (notes.is.clock_is ∙ same) notes.done.asked next
+    let fresh : IsFresh t.workers (turn_of notes.entry) notes.entry.request = subst (IsFresh t.workers (turn_of notes.entry)) (sym notes.is.request_is) tt in
+    let here : notes.entry.clock.at.epoch ≡ first_epoch t + entered old.hand = ap (λ (r : Reading). r.at.epoch) (notes.is.clock_is ∙ same) ∙ c.requires.going.behind.epoch in
+    let order : IsInOrderBehind (first_epoch t) NoneMay (turns_of (entries old.hand)) (turn_of notes.entry) notes.entry.request =
+    subst (IsInOrderBehind (first_epoch t) NoneMay (turns_of (entries old.hand)) (turn_of notes.entry)) (sym notes.is.request_is)
+    (scan_in_order t (row_of old.hand) notes.entry here (subst (ScansAt t (row_of old.hand)) (sym notes.is.place_is) c.requires.scans)) in
+    worked-come t asked rest rest start old new notes.entry notes.after.row (notes.is.clock_is ∙ same) notes.done.asked next fresh order
     (c.push.ensures.commands ∙ ap (λ (more : List Command). old.worker.log.commands ++ more) commands)
     clock (ap (served_more old.worker.served) (sym notes.is.request_is)) refl refl refl c.requires.going come

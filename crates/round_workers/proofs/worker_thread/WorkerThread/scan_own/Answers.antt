@@ -1,9 +1,10 @@
-use Rattle.std.proofs.Common.{rules, ◌*◌, [], sym, ◌∙◌, ap, subst, arith}
+use Rattle.std.proofs.Common.{rules, ◌≡◌, suc, ◌+◌, ◌*◌, [], sym, ◌∙◌, ap, subst, arith}
 use Rattle.host_epochs.specs.declared.views.Held.TheVariants.{Idle}
 use Rattle.host_epochs.specs.Hands.{entered, row_of, IsFree}
 use Rattle.host_epochs.specs.Table.{table, terms}
 use Rattle.host_epochs.specs.Terms.{Terms}
 use Rattle.round_workers.specs.declared.worker_thread.WorkerThread.{WorkerThread}
+use Rattle.round_workers.specs.Placed.{ScansFrom}
 use Rattle.round_workers.proofs.HandLemmas.{all_renewed-stands, renewed-next, stands-then}
 use Rattle.round_workers.proofs.PartLemmas.{keeps-then, through-keeps}
 use Rattle.round_workers.proofs.WorkLemmas.{entered_within}
@@ -33,6 +34,7 @@ loop-shard-preserved g c =
       stands = stands-then old.hand now.hand new.hand so_far.stands (scanned.stands on);
       renewed = renewed-next t new.hand c.loop-shard.shard further.cold (scanned.renewed on)
           (all_renewed-stands t now.hand new.hand (c.loop-shard.shard * 5) (scanned.stands on) so_far.renewed);
+      scans = let next : suc c.loop-shard.shard ≡ c.loop-shard.shard + 1 = omega arith in subst (ScansFrom t (row_of new.hand)) next (scanned.scans on);
       goes_on = record {
         number = scanned.goes_on.number ∙ so_far.goes_on.number;
         writer = scanned.goes_on.writer ∙ so_far.goes_on.writer;

@@ -1,4 +1,4 @@
-use Rattle.std.proofs.Common.{◌≡◌, ℕ, ◌+◌, ◌≤◌, true≢false, List, [], refl, sym, ap, subst, inl, inr, ⊎_elim, arith}
+use Rattle.std.proofs.Common.{◌≡◌, ℕ, suc, ◌+◌, ◌/◌, ◌≤◌, true≢false, List, [], refl, sym, ◌∙◌, ap, subst, inl, inr, ⊎_elim, arith}
 use Rattle.log_codec.specs.declared.command.Command.{Command}
 use Rattle.host_shard.specs.Content.{vacant}
 use Rattle.host_shard.specs.Shown.{shown_content}
@@ -13,9 +13,12 @@ use Rattle.host_epochs.specs.Terms.{Terms, epoch_of, first_epoch}
 use Rattle.host_epochs.proofs.ScanLaws.{reached_last}
 use Rattle.host_world.specs.Workers.{shown_worker}
 use Rattle.round_workers.specs.declared.worker_thread.WorkerThread.{WorkerThread}
+use Rattle.host_epochs.specs.declared.views.Row.{Row}
+use Rattle.round_workers.specs.Placed.{ScansAt, ScansFrom}
 use Rattle.round_workers.specs.Working.{Keeps}
 use Rattle.round_workers.proofs.ColdLemmas.{vacant_first}
 use Rattle.round_workers.proofs.HandLemmas.{fresh_or_vacant, stands-after, stands-then, stands-waited}
+use Rattle.round_workers.proofs.OrderLemmas.{scans-less}
 use Rattle.round_workers.proofs.PartLemmas.{keeps-as, keeps-then}
 use Rattle.round_workers.proofs.worker_thread.WorkerThread.scan_place.Goals as goal
 
@@ -27,6 +30,17 @@ returns-then-is_stale-clause-keeps g c =
     let same : Keeps t old taken = keeps-as t old taken c.take-content.ensures.waited.row
     (ap (λ (commands : List Command). record (shown_worker old.worker) { log = commands }) c.settle.ensures.commands) in
     keeps-then t old taken c.renew.new.self same c.renew.ensures.keeps
+
+pub renew-requires-clause-scans : goal.renew-requires-clause-scans
+renew-requires-clause-scans g c =
+    let t : Terms = terms g.D.Digests.functions c.args.shared.now.epochs.now in
+    subst (λ (r : Row). ScansAt t r c.args.place) (sym c.take-content.ensures.waited.row) c.requires.scans
+
+pub returns-clause-scans : goal.returns-clause-scans
+returns-clause-scans g c = λ _.
+    let t : Terms = terms g.D.Digests.functions c.args.shared.now.epochs.now in
+    subst (λ (r : Row). ScansFrom t r (suc (c.args.place / 5))) (sym (c.give.ensures.gives.row ∙ c.take-content.ensures.waited.row))
+    (scans-less t (row_of c.args.self.now.hand) (c.args.place / 5) (suc (c.args.place / 5)) (omega arith) c.requires.scans.1)
 
 pub returns-clause-stands : goal.returns-clause-stands
 returns-clause-stands g c = λ _.

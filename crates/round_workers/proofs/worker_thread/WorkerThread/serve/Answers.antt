@@ -14,12 +14,12 @@ use Rattle.round_workers.proofs.worker_thread.WorkerThread.serve.Goals as goal
 pub returns-then-not-branch-clause-ends : goal.returns-then-not-branch-clause-ends
 returns-then-not-branch-clause-ends g c = λ _ asked rest start come.
     let turn : ℕ × Request = (c.args.turn.now.phase, c.args.turn.now.task.request) in
-    (turn ∷ rest, c.in_ok-reach.ensures.keeps asked (turn ∷ rest) start come)
+    (turn ∷ rest, c.in_ok-reach.ensures.keeps asked (turn ∷ rest) start (λ _. omega arith) come)
 
 pub returns-then-not-branch-2-clause-ends : goal.returns-then-not-branch-2-clause-ends
 returns-then-not-branch-2-clause-ends g c = λ _ asked rest start come.
     let turn : ℕ × Request = (c.args.turn.now.phase, c.args.turn.now.task.request) in
-    (turn ∷ rest, c.in_ok-keep_up.ensures.keeps asked (turn ∷ rest) start (c.in_ok-reach.ensures.keeps asked (turn ∷ rest) start come))
+    (turn ∷ rest, c.in_ok-keep_up.ensures.keeps asked (turn ∷ rest) start (c.in_ok-reach.ensures.keeps asked (turn ∷ rest) start (λ _. omega arith) come))
 
 pub returns-clause-serves : goal.returns-clause-serves
 returns-clause-serves g c = λ on asked rest start come.
@@ -30,7 +30,7 @@ returns-clause-serves g c = λ on asked rest start come.
     let taken : WorkerThread = record kept { worker = record (kept.worker) { log = c.settle.new.self }; hand = c.take-content.new.hand } in
     let so_far = come-as t asked (turn ∷ rest) start kept taken c.take-content.ensures.waited.row
     (ap (λ (commands : List Command). record (shown_worker kept.worker) { log = commands }) c.settle.ensures.commands)
-    (c.in_ok-keep_up.ensures.keeps asked (turn ∷ rest) start (c.in_ok-reach.ensures.keeps asked (turn ∷ rest) start come)) in
+    (c.in_ok-keep_up.ensures.keeps asked (turn ∷ rest) start (c.in_ok-reach.ensures.keeps asked (turn ∷ rest) start (λ _. omega arith) come)) in
     let begun : phase ≤ entered c.take-content.new.hand =
     (let reached = c.in_ok-reach.ensures.reached c.if-not-branch.false in
     let later = c.in_ok-keep_up.ensures.not_before c.if-not-branch-2.false in
@@ -49,7 +49,7 @@ returns-clause-ends g c = λ on asked rest start come.
     let taken : WorkerThread = record kept { worker = record (kept.worker) { log = c.settle.new.self }; hand = c.take-content.new.hand } in
     let so_far = come-as t asked (turn ∷ rest) start kept taken c.take-content.ensures.waited.row
     (ap (λ (commands : List Command). record (shown_worker kept.worker) { log = commands }) c.settle.ensures.commands)
-    (c.in_ok-keep_up.ensures.keeps asked (turn ∷ rest) start (c.in_ok-reach.ensures.keeps asked (turn ∷ rest) start come)) in
+    (c.in_ok-keep_up.ensures.keeps asked (turn ∷ rest) start (c.in_ok-reach.ensures.keeps asked (turn ∷ rest) start (λ _. omega arith) come)) in
     let begun : phase ≤ entered c.take-content.new.hand =
     (let reached = c.in_ok-reach.ensures.reached c.if-not-branch.false in
     let later = c.in_ok-keep_up.ensures.not_before c.if-not-branch-2.false in

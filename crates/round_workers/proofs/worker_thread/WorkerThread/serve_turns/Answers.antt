@@ -7,6 +7,7 @@ use Rattle.host_epochs.specs.Table.{terms}
 use Rattle.host_epochs.specs.Terms.{Terms}
 use Rattle.host_world.specs.Workers.{shown_worker}
 use Rattle.round_workers.specs.declared.turn.Turn.{Turn}
+use Rattle.round_workers.specs.Order.{CallsFor}
 use Rattle.round_workers.specs.Parts.{asked_in, HasPlace, HavePlaces}
 use Rattle.round_workers.specs.Sharing.{turns_in}
 use Rattle.round_workers.specs.Working.{HasCome}
@@ -89,10 +90,11 @@ returns-clause-done g c =
     let rest : List (ℕ × Request) = asked_in (drop c.loop-turn.turn-index items) in
     let reached = c.in_ok-reach.ensures in
     let more = c.requires.shared.more in
+    let none' : rest ≡ [] = ap asked_in (drop-all items c.loop-turn.turn-index all) in
     record {
       rest = rest;
       so_far = subst (λ (turns : List Turn). HasCome t (asked_in turns) rest start c.reach.new.self) own_is
-          (reached.keeps (asked_in items) rest start c.loop-turn.invariant.come);
-      whole = whole-part t c.in_ok-reach.field-0 rest c.reach.new.self (ap asked_in (drop-all items c.loop-turn.turn-index all)) reached.on
+          (reached.keeps (asked_in items) rest start (λ _. subst (λ (left : List (ℕ × Request)). CallsFor left c.args.shared.now.more) (sym none') tt) c.loop-turn.invariant.come);
+      whole = whole-part t c.in_ok-reach.field-0 rest c.reach.new.self none' reached.on
           (λ on. subst (λ (n : ℕ). n ≤ Rattle.host_epochs.specs.Hands.entered c.reach.new.self.hand) more (reached.reached on)) reached.ended;
     }

@@ -1,26 +1,27 @@
-use Rattle.std.proofs.Common.{rules, [], refl, ◌∙◌, ap, arith}
+use Rattle.std.proofs.Common.{rules, ◌≡◌, [], refl, ◌∙◌, ap, arith}
 use Rattle.host_world.specs.declared.worker.Worker.{Worker}
 use Rattle.host_world.specs.Workers.{shown_worker}
 use Rattle.host_epochs.specs.declared.views.Held.TheVariants.{Idle}
-use Rattle.host_epochs.specs.Hands.{row_of}
+use Rattle.host_epochs.specs.declared.views.Row.{Row}
+use Rattle.host_epochs.specs.Hands.{entered, row_of}
 use Rattle.host_epochs.specs.Table.{terms}
 use Rattle.host_epochs.specs.Terms.{Terms}
 use Rattle.round_workers.specs.declared.worker_thread.WorkerThread.{WorkerThread}
 use Rattle.round_workers.specs.Working.{Keeps}
 use Rattle.round_workers.proofs.HandLemmas.{seen-stands, stands-after, stands-then}
-use Rattle.round_workers.proofs.PartLemmas.{keeps-as, keeps-then, running-as, warned-come}
+use Rattle.round_workers.proofs.PartLemmas.{keeps-as, running-as, waited-then, warned-come}
 use Rattle.round_workers.proofs.worker_thread.WorkerThread.wait.Goals as goal
 
 pub returns-then-stopped-clause-free : goal.returns-then-stopped-clause-free
 returns-then-stopped-clause-free g c = c.stopped.ensures.keeps Idle [] c.loop.invariant.free
 
 pub returns-then-stopped-clause-keeps : goal.returns-then-stopped-clause-keeps
-returns-then-stopped-clause-keeps g c = λ asked rest start come.
+returns-then-stopped-clause-keeps g c = λ asked rest start calls come.
     let t : Terms = terms g.D.Digests.functions c.args.shared.now.epochs.now in
     let now : WorkerThread = c.loop.self in
     let new : WorkerThread = record now { hand = c.stopped.new.hand } in
     warned-come t asked rest start now new c.if-stopped.ensures.hears.row refl (let more = c.requires.more in omega (arith, more))
-    (c.loop.invariant.keeps asked rest start come)
+    (c.loop.invariant.keeps asked rest start calls come)
 
 pub returns-then-is_given_up-clause-free : goal.returns-then-is_given_up-clause-free
 returns-then-is_given_up-clause-free g c = c.stopped.ensures.keeps Idle [] c.loop.invariant.free
@@ -50,7 +51,9 @@ returns-then-branch-clause-keeps g c =
     let now : WorkerThread = c.loop.self in
     let looked : WorkerThread = c.look-found.new.self in
     let same : Keeps t now looked = keeps-as t now looked (c.look-found.ensures.row ∙ c.if-stopped.ensures.hears.row) (ap shown_worker c.look-found.ensures.worker) in
-    keeps-then t c.args.self.now looked c.enter.new.self (keeps-then t c.args.self.now now looked c.loop.invariant.keeps same) c.in_ok-enter.ensures.keeps
+    let here : entered looked.hand ≡ entered c.args.self.now.hand =
+    ap (λ (r : Row). r.entered) (c.look-found.ensures.row ∙ c.if-stopped.ensures.hears.row) ∙ c.loop.invariant.stands.entered in
+    waited-then t c.args.self.now now looked c.enter.new.self here c.loop.invariant.keeps same c.in_ok-enter.ensures.keeps
 
 pub loop-preserved : goal.loop-preserved
 loop-preserved g c =
@@ -58,6 +61,8 @@ loop-preserved g c =
     let now : WorkerThread = c.loop.self in
     let looked : WorkerThread = c.look-found.new.self in
     let same : Keeps t now looked = keeps-as t now looked (c.look-found.ensures.row ∙ c.if-stopped.ensures.hears.row) (ap shown_worker c.look-found.ensures.worker) in
+    let here : entered looked.hand ≡ entered c.args.self.now.hand =
+    ap (λ (r : Row). r.entered) (c.look-found.ensures.row ∙ c.if-stopped.ensures.hears.row) ∙ c.loop.invariant.stands.entered in
     let stays = c.in_ok-enter.ensures.stays c.if-branch.false in
     let heard = stands-after now.hand c.stopped.new.hand (row_of now.hand) [] [] [] c.if-stopped.ensures.hears refl refl in
     record {
@@ -74,5 +79,5 @@ loop-preserved g c =
         writer = c.enter.ensures.goes_on.writer ∙ ap (λ (w : Worker). w.log.writer) c.look-found.ensures.worker ∙ c.loop.invariant.goes_on.writer;
         lane = search rules;
       };
-      keeps = keeps-then t c.args.self.now looked c.enter.new.self (keeps-then t c.args.self.now now looked c.loop.invariant.keeps same) c.in_ok-enter.ensures.keeps;
+      keeps = waited-then t c.args.self.now now looked c.enter.new.self here c.loop.invariant.keeps same c.in_ok-enter.ensures.keeps;
     }

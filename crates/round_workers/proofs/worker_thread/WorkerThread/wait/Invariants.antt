@@ -1,8 +1,8 @@
-use Rattle.std.proofs.Common.{◌≤◌}
-use Rattle.host_epochs.specs.Hands.{IsFree}
+use Rattle.std.proofs.Common.{suc, ◌≤◌}
+use Rattle.host_epochs.specs.Hands.{entered, IsFree}
 use Rattle.host_epochs.specs.Table.{table, terms}
 use Rattle.round_workers.specs.Placed.{AreSeen, StandsAs}
-use Rattle.round_workers.specs.Working.{GoesOnAs, IsRunning, IsSending, Keeps}
+use Rattle.round_workers.specs.Working.{GoesOnAs, IsRunning, IsSending, KeepsUpTo}
 use Rattle.round_workers.proofs.worker_thread.WorkerThread.wait.Given as goal
 
 -- it is in its epoch still, and so many workers were found to be through with that
@@ -15,5 +15,5 @@ invariant-loop g l = record {
   found : l.found ≤ (terms g.D.Digests.functions l.shared.epochs.now).workers;
   seen : AreSeen l.self.hand l.found;
   goes_on : GoesOnAs l.initial.self l.self;
-  keeps : Keeps (terms g.D.Digests.functions l.shared.epochs.now) l.initial.self l.self;
+  keeps : KeepsUpTo (suc (entered l.initial.self.hand)) (terms g.D.Digests.functions l.shared.epochs.now) l.initial.self l.self;
 }

@@ -1,4 +1,4 @@
-use Rattle.std.proofs.Common.{◌≡◌, ℕ, suc, inr, List, [], ◌∷◌, ◌++◌, length, map, Option, refl, sym, ◌∙◌, ap, subst, arith}
+use Rattle.std.proofs.Common.{◌≡◌, ℕ, suc, inr, List, [], ◌∷◌, ◌++◌, length, map, Option, Bool, IfOk, refl, sym, ◌∙◌, ap, subst, arith}
 use Rattle.std.proofs.lemmas.List.{length-map, with_items_is}
 use Rattle.record_hash.specs.Functions.{DigestFunctions}
 use Rattle.merkle_records.specs.Merkle.{GivesDigests}
@@ -11,7 +11,7 @@ use Rattle.host_world.specs.Shown.{shown_world, digests_of}
 use Rattle.host_rounds.specs.Round.{logs_with}
 use Rattle.host_rounds.specs.SoFar.{Keeps, HaveRun}
 use Rattle.verifier_threads.specs.Serving.{told_for}
-use Rattle.verifier_threads.specs.Running.{IsRunning, with_no_log}
+use Rattle.verifier_threads.specs.Running.{IsRunning, with_no_log, may_seal}
 use Rattle.verifier_threads.proofs.HandingLemmas.{texts-length}
 use Rattle.verifier_threads.proofs.RunningLemmas.{of_one_host, running-workers, running-rests}
 use Rattle.verifier_threads.proofs.PassingLemmas.{ok_both, ok_any, err_any, run-count, running-taken}
@@ -115,3 +115,16 @@ returns-clause-cut_round g c = λ account outputs closes behind held.
     (runs-cut_in_round account g.D.Digests.functions old outputs behind.past behind.runs (suc closes) closes behind.count (inr refl) behind.told
     (g.V.Sink.held c.args.vault.now) (g.V.Sink.held c.seal.new.vault) c.as_slice.result.now held
     (c.as_slice.ensures.value ∙ items ∙ c.in_ok-hand_out_all.ensures.handed) c.seal.ensures.grown)
+
+pub returns-clause-count : goal.returns-clause-count
+returns-clause-count g c =
+    let last = c.args.last in
+    let old = c.args.self.now.world in
+    let host = c.hand_out_all.ensures.host in
+    let rolling = ap (λ (settings : Settings). settings.rolling) (c.settings.ensures.value ∙ host.settings) in
+    let phases = c.len.ensures.value ∙ ap (λ (script : List (List Task)). length script) (c.requests.ensures.value ∙ host.requests) in
+    subst (λ (n : ℕ). IfOk c.seal.result (λ settled. length settled.items ≡ n))
+    (c.may_seal-count.ensures.value
+    ∙ ap (λ (b : Bool). may_seal last b c.len.result) rolling
+    ∙ ap (may_seal last old.settings.rolling) phases)
+    c.seal.ensures.count

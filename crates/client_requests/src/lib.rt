@@ -1,0 +1,12 @@
+//! The requests of clients, as they sign them.
+//!
+//! A client gives each of its requests a number, and makes a tag of the request's text under a key of its own: who holds that key can tell
+//! that the client asked for just this. `specs/Texts.antt` defines the text. The crate stands on `record_text` for requests, on
+//! `record_hash` for tags, and on `receipts` for how kinds and keys are spelled. Begin with `request_text` in `texts.rt`.
+#![tactic(auto)]
+
+mod laws;
+mod texts;
+
+pub use laws::texts_tell_what_is_asked;
+pub use texts::{LONGEST_REQUEST_TEXT, request_tag, request_text};
