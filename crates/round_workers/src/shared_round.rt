@@ -25,7 +25,7 @@ pub struct SharedRound<'a, D: Digests> {
     pub more: u64,
     /// Whether a get of a key that has no record makes none.
     pub absent: bool,
-    /// Set where a worker gave up for want of memory.
+    /// Set where a worker gave up for want of memory, or has no thread.
     pub wanting: &'a AtomicBool,
 }
 
@@ -52,12 +52,12 @@ impl<D: Digests> SharedRound<'_, D> {
         unreachable!()
     }
 
-    /// Tells all workers that one gave up for want of memory.
-    pub(crate) fn give_up(&self) {
+    /// Tells all workers that one gave up for want of memory, or has no thread.
+    pub fn give_up(&self) {
         self.wanting.store(true, Ordering::SeqCst);
     }
 
-    /// Whether a worker gave up for want of memory.
+    /// Whether a worker gave up for want of memory, or has no thread.
     pub(crate) fn is_given_up(&self) -> bool {
         self.wanting.load(Ordering::SeqCst)
     }

@@ -23,5 +23,6 @@ mod RollingLemmas
 mod ModeLemmas
 mod ThreadLemmas
 mod SendLemmas
+mod MeetLemmas
 mod FeedLemmas
 mod CallLemmas

@@ -208,16 +208,15 @@ module _ (terms : Terms) (table : TableId) (threads : List WorkerPair) (workers 
           parts = parts;
         }
 
-  -- The same where the threads were left well.
-  pub served_well : {X E : Type 0} (r : Result X E) (new_in : X → List Worker) (left_in : X → List Hand) (turns : List (List Turn)) (later seen : List WorkerPair)
-      → seen ≡ later → IfOk r (λ x. new_in x ≡ map worker_in seen) → IfOk r (λ x. left_in x ≡ map hand_in seen)
-      → OnOk r (All HaveAll seen) → length later ≡ length threads
+  -- The same where the pairs were left well.
+  pub served_well : {X E : Type 0} (r : Result X E) (new_in : X → List Worker) (left_in : X → List Hand) (turns : List (List Turn)) (later : List WorkerPair)
+      → IfOk r (λ x. new_in x ≡ map worker_in later) → IfOk r (λ x. left_in x ≡ map hand_in later)
+      → OnOk r (All HaveAll later) → length later ≡ length threads
       → ((i : ℕ) (d : WorkerPair) → i < length threads → IsThrough terms table turns (get_or threads i d).thread (get_or later i d).thread) → AreToServe terms table workers hands
       → IfOk r (λ x. HaveServed terms table turns workers (new_in x) (left_in x))
-  served_well (Ok x) new_in left_in turns later seen same new_are left_are none many through ready =
-      have_served later (new_in x) (left_in x) turns (new_are ∙ ap (map worker_in) same) (left_are ∙ ap (map hand_in) same)
-      (subst (All HaveAll) same none) many through ready
-  served_well (Err fault) new_in left_in turns later seen same new_are left_are none many through ready = tt
+  served_well (Ok x) new_in left_in turns later new_are left_are none many through ready =
+      have_served later (new_in x) (left_in x) turns new_are left_are none many through ready
+  served_well (Err fault) new_in left_in turns later new_are left_are none many through ready = tt
 
 -- ---- what the runs took
 
@@ -258,22 +257,21 @@ module _ (functions : DigestFunctions) (threads later : List WorkerPair) (worker
 
 -- The same where the pairs were left well.
 pub taken_well : {X E : Type 0} (functions : DigestFunctions) (threads : List WorkerPair) (old : List FedRun) (r : Result X E) (workers_in : X → List Worker) (runs_in : X → List FedRun)
-    (later seen : List WorkerPair) → map run_in threads ≡ old → seen ≡ later → IfOk r (λ x. workers_in x ≡ map worker_in seen) → IfOk r (λ x. runs_in x ≡ map run_in seen)
-    → OnOk r (All HaveAll seen) → length later ≡ length threads
+    (later : List WorkerPair) → map run_in threads ≡ old → IfOk r (λ x. workers_in x ≡ map worker_in later) → IfOk r (λ x. runs_in x ≡ map run_in later)
+    → OnOk r (All HaveAll later) → length later ≡ length threads
     → ((i : ℕ) (d : WorkerPair) → i < length threads → HasFed functions (get_or threads i d) (get_or later i d))
     → IfOk r (λ x. HaveReadLogs functions (workers_in x) old (runs_in x))
-taken_well functions threads old (Ok x) workers_in runs_in later seen olds same workers_are news_are none many fed =
-    have_taken functions threads later (workers_in x) old (runs_in x) olds (workers_are ∙ ap (map worker_in) same) (news_are ∙ ap (map run_in) same)
-    (subst (All HaveAll) same none) many fed
-taken_well functions threads old (Err fault) workers_in runs_in later seen olds same workers_are news_are none many fed = tt
+taken_well functions threads old (Ok x) workers_in runs_in later olds workers_are news_are none many fed =
+    have_taken functions threads later (workers_in x) old (runs_in x) olds workers_are news_are none many fed
+taken_well functions threads old (Err fault) workers_in runs_in later olds workers_are news_are none many fed = tt
 
 -- ---- how many parcels were taken
 
 -- There is a count for each verifier again.
-pub counted_well : {X E : Type 0} (threads : List WorkerPair) (old : List ℕ) (r : Result X E) (parcels : X → List ℕ) (later seen : List WorkerPair)
-    → map parcels_in threads ≡ old → seen ≡ later → IfOk r (λ x. parcels x ≡ map parcels_in seen) → length later ≡ length threads
+pub counted_well : {X E : Type 0} (threads : List WorkerPair) (old : List ℕ) (r : Result X E) (parcels : X → List ℕ) (later : List WorkerPair)
+    → map parcels_in threads ≡ old → IfOk r (λ x. parcels x ≡ map parcels_in later) → length later ≡ length threads
     → IfOk r (λ x. length (parcels x) ≡ length old)
-counted_well threads old (Ok x) parcels later seen olds same news many =
-    ap (λ (ns : List ℕ). length ns) news ∙ length-map seen parcels_in ∙ ap (λ (ps : List WorkerPair). length ps) same ∙ many
+counted_well threads old (Ok x) parcels later olds news many =
+    ap (λ (ns : List ℕ). length ns) news ∙ length-map later parcels_in ∙ many
     ∙ sym (length-map threads parcels_in) ∙ ap (λ (ns : List ℕ). length ns) olds
-counted_well threads old (Err fault) parcels later seen olds same news many = tt
+counted_well threads old (Err fault) parcels later olds news many = tt

@@ -1,5 +1,5 @@
 -- A worker and its verifier beside it, before a round and behind it.
-use Rattle.std.specs.Prelude.{◌≡◌, ℕ, false, []}
+use Rattle.std.specs.Prelude.{◌≡◌, ℕ, ◌<◌, false, List, [], length, get_or}
 use Rattle.record_hash.specs.Functions.{DigestFunctions}
 use Rattle.worker_log.specs.Logged.{text_of}
 use Rattle.atomic_table.specs.Seated.{TableId}
@@ -10,8 +10,8 @@ use Rattle.host_epochs.specs.Table.{table, terms}
 use Rattle.host_epochs.specs.Terms.{Terms}
 use Rattle.verifier_feeds.specs.Feeds.{sent_bytes, AreEndsOfOne, HasRoom, KeepsPlace, is_wanting, parcels_of, run_of}
 use Rattle.round_workers.specs.declared.shared_round.SharedRound.{SharedRound}
-use Rattle.round_workers.specs.Sharing.{IsSharedRound}
-use Rattle.round_workers.specs.Working.{IsReady}
+use Rattle.round_workers.specs.Sharing.{turns_in, IsSharedRound}
+use Rattle.round_workers.specs.Working.{IsReady, IsThrough}
 use Rattle.worker_threads.specs.declared.worker_pair.WorkerPair.{WorkerPair}
 
 -- the run of the verifier
@@ -48,3 +48,13 @@ HasFed functions old new =
 pub record CanMeet {D : Type 0} (functions : D → DigestFunctions) (shared : SharedRound D) (pair : WorkerPair) : Type 0 where
   pub shared_is : IsSharedRound functions shared
   pub ready : IsPairReady (terms functions shared.epochs.now) (table shared.epochs.now) pair
+
+-- A pair before its round and behind it: the worker is through with its part, and the verifier was fed what it logged.
+pub record HasMet {D : Type 0} (functions : D → DigestFunctions) (shared : SharedRound D) (old new : WorkerPair) : Type 0 where
+  pub through : IsThrough (terms functions shared.epochs.now) (table shared.epochs.now) (turns_in shared) old.thread new.thread
+  pub fed : HasFed (functions shared.d.now) old new
+
+-- all pairs before their round and behind it
+pub record HaveMet {D : Type 0} (functions : D → DigestFunctions) (shared : SharedRound D) (old new : List WorkerPair) : Type 0 where
+  pub count : length new ≡ length old
+  pub each : (i : ℕ) (d : WorkerPair) → i < length old → HasMet functions shared (get_or old i d) (get_or new i d)

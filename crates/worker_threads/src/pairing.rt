@@ -150,7 +150,7 @@ pub(crate) fn serve_at_table<R: Threads + Wait + Sync, D: Digests + Sync, G: Gat
     ensures taken { IfOk result (λ left. HaveReadLogs (D.functions shared.now.d.now) left.workers.items participants.runs.items left.runs.items) }
     ensures parcels { IfOk result (λ left. length left.parcels.items ≡ length participants.parcels.items) }
 {
-    let mut pairs = pair_up(shared.alloc, participants, bytes)?;
-    serve_all(rt, shared, gate, pairs.as_mut_slice());
-    take_apart(shared.alloc, pairs)
+    let pairs = pair_up(shared.alloc, participants, bytes)?;
+    let met = serve_all(rt, shared, gate, pairs)?;
+    take_apart(shared.alloc, met)
 }

@@ -22,31 +22,30 @@ impl WorkerPair {
     ghost use Rattle.host_rounds.specs.Feeding.{Reads};
     ghost use Rattle.log_rings.specs.Lanes.{received_by};
     ghost use Rattle.verifier_feeds.specs.Feeds.{AreEndsOfOne, HasRoom, HasRead, SameInbox, bytes_of, is_wanting, run_of};
-    ghost use Rattle.worker_threads.specs.Pairs.{IsPairReady, HasFed};
+    ghost use Rattle.worker_threads.specs.Pairs.{IsPairReady, CanMeet, HasFed};
     ghost use Rattle.round_workers.specs.Sharing.{turns_in, IsSharedRound};
     ghost use Rattle.round_workers.specs.Working.{CanServe, HasSent, IsThrough};
 
     /// The worker does its part of the round while its verifier is fed with what it logs, each in a thread of its own where one
-    /// can be made. Then the verifier is fed the rest, where memory was not
-    /// wanting for the worker.
+    /// can be made. Then the verifier is fed the rest, where memory was not wanting for the worker.
     pub(crate) fn meet<R: Threads + Wait + Sync, D: Digests + Sync, G: Gate + Sync>(
-        &mut self,
+        mut self,
         rt: &R,
         shared: &SharedRound<'_, D>,
         gate: &G,
-    )
-        requires shared { IsSharedRound D.functions shared.now }
-        requires ready { IsPairReady (terms D.functions shared.now.epochs.now) (table shared.now.epochs.now) self.old }
-        ensures through { IsThrough (terms D.functions shared.now.epochs.now) (table shared.now.epochs.now) (turns_in shared.now) self.old.thread self.new.thread }
-        ensures fed { HasFed (D.functions shared.now.d.now) self.old self.new }
+    ) -> WorkerPair
+        requires can { CanMeet D.functions shared.now self }
+        ensures through { IsThrough (terms D.functions shared.now.epochs.now) (table shared.now.epochs.now) (turns_in shared.now) self.thread result.thread }
+        ensures fed { HasFed (D.functions shared.now.d.now) self result }
     {
         self.work_and_watch(rt, shared, gate);
         if self.thread.wanting {
-            return;
+            return self;
         }
         let thread = &mut self.thread;
         let log = thread.worker.log.bytes();
         settle(&mut thread.outbox, &mut self.inbox, log, shared.d);
+        self
     }
 
     // The worker does its part of the round while its verifier watches the lane.
