@@ -15,6 +15,7 @@ from tools.slow.texts import bits_of
 
 VAULT = "vault"  # where the vault goes that is looked at
 SECONDS = 600  # how long a program may take for one input, also beside other work
+LATE = b"it takes too long"  # what stands in the place of what was said where a program was killed for that
 SHOWN = 2000  # bytes of an output that are shown
 
 
@@ -35,17 +36,17 @@ def files_in(folder):
     return found
 
 
-def got_from(program, asked, given, environment=None, files=None):
-    """What a program answers in a folder of its own, in which there are these files."""
+def got_from(program, asked, given, environment=None, files=None, seconds=SECONDS):
+    """What a program answers in a folder of its own, in which there are these files. It is killed if it takes longer."""
     with tempfile.TemporaryDirectory() as folder:
         for name, data in (files or {}).items():
             with open(os.path.join(folder, name), "wb") as file:
                 file.write(data)
-        around = {"cwd": folder, "env": environment, "timeout": SECONDS}
+        around = {"cwd": folder, "env": environment, "timeout": seconds}
         try:
             ran = subprocess.run([program, *asked], input=given, capture_output=True, check=False, **around)
         except subprocess.TimeoutExpired as late:
-            return Got(late.stdout or b"", -1, b"it takes too long", files_in(folder))
+            return Got(late.stdout or b"", -1, LATE, files_in(folder))
         return Got(ran.stdout, ran.returncode, ran.stderr, files_in(folder))
 
 

@@ -1,15 +1,16 @@
 """Refuses each allocation of a built program in turn, in some calls of it, and looks how each run then ends.
 
-usage: tools/run fuzzer.refuse_rows PROGRAM.. [--rows WORD] [--times T]
+usage: tools/run fuzzer.refuse_rows PROGRAM.. [--rows WORD] [--times T] [--seconds S]
 
 A row is the words of a call and its input; WORD picks those whose names have it. For each number an allocation is refused alone,
 and then it and all behind it, by refuse_nth.c, which gcc compiles into a temporary folder. A run may end as it does with
 ample memory, which the slow program says; or with the status of want of memory, and then nothing but a front of what it would
 write stands there, as docs/FORMATS.md has it, and the vault has a front of its bundle. Where a row has several workers the order
-differs from run to run: each number is tried T times, and where they meet at a shard what they wrote is judged.
+differs from run to run: each number is tried T times, and where they meet at a shard what they wrote is judged. A run that has
+not ended after S seconds is killed and did not end; where three of a row did not, alone or with all behind, it is tried no further so.
 
 For each row it writes how many allocations there are at most, and how many runs ended in either way. It fails where one ended in
-another, or none is refused.
+another or did not end, or none is refused.
 """
 import argparse
 import os
@@ -20,7 +21,7 @@ import tempfile
 from collections import Counter
 from typing import NamedTuple
 
-from tools.cases.compared import VAULT, differing, got_from, meeting, misjudged, wanted_for
+from tools.cases.compared import LATE, VAULT, differing, got_from, meeting, misjudged, wanted_for
 from tools.cases.seals import front_ends
 from tools.slow import fastver, receipts, seals, words
 from tools.slow.bundles import Header, frame_text, header_text
@@ -33,6 +34,7 @@ HERE = os.path.dirname(os.path.abspath(__file__))
 BUNDLE = os.path.join(HERE, "..", "..", "crates", "fastver_cli", "stdin")
 KEY = ["--key", "00" * 16]
 MEMORY = 2  # the status of want of memory
+MOST_LATE = 3  # a row is tried no further when so many of its runs did not end: each took as long as a run may
 SCRIPT = b"0 put 5 6162\n0 get 5\n"
 HOT = SCRIPT + b"epoch\n0 get 5\n"  # with a threshold of 2 key 5 becomes hot at the first close
 COLD_AGAIN = SCRIPT + b"epoch\nepoch\n0 get 5\n"
@@ -62,7 +64,9 @@ class Allocations(NamedTuple):
         return os.environ | more | {"LD_PRELOAD": self.shim, "REFUSE": str(number), "REFUSE_COUNT": self.counted}
 
     def count(self):
-        """How many the last run asked for."""
+        """How many the last run asked for: none where the shim was not loaded."""
+        if not os.path.exists(self.counted):
+            return 0
         with open(self.counted, "rb") as file:
             return struct.unpack("=Q", file.read())[0]
 
@@ -213,21 +217,27 @@ def starved(row, wanted, met, got):
 
 def ending(row, wanted, met, got):
     """How a run ended, and what is wrong with it."""
+    if got.said == LATE:
+        return "late", ["did not end"]
     if got.status == MEMORY:
         return "memory", starved(row, wanted, met, got)
     return "its own", misjudged(row.words, row.given, got) if met else differing(wanted, got)
 
 
-def refused(program, row, allocations, behind, times):
+def refused(program, row, allocations, behind, options):
     """Refuses each allocation of a row in turn. It answers how many there are, how the runs ended, and what is wrong."""
     wanted, met = wanted_for(row.words, row.given), meeting(row.words, row.given) is not None
-    number, ends, wrong, going = 0, Counter(), [], True
+    number, ends, late, wrong, going = 0, Counter(), 0, [], True
     while going:
         number, going = number + 1, False
-        for _ in range(times):
-            got = got_from(program, row.words, row.given, allocations.refusing(number, behind))
-            end, faults = ending(row, wanted, met, got)
+        for _ in range(options.times if row.workers > 1 else 1):
+            around = allocations.refusing(number, behind)
+            end, faults = ending(row, wanted, met, got_from(program, row.words, row.given, around, seconds=options.seconds))
             wrong += [f"{row.name}, allocation {number}{' and all behind it' if behind else ''}: {fault}" for fault in faults]
+            late += end == "late"
+            if late >= MOST_LATE:
+                wrong[-1] += ", and the row is tried no further so"
+                return number, ends, wrong
             if allocations.count() >= number:
                 going = True
                 ends[end] += 1
@@ -236,12 +246,12 @@ def refused(program, row, allocations, behind, times):
     return number - 1, ends, wrong
 
 
-def tell(program, row, allocations, times):
+def tell(program, row, allocations, options):
     """Writes what came of a row, and answers how much was wrong."""
     parts, bad = [], 0
     for behind in (False, True):
-        most, ends, wrong = refused(program, row, allocations, behind, times if row.workers > 1 else 1)
-        bad += len(wrong) if most else 1
+        most, ends, wrong = refused(program, row, allocations, behind, options)
+        bad += len(wrong) or (0 if most else 1)
         how = "with all behind it" if behind else "alone"
         parts.append(f"{most} {how}, {ends['memory']} memory and {ends['its own']} its own")
         for text in wrong:
@@ -255,6 +265,7 @@ def main():
     parser.add_argument("programs", nargs="+", metavar="PROGRAM")
     parser.add_argument("--rows", default="", metavar="WORD")
     parser.add_argument("--times", type=int, default=3)
+    parser.add_argument("--seconds", type=float, default=60)
     options, bad = parser.parse_args(), 0
     rows = [row for row in reader_rows() + host_rows() if options.rows in row.name]
     with tempfile.TemporaryDirectory() as folder:
@@ -263,7 +274,7 @@ def main():
         subprocess.run(["gcc", "-O2", "-shared", "-fPIC", "-o", allocations.shim, source], check=True)
         for program in options.programs:
             print(program)
-            bad += sum(tell(os.path.abspath(program), row, allocations, options.times) for row in rows)
+            bad += sum(tell(os.path.abspath(program), row, allocations, options) for row in rows)
     print(f"{len(rows)} rows, {bad} runs ended otherwise")
     return 1 if bad or not rows else 0
 
