@@ -1,6 +1,6 @@
 """Writes accepted bundles for bench/run.py, the same ones for the same seed.
 
-usage: tools/run bench.bundles FOLDER [SEED]        (FOLDER lies outside the repository, as /tmp/bundles; about 1,300 MB)
+usage: tools/run bench.bundles FOLDER [SEED [MIB..]]    (FOLDER lies outside the repository, as /tmp/bundles; about 1,300 MB)
 
 NAME is a bundle and NAME.commands the number of its commands. A cold bundle has each record under the Merkle
 tree: a request brings in the chain of nodes down to its key, gets or puts, and sends the chain back. A hot one has
@@ -11,6 +11,9 @@ NAME-begun is its beginning alone, which fills the cache.
 
 A repeated one is of one verifier, which reads the same records in each epoch of 1 MiB. One in small frames is the cold one
 of one verifier and 1 MiB, with each byte in a frame of its own.
+
+Cold and hot bundles have 1, 8, 16 and 64 MiB, and full ones 24 behind their beginnings. Where MIB.. are named the cold and hot ones
+have just these sizes and the full ones the largest of them, and no other bundles are written: what bench/plot.py draws needs no more.
 """
 import hashlib
 import io
@@ -25,6 +28,7 @@ MIB = 2**20
 FRAME, EPOCH = 65536, 8 * MIB
 COLD_KEYS, HOT_KEYS = 1024, 256  # cold ones of each verifier, hot ones of all
 FIRST, CACHE, END = 1, 128, 16777215
+SIZES = (1, 8, 16, 64)  # of cold and hot ones, in MiB
 FULL_CACHES, FULL_SIZE = (4, 128, 65536), 24 * MIB  # of entries, and bytes once a cache is full
 REPEATED = (64, 512)  # epochs of 1 MiB
 
@@ -326,13 +330,13 @@ def write_small_frames(folder, name):
         new.write(old.read())
 
 
-def write_full(folder, seed, mix, cache):
-    """Writes a bundle with a full cache, and its beginning."""
+def write_full(folder, seed, mix, cache, size):
+    """Writes a bundle with a full cache and so many bytes behind its beginning, and the beginning alone."""
     name = f"{mix.__name__.replace('_', '-')}-{cache:05}-entries"
     for ending in ("-begun", ""):
         with open(os.path.join(folder, name + ending), "wb") as file:
             bundle = Bundle(file, 1, cache)
-            work = mix(random.Random(seed + name), bundle, cache, FULL_SIZE)
+            work = mix(random.Random(seed + name), bundle, cache, size)
             next(work)
             if not ending:
                 next(work, None)
@@ -353,17 +357,19 @@ def write_bundle(folder, seed, mix, verifiers, size):
 
 def main():
     folder, seed = sys.argv[1], sys.argv[2] if len(sys.argv) > 2 else "1"
+    named = [int(word) for word in sys.argv[3:]]
     os.makedirs(folder, exist_ok=True)
-    for size in (1, 8, 16, 64):
+    for size in named or SIZES:
         for verifiers in (1, 4, 16):
             for mix in (cold, hot):
                 write_bundle(folder, seed, mix, verifiers, size)
-    write_small_frames(folder, "cold-01-verifiers-01-MiB")
-    for epochs in REPEATED:
-        write_repeated(folder, seed, epochs)
     for cache in FULL_CACHES:
         for mix in (full_by_digests, full_under_stamps):
-            write_full(folder, seed, mix, cache)
+            write_full(folder, seed, mix, cache, max(named) * MIB if named else FULL_SIZE)
+    if not named:
+        write_small_frames(folder, "cold-01-verifiers-01-MiB")
+        for epochs in REPEATED:
+            write_repeated(folder, seed, epochs)
 
 
 if __name__ == "__main__":
