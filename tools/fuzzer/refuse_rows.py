@@ -7,7 +7,8 @@ and then it and all behind it, by refuse_nth.c, which gcc compiles into a tempor
 ample memory, which the slow program says; or with the status of want of memory, and then nothing but a front of what it would
 write stands there, as docs/FORMATS.md has it, and the vault has a front of its bundle. Where a row has several workers the order
 differs from run to run: each number is tried T times, and where they meet at a shard what they wrote is judged. A run that has
-not ended after S seconds is killed and did not end; where three of a row did not, alone or with all behind, it is tried no further so.
+not ended after S seconds is killed and did not end, and its number is not tried again; behind three such numbers, of those refused alone
+or of those with all behind, the row is tried no further so.
 
 For each row it writes how many allocations there are at most, and how many runs ended in either way. It fails where one ended in
 another or did not end, or none is refused.
@@ -34,7 +35,7 @@ HERE = os.path.dirname(os.path.abspath(__file__))
 BUNDLE = os.path.join(HERE, "..", "..", "crates", "fastver_cli", "stdin")
 KEY = ["--key", "00" * 16]
 MEMORY = 2  # the status of want of memory
-MOST_LATE = 3  # a row is tried no further when so many of its runs did not end: each took as long as a run may
+MOST_LATE = 3  # a row is tried no further behind so many runs that did not end: each took as long as a run may
 SCRIPT = b"0 put 5 6162\n0 get 5\n"
 HOT = SCRIPT + b"epoch\n0 get 5\n"  # with a threshold of 2 key 5 becomes hot at the first close
 COLD_AGAIN = SCRIPT + b"epoch\nepoch\n0 get 5\n"
@@ -234,15 +235,17 @@ def refused(program, row, allocations, behind, options):
             around = allocations.refusing(number, behind)
             end, faults = ending(row, wanted, met, got_from(program, row.words, row.given, around, seconds=options.seconds))
             wrong += [f"{row.name}, allocation {number}{' and all behind it' if behind else ''}: {fault}" for fault in faults]
-            late += end == "late"
-            if late >= MOST_LATE:
-                wrong[-1] += ", and the row is tried no further so"
-                return number, ends, wrong
             if allocations.count() >= number:
                 going = True
                 ends[end] += 1
             elif end == "memory":
                 wrong.append(f"{row.name}: memory is wanting where none is refused")
+            if end == "late":
+                late += 1
+                break
+        if late >= MOST_LATE:
+            wrong[-1] += ", and the row is tried no further so"
+            return number, ends, wrong
     return number - 1, ends, wrong
 
 
