@@ -359,11 +359,11 @@ def faults(picture):
         places = places or [float(it.get("x", 0)), float(it.get("y", 0))]
         if not (0 <= places[0] <= WIDTH and 0 <= places[1] <= height):
             yield f"{it.tag} lies outside of the picture"
-        if it.tag.endswith("text") and it.get("text-anchor") is None and places[0] + 6.5 * len(it.text) > WIDTH:
+        if it.tag.endswith("text") and it.get("text-anchor") is None and places[0] + 6.5 * len(it.text or "") > WIDTH:
             yield f"there is no room for a text: {it.text}"
     texts = [it.text for it in root.iter() if it.tag.endswith("text")]
     yield from (f"there is no chart: {chart.title}" for chart in CHARTS if chart.title not in texts)
-    if not any("<hot>" in it for it in texts):
+    if not any("<hot>" in (it or "") for it in texts):
         yield "the name of a load isn't there"
 
 
