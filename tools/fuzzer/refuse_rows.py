@@ -39,6 +39,7 @@ MOST_LATE = 3  # a row is tried no further behind so many runs that did not end:
 SCRIPT = b"0 put 5 6162\n0 get 5\n"
 HOT = SCRIPT + b"epoch\n0 get 5\n"  # with a threshold of 2 key 5 becomes hot at the first close
 COLD_AGAIN = SCRIPT + b"epoch\nepoch\n0 get 5\n"
+ASKED = b"1 put 5 6162\n2 get 5\n3 del 5\n"
 FAR = str(2**63).encode()
 APART = b"0 put 5 61\n1 put %b 62\n1 get %b\n0 get 5\nepoch\n1 get %b\n0 del 5\n" % (FAR, FAR, FAR)
 TOGETHER = b"0 put 5 61\n1 put 5 62\n0 get 5\n1 get 6\nepoch\n0 get 5\n1 get 5\nepoch\nepoch\n1 get 5\n"
@@ -119,7 +120,7 @@ def sealed_front(bundle, size):
 
 
 def reader_rows():
-    """Checks, audits, follows, upgrades, seals and acceptances."""
+    """Checks, audits, follows, upgrades, seals, acceptances and signings."""
     with open(BUNDLE, "rb") as file:
         bundle = file.read()
     hot = run_row("", TOGETHER, "--hot", "2", workers=2)
@@ -154,6 +155,9 @@ def reader_rows():
         Row("accept, not tagged", ["accept", *KEY], evidence(flipped=1)),
         Row("accept, not certified", ["accept", *KEY], evidence(epoch=1)),
         Row("accept, no receipt", ["accept", *KEY], evidence()[1:]),
+        Row("sign", ["sign", *KEY, "--client", "3"], ASKED),
+        Row("sign, long keys", ["sign", *KEY, "--client", "65535", "--bits", "128"], ASKED),
+        Row("sign of a bad line", ["sign", *KEY, "--client", "3"], ASKED + b"3 get 6\n"),
         Row("words that are refused", ["check", *KEY, "more"], bundle),
     ]
 
