@@ -198,11 +198,9 @@ def front_of(row, wanted, vault):
     """Of what there may be a front where memory was wanting, with this in the vault, if it is there."""
     if row.words[0] in ("check", "resume") and wanted.status != 1:
         return wanted.output[: wanted.output[:-1].rfind(b"\n") + 1]
-    if row.words[0] == "run" and vault is not None:
-        digests = ShaDigests(bytes(16))
-        return fastver.report(findings(digests, vault), digests if "--receipts" in row.words else None).encode()
-    if row.words[0] == "gen" and vault is not None:
-        return fastver.told("gen", words.options_of(row.words), vault, None).written
+    if row.words[0] in ("run", "gen") and vault is not None:
+        found = findings(ShaDigests(bytes(16)), vault)
+        return fastver.told(row.words[0], words.options_of(row.words), found, vault, None).written
     return b""
 
 
