@@ -3,11 +3,13 @@ ghost use Rattle.std.specs.Prelude.{◌≡◌, ◌↔◌, IsTrue};
 
 // The first version of the format.
 const FIRST_VERSION: u8 = 1;
-// The last version of the format.
-const LAST_VERSION: u8 = 3;
-// The bits of a key in each version, and in all but the last the only ones.
+// The first version in which keys may be long.
+const FIRST_LONG_VERSION: u8 = 3;
+// The last version of the format, and the one in which requests are signed.
+const LAST_VERSION: u8 = 4;
+// The bits of a key in each version, and in the first two the only ones.
 const SHORT_KEYS: u8 = 64;
-// The bits of a key that the last version has beside these.
+// The bits of a key that later versions have beside these.
 const LONG_KEYS: u8 = 128;
 // The fewest verifiers of a bundle.
 const LEAST_VERIFIERS: u16 = 1;
@@ -22,6 +24,10 @@ const LEAST_END: u32 = 1;
 // The greatest value at which the counters of an epoch may end. It keeps sums small: an add and a deferred
 // evict each raise the counter of their clock, so one verifier has fewer than 2^25 adds of an epoch.
 const MOST_END: u32 = 16_777_215;
+// The fewest clients where requests are signed.
+const LEAST_CLIENTS: u32 = 1;
+// The most clients where requests are signed.
+const MOST_CLIENTS: u32 = 65_536;
 
 /// The numbers that a bundle begins with. They hold for each of its verifiers.
 #[derive(Clone, Copy, Debug, PartialEq, Eq)]
@@ -36,12 +42,14 @@ pub struct Header {
     pub first: u32,
     /// The last value of the counter in an epoch.
     pub end: u32,
-    /// How many bits a key has: 64, or in version 3 also 128.
+    /// How many bits a key has: 64, or in versions 3 and 4 also 128.
     pub bits: u8,
+    /// How many clients there are: in version 4, 1 to 65,536; in others 0.
+    pub clients: u32,
 }
 
 impl Header {
-    ghost use Rattle.lamport_clocks.specs.Header.{IsHeader, is_in_range, names_paths, header_by_path};
+    ghost use Rattle.lamport_clocks.specs.Header.{IsHeader, is_in_range, has_its_clients, names_paths, is_signed, header_by_path};
 
     /// The header of a bundle of version 1, whose commands name paths.
     pub const fn by_path(verifiers: u16, cache: u32, first: u32, end: u32) -> Header
@@ -54,6 +62,7 @@ impl Header {
             first,
             end,
             bits: SHORT_KEYS,
+            clients: 0,
         }
     }
 
@@ -62,6 +71,13 @@ impl Header {
         ensures value { result ≡ names_paths self.now }
     {
         self.version == FIRST_VERSION
+    }
+
+    /// Whether requests carry their client's tag, as they do in version 4 alone.
+    pub fn is_signed(&self) -> bool
+        ensures value { result ≡ is_signed self.now }
+    {
+        self.version == LAST_VERSION
     }
 
     /// Whether each number is in its range.
@@ -77,6 +93,18 @@ impl Header {
             && self.cache <= MOST_CACHE
             && LEAST_END <= self.end
             && self.end <= MOST_END
-            && (self.bits == SHORT_KEYS || (self.version == LAST_VERSION && self.bits == LONG_KEYS))
+            && (self.bits == SHORT_KEYS
+                || (FIRST_LONG_VERSION <= self.version && self.bits == LONG_KEYS))
+            && self.has_its_clients()
+    }
+
+    // Whether there are as many clients as the version has.
+    fn has_its_clients(&self) -> bool
+        ensures value { result ≡ has_its_clients self.now }
+    {
+        (self.version < LAST_VERSION && self.clients == 0)
+            || (self.version == LAST_VERSION
+                && LEAST_CLIENTS <= self.clients
+                && self.clients <= MOST_CLIENTS)
     }
 }
