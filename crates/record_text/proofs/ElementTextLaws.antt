@@ -1,14 +1,14 @@
 -- The texts of stamps and elements: what was read as one is spelled so, and what is spelled so is read.
 use Rattle.std.proofs.Common.{◌≡◌, ℕ, ◌^◌, ◌<◌, Bool, List, ◌++◌, Ok, ap, subst, ◌∙◌, append_assoc}
-use Rattle.std.specs.Int.{w16, w32, to_be_bytes}
+use Rattle.std.specs.Int.{w16, w32, w64, to_be_bytes}
 use Rattle.lamport_clocks.specs.declared.stamp.Stamp.{Stamp}
 use Rattle.record_text.specs.declared.value.Value.{Value}
 use Rattle.record_text.specs.declared.element.Element.{Element}
 use Rattle.record_text.specs.Element.{IsStamp, IsElement}
 use Rattle.record_text.specs.Fields.{Parsed, ◌>>=◌}
-use Rattle.record_text.specs.Reading.{path_at, value_at, u16_at, u32_at, stamp_at, element_at}
+use Rattle.record_text.specs.Reading.{path_at, value_at, u16_at, u32_at, u64_at, stamp_at, element_at}
 use Rattle.record_text.specs.Texts.{path_text, value_text, stamp_text, element_text}
-use Rattle.record_text.proofs.FieldLaws.{AreBytes, Begins, Begins-then, wide16, wide32, number_begins, number_again, bind_ok, Ok-is}
+use Rattle.record_text.proofs.FieldLaws.{AreBytes, Begins, Begins-then, wide16, wide32, wide64, number_begins, number_again, bind_ok, Ok-is}
 use Rattle.record_text.proofs.PathTextLaws.{path_begins, path_again}
 use Rattle.record_text.proofs.ValueTextLaws.{value_begins, value_again, path_of_value}
 
@@ -27,6 +27,14 @@ u32_begins bytes n rest fits e = number_begins w32 (2 ^ 32) wide32 bytes n rest 
 pub u32_again : (n : ℕ) (rest : List ℕ) → n < 2 ^ 32 → u32_at (to_be_bytes w32 n ++ rest) ≡ Ok (n, rest)
 unfolding u32_at
 u32_again n rest lt = number_again w32 (2 ^ 32) wide32 n rest lt
+
+pub u64_begins : (bytes : List ℕ) (n : ℕ) (rest : List ℕ) → AreBytes bytes → u64_at bytes ≡ Ok (n, rest) → Begins bytes (to_be_bytes w64 n) rest × (n < 2 ^ 64)
+unfolding u64_at
+u64_begins bytes n rest fits e = number_begins w64 (2 ^ 64) wide64 bytes n rest fits e
+
+pub u64_again : (n : ℕ) (rest : List ℕ) → n < 2 ^ 64 → u64_at (to_be_bytes w64 n ++ rest) ≡ Ok (n, rest)
+unfolding u64_at
+u64_again n rest lt = number_again w64 (2 ^ 64) wide64 n rest lt
 
 pub stamp_begins : (bytes : List ℕ) (stamp : Stamp) (rest : List ℕ) → AreBytes bytes → stamp_at bytes ≡ Ok (stamp, rest) → Begins bytes (stamp_text stamp) rest × IsStamp stamp
 unfolding stamp_at

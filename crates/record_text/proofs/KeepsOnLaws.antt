@@ -1,6 +1,6 @@
 -- Readers that more bytes behind don't disturb: a field, one reader after another, and a choice of readers.
 use Rattle.std.proofs.Common.{◌≡◌, ℕ, ◌+◌, ◌≤◌, Bool, true, false, cond, ltb, List, [], ◌∷◌, ◌++◌, length, take, drop, Option, Some, None, Result, Ok, Err, refl, sym, ap, ◌∙◌, ◌⊎◌, inl, inr, arith}
-use Rattle.std.specs.Int.{w16, w32, byte_len, from_be_bytes}
+use Rattle.std.specs.Int.{w16, w32, w64, byte_len, from_be_bytes}
 use Rattle.std.proofs.lemmas.Bool.{ltb-false, le-ltb}
 use Rattle.std.proofs.lemmas.List.{take-append-le, drop-append-le, length-append, length-drop}
 use Rattle.tree_keys.specs.Path.{tree_of, is_data}
@@ -9,7 +9,7 @@ use Rattle.record_text.specs.declared.reader.TextFault.TheVariants.{Malformed, T
 use Rattle.record_text.specs.declared.value.Value.TheVariants as values
 use Rattle.record_text.specs.Tree.{word_width}
 use Rattle.record_text.specs.Fields.{Parsed, ◌>>=◌, ranged, field, KeepsOn}
-use Rattle.record_text.specs.Reading.{first_byte, run_at, byte_at, flag_in, count_in, path_in, path_at, blob_behind, blob_at, pointer_tag_in, path_below_in, path_below_at, pointer_behind, pointer_at, node_at, value_by, value_at, u16_at, u32_at, stamp_at, element_at}
+use Rattle.record_text.specs.Reading.{first_byte, run_at, byte_at, flag_in, count_in, path_in, path_at, blob_behind, blob_at, pointer_tag_in, path_below_in, path_below_at, pointer_behind, pointer_at, node_at, value_by, value_at, u16_at, u32_at, u64_at, stamp_at, element_at}
 use Rattle.record_text.proofs.FieldLaws.{bind_ok, Ok-is, field_ok}
 
 abbrev failed : {A : Type 0} → TextFault → Result A TextFault
@@ -104,6 +104,10 @@ keeps_on-u16 = keeps_on-field 2 (λ run. Some (from_be_bytes w16 run))
 pub keeps_on-u32 : KeepsOn u32_at
 unfolding u32_at
 keeps_on-u32 = keeps_on-field 4 (λ run. Some (from_be_bytes w32 run))
+
+pub keeps_on-u64 : KeepsOn u64_at
+unfolding u64_at
+keeps_on-u64 = keeps_on-field 8 (λ run. Some (from_be_bytes w64 run))
 
 pub keeps_on-path : (wide : Bool) → KeepsOn (path_at wide)
 unfolding path_at

@@ -9,3 +9,4 @@ pub mod ElementTextLaws
 pub mod CountLaws
 pub mod KeepsOnLaws
 pub mod OneTextLaws
+pub mod SignatureLaws

@@ -87,7 +87,7 @@ one_element wide longest a b x y is_a is_b same =
 
 -- ---- fronts
 
-front_from_again : {A : Type 0} (read : List ℕ → Parsed A) (text front : List ℕ) (c : ℕ) (more : List ℕ) (a : A) → KeepsOn read → read (text ++ []) ≡ Ok (a, []) → text ≡ front ++ c ∷ more → read front ≡ Err Truncated
+pub front_from_again : {A : Type 0} (read : List ℕ → Parsed A) (text front : List ℕ) (c : ℕ) (more : List ℕ) (a : A) → KeepsOn read → read (text ++ []) ≡ Ok (a, []) → text ≡ front ++ c ∷ more → read front ≡ Err Truncated
 front_from_again read text front c more a keeps again is =
     front_is_truncated read front c more a keeps (ap read (sym (append-nil text ∙ is)) ∙ again)
 

@@ -16,13 +16,13 @@ use Rattle.record_text.proofs.PathTextLaws.{path_below_begins, path_below_again}
 
 -- ---- runs of bytes
 
-run_begins : (n : ℕ) (bytes run rest : List ℕ) → AreBytes bytes → run_at n bytes ≡ Ok (run, rest) → Begins bytes run rest × (length run ≡ n)
+pub run_begins : (n : ℕ) (bytes run rest : List ℕ) → AreBytes bytes → run_at n bytes ≡ Ok (run, rest) → Begins bytes run rest × (length run ≡ n)
 run_begins n bytes run rest fits e =
     let f = field_begins n (λ run. Some run) bytes run rest fits e in
     let is : take n bytes ≡ run = cc (f.2) in
     (subst (λ (t : List ℕ). Begins bytes t rest) is f.0, subst (λ (t : List ℕ). length t ≡ n) is f.1)
 
-run_again : (n : ℕ) (run rest : List ℕ) → length run ≡ n → run_at n (run ++ rest) ≡ Ok (run, rest)
+pub run_again : (n : ℕ) (run rest : List ℕ) → length run ≡ n → run_at n (run ++ rest) ≡ Ok (run, rest)
 run_again n run rest len = field_again n (λ run. Some run) run rest run len refl
 
 -- ---- data values

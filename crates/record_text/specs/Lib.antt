@@ -9,6 +9,7 @@ pub mod Element
 pub mod Texts
 pub mod Fields
 pub mod Reading
+pub mod Signature
 pub mod Refusal
 pub mod Cause
 pub use Rattle.tree_keys.specs

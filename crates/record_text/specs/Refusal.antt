@@ -1,7 +1,7 @@
 -- The printed name of each refusal.
 use Rattle.std.specs.Prelude.{ℕ, List, codes}
 use Rattle.record_text.specs.declared.refusal.Refusal.{Refusal}
-use Rattle.record_text.specs.declared.refusal.Refusal.TheVariants.{Malformed, Truncated, IsRoot, AlreadyCached, CacheFull, NotCached, ParentNotCached, NotBelow, Foreign, NotInitial, Deferred, WrongDigest, NotChild, HasChild, WrongHold, NoSuchVerifier, BadEpoch, StampNotLater, ClockEnd, NotData, WrongValue, SlotTaken, SlotEmpty, Present}
+use Rattle.record_text.specs.declared.refusal.Refusal.TheVariants.{Malformed, Truncated, IsRoot, AlreadyCached, CacheFull, NotCached, ParentNotCached, NotBelow, Foreign, NotInitial, Deferred, WrongDigest, NotChild, HasChild, WrongHold, NoSuchVerifier, BadEpoch, StampNotLater, ClockEnd, NotData, WrongValue, SlotTaken, SlotEmpty, NoSuchClient, BadTag, NumberNotLater, Unsigned, Present}
 
 -- each refusal by its own name
 abbrev pub refusal_name : Refusal → List ℕ
@@ -28,4 +28,8 @@ refusal_name NotData = codes "NotData"
 refusal_name WrongValue = codes "WrongValue"
 refusal_name SlotTaken = codes "SlotTaken"
 refusal_name SlotEmpty = codes "SlotEmpty"
+refusal_name NoSuchClient = codes "NoSuchClient"
+refusal_name BadTag = codes "BadTag"
+refusal_name NumberNotLater = codes "NumberNotLater"
+refusal_name Unsigned = codes "Unsigned"
 refusal_name Present = codes "Present"

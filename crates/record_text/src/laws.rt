@@ -7,6 +7,8 @@ ghost use Rattle.record_text.specs.declared.element.Element.{Element};
 ghost use Rattle.record_text.specs.declared.reader.TextFault.TheVariants.{Truncated};
 ghost use Rattle.record_text.specs.Value.{IsOf, initial_value};
 ghost use Rattle.record_text.specs.Element.{IsStamp, IsElement};
+ghost use Rattle.record_text.specs.declared.signature.Signature.{Signature};
+ghost use Rattle.record_text.specs.Signature.{signature_text, signature_at, IsSignature};
 ghost use Rattle.record_text.specs.Fields.{KeepsOn};
 ghost use Rattle.record_text.specs.Reading.{path_at, value_at, stamp_at, element_at};
 ghost use Rattle.record_text.specs.Texts.{path_text, value_text, stamp_text, element_text};
@@ -26,6 +28,8 @@ pub fn no_text_begins_another()
     ensures elements { (wide : Bool) (longest : ℕ) (a b : Element) (x y : List ℕ)
         → IsElement wide longest a → IsElement wide longest b
         → element_text a ++ x ≡ element_text b ++ y → (a ≡ b) × (x ≡ y) }
+    ensures signatures { (a b : Signature) (x y : List ℕ) → IsSignature a → IsSignature b
+        → signature_text a ++ x ≡ signature_text b ++ y → (a ≡ b) × (x ≡ y) }
 {}
 
 /// What a path starts with is of its kind.
@@ -41,6 +45,7 @@ pub fn readers_keep_on()
     ensures values { (longest : ℕ) (path : List Bool) → KeepsOn (value_at longest path) }
     ensures stamps { KeepsOn stamp_at }
     ensures elements { (wide : Bool) (longest : ℕ) → KeepsOn (element_at wide longest) }
+    ensures signatures { KeepsOn signature_at }
 {}
 
 /// A text that is cut short is truncated, wherever it is cut.
@@ -56,4 +61,7 @@ pub fn fronts_are_truncated()
     ensures elements { (wide : Bool) (longest : ℕ) (element : Element) (front : List ℕ) (c : ℕ) (more : List ℕ)
         → IsElement wide longest element → element_text element ≡ front ++ c ∷ more
         → element_at wide longest front ≡ Err Truncated }
+    ensures signatures { (signature : Signature) (front : List ℕ) (c : ℕ) (more : List ℕ)
+        → IsSignature signature → signature_text signature ≡ front ++ c ∷ more
+        → signature_at front ≡ Err Truncated }
 {}

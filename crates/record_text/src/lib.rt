@@ -7,7 +7,7 @@
 //! `value.rt`, then `Reader` in `reader.rt` and the writers in `writing.rt`; `laws.rt` says that no text
 //! begins another, and what a text that is cut short is read as. What a get or put reports stands in
 //! `operation.rt`, and with its value elsewhere in `blob_ref.rt`, what an audit shows in `exhibit.rt`, and the names of the refusals in `refusal.rt`.
-//! What is asked of a store stands in `request.rt`, and why a line of a script is refused in `cause.rt`.
+//! What is asked of a store stands in `request.rt`, what a client signs it with in `signature.rt`, and why a line of a script is refused in `cause.rt`.
 #![tactic(auto)]
 
 mod blob_ref;
@@ -21,6 +21,7 @@ mod reader;
 mod reading;
 mod refusal;
 mod request;
+mod signature;
 mod value;
 mod writing;
 
@@ -38,6 +39,7 @@ pub use reader::{Reader, TextFault};
 pub use reading::{read_element, read_path, read_value};
 pub use refusal::Refusal;
 pub use request::Request;
+pub use signature::{SIGNATURE_TEXT, Signature, push_signature};
 pub use value::{Blob, LONGEST_BLOB, Node, Pointer, Value, initial};
 pub use writing::{
     LONGEST_ELEMENT_TEXT, LONGEST_PATH_TEXT, LONGEST_VALUE_TEXT, element_text, push_blob,

@@ -5,10 +5,12 @@ ghost use Rattle.tree_keys.specs.Path.{IsIn, IsPath, IsNodePath, is_prefix};
 ghost use Rattle.record_text.specs.Tree.{word_width};
 ghost use Rattle.record_text.specs.Value.{IsBlob, IsSide, IsOf};
 ghost use Rattle.record_text.specs.Fields.{Takes, TakesInto, field};
+ghost use Rattle.record_text.specs.Signature.{signature_at};
 ghost use Rattle.record_text.specs.Reading.{run_at, byte_at, flag_in, count_in, path_at, path_below_at, blob_at, path_in, pointer_tag_in, pointer_at, node_at, value_at, u16_at, u32_at, u64_at, stamp_at, element_at};
 
 use crate::blob_ref::BlobRef;
 use crate::element::Element;
+use crate::signature::Signature;
 use crate::value::{Blob, Node, Pointer, Value};
 use lamport_clocks::Stamp;
 use std::marker::Model;
@@ -226,6 +228,21 @@ impl<'a> Reader<'a> {
         })
     }
 
+    /// A signature: the client, the number that it gives the request, and its tag.
+    #[tactic(auto, unfolding(crate::specs::Signature::signature_at))]
+    pub fn signature(&mut self) -> Result<Signature, TextFault>
+        ensures takes { Takes result self.new (signature_at self.old) }
+    {
+        let client = self.u32()?;
+        let number = self.u64()?;
+        let tag = self.digest()?;
+        Ok(Signature {
+            client,
+            number,
+            tag,
+        })
+    }
+
     // A byte that says whether there is something.
     #[tactic(auto, unfolding(crate::specs::Reading::byte_at))]
     fn flag(&mut self) -> Result<bool, TextFault>
@@ -264,6 +281,7 @@ impl<'a> Reader<'a> {
         }
     }
 
+    // The bytes of a digest, or of a tag.
     fn digest(&mut self) -> Result<[u8; 32], TextFault>
         ensures takes { Takes result self.new (run_at 32 self.old) }
     {

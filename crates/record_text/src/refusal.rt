@@ -3,7 +3,7 @@ ghost use Rattle.std.specs.Prelude.{◌≡◌};
 
 /// Why a verifier refuses a command: the first of its tests that the command doesn't pass. Up to
 /// `WrongValue` they stand in this order for a command that names paths; the next two are of commands that name slots,
-/// and the last one is of a key that is said to be absent.
+/// the four behind them of requests that are signed, and the last one is of a key that is said to be absent.
 #[derive(Clone, Copy, Debug, PartialEq, Eq)]
 pub enum Refusal {
     /// The bytes are no command, whatever follows them.
@@ -52,6 +52,14 @@ pub enum Refusal {
     SlotTaken,
     /// The slot holds no entry, or there is no such slot.
     SlotEmpty,
+    /// There is no client of this number, or its requests are another verifier's.
+    NoSuchClient,
+    /// The tag isn't the one that the client makes of the request.
+    BadTag,
+    /// The request's number isn't above the client's last.
+    NumberNotLater,
+    /// The request carries no client's tag.
+    Unsigned,
     /// The parent's pointer is to the path, or to one above it.
     Present,
 }
@@ -87,6 +95,10 @@ impl Refusal {
             Refusal::WrongValue => "WrongValue",
             Refusal::SlotTaken => "SlotTaken",
             Refusal::SlotEmpty => "SlotEmpty",
+            Refusal::NoSuchClient => "NoSuchClient",
+            Refusal::BadTag => "BadTag",
+            Refusal::NumberNotLater => "NumberNotLater",
+            Refusal::Unsigned => "Unsigned",
             Refusal::Present => "Present",
         }
     }

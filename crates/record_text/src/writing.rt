@@ -181,7 +181,7 @@ fn deferred_tag(deferred: bool) -> u8
 }
 
 // Appends bytes that there is room for.
-fn push_all<const CAP: usize>(items: &mut ArrayVec<u8, CAP>, bytes: &[u8])
+pub(crate) fn push_all<const CAP: usize>(items: &mut ArrayVec<u8, CAP>, bytes: &[u8])
     requires room { array_vec_len items.old + length bytes.now ≤ CAP }
     ensures text { items.new.items ≡ items.old.items ++ bytes.now }
     ensures len { array_vec_len items.new ≡ array_vec_len items.old + length bytes.now }

@@ -1,4 +1,5 @@
 use Rattle.record_text.proofs.OneTextLaws.{path_front, value_front, stamp_front, element_front}
+use Rattle.record_text.proofs.SignatureLaws.{signature_front}
 use Rattle.record_text.proofs.laws.fronts_are_truncated.Goals as goal
 
 pub returns : goal.returns
@@ -7,4 +8,5 @@ returns c = record {
   values = value_front;
   stamps = stamp_front;
   elements = element_front;
+  signatures = signature_front;
 }

@@ -1,4 +1,5 @@
 use Rattle.record_text.proofs.KeepsOnLaws.{keeps_on-path, keeps_on-value, keeps_on-stamp, keeps_on-element}
+use Rattle.record_text.proofs.SignatureLaws.{keeps_on-signature}
 use Rattle.record_text.proofs.laws.readers_keep_on.Goals as goal
 
 pub returns : goal.returns
@@ -7,4 +8,5 @@ returns c = record {
   values = keeps_on-value;
   stamps = keeps_on-stamp;
   elements = keeps_on-element;
+  signatures = keeps_on-signature;
 }
