@@ -8,6 +8,8 @@ use Rattle.lamport_clocks.specs.declared.stamp.Stamp.{Stamp}
 use Rattle.record_text.specs.declared.reader.TextFault.TheVariants.{Malformed, Truncated}
 use Rattle.record_text.specs.declared.value.Value.{Value}
 use Rattle.record_text.specs.Value.{IsOf, IsBlob}
+use Rattle.record_text.specs.declared.signature.Signature.{Signature}
+use Rattle.record_text.specs.Signature.{signature_text, signature_at, IsSignature}
 use Rattle.record_text.specs.Element.{IsStamp}
 use Rattle.record_text.specs.Tree.{word_width}
 use Rattle.record_text.specs.Fields.{Parsed, field, KeepsOn}
@@ -19,6 +21,7 @@ use Rattle.record_text.proofs.ValueTextLaws.{value_begins, value_again, blob_beg
 use Rattle.record_text.proofs.ElementTextLaws.{u16_begins, u16_again, stamp_begins, stamp_again}
 use Rattle.record_text.proofs.KeepsOnLaws.{keeps_on-then, keeps_on-byte, front_is_truncated}
 use Rattle.record_text.proofs.OneTextLaws.{one_from_again}
+use Rattle.record_text.proofs.SignatureLaws.{signature_begins, signature_again}
 use Rattle.log_codec.proofs.StepLaws.{then_at, then_ok, then_again}
 
 -- the text of a command, its reader, and which commands have a text
@@ -119,6 +122,10 @@ pub Spells-stamp : {C : Type 0} (grammar : Grammar C) (front : List ℕ) (second
 Spells-stamp grammar front second next =
     Spells-then grammar front (λ bytes. stamp_at bytes) second stamp_text (λ stamp. IsStamp stamp) (λ bytes stamp rest. stamp_begins bytes stamp rest) next
 
+pub Spells-signature : {C : Type 0} (grammar : Grammar C) (front : List ℕ) (second : Signature → List ℕ → Parsed C) → ((signature : Signature) → IsSignature signature → Spells grammar (front ++ signature_text signature) (second signature)) → Spells grammar front (λ bytes. then_at (signature_at bytes) second)
+Spells-signature grammar front second next =
+    Spells-then grammar front (λ bytes. signature_at bytes) second signature_text IsSignature (λ bytes signature rest fits. signature_begins bytes signature rest fits) next
+
 pub Spells-u16 : {C : Type 0} (grammar : Grammar C) (front : List ℕ) (second : ℕ → List ℕ → Parsed C) → ((n : ℕ) → n < 2 ^ 16 → Spells grammar (front ++ to_be_bytes w16 n) (second n)) → Spells grammar front (λ bytes. then_at (u16_at bytes) second)
 Spells-u16 grammar front second next =
     Spells-then grammar front (λ bytes. u16_at bytes) second (to_be_bytes w16) (λ n. n < 2 ^ 16) (λ bytes n rest. u16_begins bytes n rest) next
@@ -156,6 +163,10 @@ Again-blob longest blob fits second back command next =
 pub Again-stamp : {C : Type 0} (stamp : Stamp) (fits : IsStamp stamp) (second : Stamp → List ℕ → Parsed C) (back : List ℕ) (command : C) → Again (second stamp) back command → Again (λ bytes. then_at (stamp_at bytes) second) (stamp_text stamp ++ back) command
 Again-stamp stamp fits second back command next =
     Again-then (λ bytes. stamp_at bytes) second stamp (stamp_text stamp) back command (λ rest. stamp_again stamp rest fits) next
+
+pub Again-signature : {C : Type 0} (signature : Signature) (fits : IsSignature signature) (second : Signature → List ℕ → Parsed C) (back : List ℕ) (command : C) → Again (second signature) back command → Again (λ bytes. then_at (signature_at bytes) second) (signature_text signature ++ back) command
+Again-signature signature fits second back command next =
+    Again-then (λ bytes. signature_at bytes) second signature (signature_text signature) back command (λ rest. signature_again signature rest fits) next
 
 pub Again-u16 : {C : Type 0} (n : ℕ) (small : n < 2 ^ 16) (second : ℕ → List ℕ → Parsed C) (back : List ℕ) (command : C) → Again (second n) back command → Again (λ bytes. then_at (u16_at bytes) second) (to_be_bytes w16 n ++ back) command
 Again-u16 n small second back command next =

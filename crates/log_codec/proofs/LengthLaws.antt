@@ -1,6 +1,6 @@
 -- How many bytes a reader takes at most: a command takes no more than the longest of its tree has, and has fewer where it is cut.
 use Rattle.std.proofs.Common.{◌≡◌, ℕ, ◌+◌, ◌*◌, ◌<◌, ◌≤◌, max, ◌==◌, Bool, true, false, cond, ltb, List, [], ◌∷◌, ◌++◌, length, take, drop, Option, Some, None, Ok, Err, refl, ap, subst, append-nil, length-drop, arith}
-use Rattle.std.specs.Int.{w16, w32, from_be_bytes}
+use Rattle.std.specs.Int.{w16, w32, w64, from_be_bytes}
 use Rattle.std.specs.Prelude.{nat_le}
 use Rattle.std.proofs.lemmas.Bool.{ltb-true, leb-true}
 use Rattle.std.proofs.Math.Nat.{le-max_left, le-max_right}
@@ -10,15 +10,18 @@ use Rattle.lamport_clocks.specs.declared.stamp.Stamp.{Stamp}
 use Rattle.record_text.specs.declared.reader.TextFault.TheVariants as faults
 use Rattle.record_text.specs.declared.value.Pointer.{Pointer}
 use Rattle.record_text.specs.declared.value.Node.{Node}
+use Rattle.record_text.specs.declared.value.Value.{Value}
 use Rattle.record_text.specs.declared.value.Value.TheVariants as values
+use Rattle.record_text.specs.declared.signature.Signature.{Signature}
+use Rattle.record_text.specs.Signature.{signature_at}
 use Rattle.record_text.specs.Fields.{Parsed, field, ranged}
-use Rattle.record_text.specs.Reading.{first_byte, byte_at, run_at, path_in, path_at, flag_in, count_in, blob_behind, blob_at, pointer_tag_in, path_below_in, path_below_at, pointer_behind, pointer_at, node_at, value_by, value_at, u16_at, u32_at, stamp_at}
+use Rattle.record_text.specs.Reading.{first_byte, byte_at, run_at, path_in, path_at, flag_in, count_in, blob_behind, blob_at, pointer_tag_in, path_below_in, path_below_at, pointer_behind, pointer_at, node_at, value_by, value_at, u16_at, u32_at, u64_at, stamp_at}
 use Rattle.record_text.proofs.FieldLaws.{field_ok, Ok-is}
 use Rattle.log_codec.specs.declared.command.Command.{Command}
-use Rattle.log_codec.specs.declared.command.Command.TheVariants.{AddM, EvictM, AddB, EvictB, EvictBM, Get, Put, NextEpoch, Absent}
-use Rattle.log_codec.specs.Command.{add_m_at, evict_m_at, add_b_at, evict_b_at, evict_bm_at, get_at, put_at, absent_at, path_command_behind, path_command_at, path_command_text, IsPathCommand, IsCommandIn}
-use Rattle.log_codec.specs.Lengths.{longest_path_text, longest_pointer_text, longest_blob_text, longest_value_text, longest_path_command_text}
-use Rattle.log_codec.proofs.CommandLaws.{path_grammar}
+use Rattle.log_codec.specs.declared.command.Command.TheVariants.{AddM, EvictM, AddB, EvictB, EvictBM, Get, Put, NextEpoch, Absent, SignedGet, SignedPut}
+use Rattle.log_codec.specs.Command.{add_m_at, evict_m_at, add_b_at, evict_b_at, evict_bm_at, get_at, put_at, absent_at, signed_get_at, signed_put_at, signed_command_behind, path_command_behind, path_command_at, path_command_text, IsPathCommand, IsCommandIn}
+use Rattle.log_codec.specs.Lengths.{longest_path_text, longest_pointer_text, longest_blob_text, longest_value_text, longest_signature_text, longest_signing, longest_path_command_text}
+use Rattle.log_codec.proofs.CommandLaws.{path_grammar, signed_get, signed_put}
 use Rattle.log_codec.proofs.CommandKeepsOnLaws.{path_exact}
 use Rattle.log_codec.proofs.GrammarLaws.{Grammar, IsExact, path_at-in, tagged_at}
 use Rattle.log_codec.proofs.StepLaws.{then_at, then_ok, two_at, three_at, four_at}
@@ -147,6 +150,17 @@ Spans-stamp =
     let stamp : ℕ → ℕ → Stamp = λ epoch counter. record { epoch = epoch; counter = counter } in
     Spans-two 4 4 stamp (λ bytes. u32_at bytes) (λ epoch bytes. u32_at bytes) Spans-u32 (λ epoch. Spans-u32)
 
+pub Spans-u64 : Spans 8 (λ bytes. u64_at bytes)
+unfolding u64_at
+Spans-u64 = Spans-field 8 (λ run. Some (from_be_bytes w64 run))
+
+pub Spans-signature : Spans longest_signature_text (λ bytes. signature_at bytes)
+unfolding signature_at
+Spans-signature =
+    let signature : ℕ → ℕ → List ℕ → Signature = λ client number tag. record { client = client; number = number; tag = tag } in
+    Spans-wider (4 + (8 + 32)) longest_signature_text _ (omega arith)
+    (Spans-three 4 8 32 signature (λ bytes. u32_at bytes) (λ client bytes. u64_at bytes) (λ bytes. run_at 32 bytes) Spans-u32 (λ client. Spans-u64) (Spans-field 32 (λ run. Some run)))
+
 counted : (within : Bool) (n count : ℕ) → cond within (Some n) None ≡ Some count → (within ≡ true) × (n ≡ count)
 counted true n count e = (refl, cc)
 counted false n count e = absurd (cc)
@@ -225,28 +239,50 @@ text_spans grammar exact n spans command is =
 -- ---- commands that name paths
 
 -- what each command's fields take, by how much a path takes and a value, which takes more than two paths
-record Fits (path value : ℕ) : Type 0 where
-  add_m : path + (value + path) ≤ path + value + max path 10
-  add_b : path + (value + (8 + 2)) ≤ path + value + max path 10
-  paths : path + (path + 8) ≤ path + value + max path 10
+record Fits (path value signing : ℕ) : Type 0 where
+  add_m : path + (value + path) ≤ path + value + max (max path 10) signing
+  add_b : path + (value + (8 + 2)) ≤ path + value + max (max path 10) signing
+  paths : path + (path + 8) ≤ path + value + max (max path 10) signing
+  signed : path + (signing + value) ≤ path + value + max (max path 10) signing
 
-fits : (path value : ℕ) → path + 8 ≤ value → Fits path value
-fits path value le =
+fits : (path value signing : ℕ) → path + 8 ≤ value → Fits path value signing
+fits path value signing le =
     let left = le-max_left path 10 in
     let right = le-max_right path 10 in
-    record { add_m = omega arith; add_b = omega arith; paths = omega arith }
+    let inner = le-max_left (max path 10) signing in
+    let outer = le-max_right (max path 10) signing in
+    record { add_m = omega arith; add_b = omega arith; paths = omega arith; signed = omega arith }
 
-fits_of : (wide : Bool) (longest : ℕ) → Fits (longest_path_text wide) (longest_value_text wide longest)
-fits_of wide longest =
+fits_of : (signed wide : Bool) (longest : ℕ) → Fits (longest_path_text wide) (longest_value_text wide longest) (longest_signing signed)
+fits_of signed wide longest =
     let node = le-max_right (longest_blob_text longest) (2 * longest_pointer_text wide) in
-    fits (longest_path_text wide) (longest_value_text wide longest) (omega arith)
+    fits (longest_path_text wide) (longest_value_text wide longest) (longest_signing signed) (omega arith)
 
-pub Spans-behind : (wide : Bool) (longest tag : ℕ) → Spans (longest_path_text wide + longest_value_text wide longest + max (longest_path_text wide) 10) (λ bytes. path_command_behind wide longest tag bytes)
-Spans-behind wide longest tag =
+-- the fields of a signed command, where its path was read
+Spans-signed_value : (wide : Bool) (longest : ℕ) (make : List Bool → Signature → Value → Command)
+    → Spans (longest_path_text wide + (longest_signature_text + longest_value_text wide longest)) (λ bytes. then_at (path_at wide bytes) (λ path left. two_at (make path) signature_at (λ signature. value_at longest path) left))
+Spans-signed_value wide longest make =
+    Spans-then_found (longest_path_text wide) (longest_signature_text + longest_value_text wide longest) (path_at wide) (λ path left. two_at (make path) signature_at (λ signature. value_at longest path) left) (Spans-path wide)
+    (λ path bytes left is. Spans-two longest_signature_text (longest_value_text wide longest) (make path) signature_at (λ signature. value_at longest path) Spans-signature (λ signature. Spans-value_of wide longest path bytes left is))
+
+-- the signed commands, where requests are signed
+Spans-signed : (signed wide : Bool) (longest tag : ℕ) → Spans (longest_path_text wide + longest_value_text wide longest + max (max (longest_path_text wide) 10) (longest_signing signed)) (λ bytes. signed_command_behind signed wide longest tag bytes)
+Spans-signed false wide longest tag = Spans-malformed (longest_path_text wide + longest_value_text wide longest + max (max (longest_path_text wide) 10) (longest_signing false))
+Spans-signed true wide longest tag =
     let p = longest_path_text wide in
     let v = longest_value_text wide longest in
-    let n = p + v + max p 10 in
-    let fit = fits_of wide longest in
+    let n = p + v + max (max p 10) (longest_signing true) in
+    let fit = fits_of true wide longest in
+    Spans-if n (tag == 10) (λ bytes. signed_get_at wide longest bytes) _ (Spans-wider (p + (longest_signature_text + v)) n _ fit.signed (Spans-signed_value wide longest signed_get))
+    (Spans-if n (tag == 11) (λ bytes. signed_put_at wide longest bytes) (λ bytes. Err faults.Malformed) (Spans-wider (p + (longest_signature_text + v)) n _ fit.signed (Spans-signed_value wide longest signed_put))
+    (Spans-malformed n))
+
+pub Spans-behind : (signed wide : Bool) (longest tag : ℕ) → Spans (longest_path_text wide + longest_value_text wide longest + max (max (longest_path_text wide) 10) (longest_signing signed)) (λ bytes. path_command_behind signed wide longest tag bytes)
+Spans-behind signed wide longest tag =
+    let p = longest_path_text wide in
+    let v = longest_value_text wide longest in
+    let n = p + v + max (max p 10) (longest_signing signed) in
+    let fit = fits_of signed wide longest in
     let path = Spans-path wide in
     let value = Spans-value_of wide longest in
     let path_and_value : p + v ≤ n = omega arith in
@@ -260,24 +296,24 @@ Spans-behind wide longest tag =
     (Spans-if n (tag == 6) (λ bytes. get_at wide longest bytes) _ (Spans-wider (p + v) n _ path_and_value (Spans-two_found p v Get (path_at wide) (value_at longest) path value))
     (Spans-if n (tag == 7) (λ bytes. put_at wide longest bytes) _ (Spans-wider (p + v) n _ path_and_value (Spans-two_found p v Put (path_at wide) (value_at longest) path value))
     (Spans-if n (tag == 8) (λ bytes. Ok (NextEpoch, bytes)) _ (Spans-done n NextEpoch)
-    (Spans-if n (tag == 9) (λ bytes. absent_at wide bytes) (λ bytes. Err faults.Malformed) (Spans-wider (p + p) n _ two_paths (Spans-two p p Absent (path_at wide) (λ p. path_at wide) path (λ p. path))) (Spans-malformed n)))))))))
+    (Spans-if n (tag == 9) (λ bytes. absent_at wide bytes) _ (Spans-wider (p + p) n _ two_paths (Spans-two p p Absent (path_at wide) (λ p. path_at wide) path (λ p. path))) (Spans-signed signed wide longest tag)))))))))
 
-pub Spans-path_command : (wide : Bool) (longest : ℕ) → Spans (longest_path_command_text wide longest) (λ bytes. path_command_at wide longest bytes)
+pub Spans-path_command : (signed wide : Bool) (longest : ℕ) → Spans (longest_path_command_text signed wide longest) (λ bytes. path_command_at signed wide longest bytes)
 unfolding path_command_at
-Spans-path_command wide longest =
-    let n = longest_path_text wide + longest_value_text wide longest + max (longest_path_text wide) 10 in
-    Spans-wider (1 + n) (longest_path_command_text wide longest) _ (omega arith)
-    (Spans-tagged n (λ tag left. path_command_behind wide longest tag left) (Spans-behind wide longest))
+Spans-path_command signed wide longest =
+    let n = longest_path_text wide + longest_value_text wide longest + max (max (longest_path_text wide) 10) (longest_signing signed) in
+    Spans-wider (1 + n) (longest_path_command_text signed wide longest) _ (omega arith)
+    (Spans-tagged n (λ tag left. path_command_behind signed wide longest tag left) (Spans-behind signed wide longest))
 
 -- A command that was read takes no more bytes.
-pub path_command_taken : (wide : Bool) (longest : ℕ) (bytes : List ℕ) (command : Command) (rest : List ℕ) → path_command_at wide longest bytes ≡ Ok (command, rest) → length bytes ≤ longest_path_command_text wide longest + length rest
-path_command_taken wide longest bytes command rest e = (Spans-path_command wide longest).takes bytes command rest e
+pub path_command_taken : (signed wide : Bool) (longest : ℕ) (bytes : List ℕ) (command : Command) (rest : List ℕ) → path_command_at signed wide longest bytes ≡ Ok (command, rest) → length bytes ≤ longest_path_command_text signed wide longest + length rest
+path_command_taken signed wide longest bytes command rest e = (Spans-path_command signed wide longest).takes bytes command rest e
 
 -- A command that is cut has fewer.
-pub path_command_cut : (wide : Bool) (longest : ℕ) (bytes : List ℕ) → path_command_at wide longest bytes ≡ Err faults.Truncated → length bytes < longest_path_command_text wide longest
-path_command_cut wide longest bytes e = (Spans-path_command wide longest).cut bytes e
+pub path_command_cut : (signed wide : Bool) (longest : ℕ) (bytes : List ℕ) → path_command_at signed wide longest bytes ≡ Err faults.Truncated → length bytes < longest_path_command_text signed wide longest
+path_command_cut signed wide longest bytes e = (Spans-path_command signed wide longest).cut bytes e
 
 -- A command's text has no more.
-pub path_text_within : (wide : Bool) (longest : ℕ) (command : Command) → IsCommandIn wide command → IsPathCommand longest command → length (path_command_text command) ≤ longest_path_command_text wide longest
-path_text_within wide longest command inside is =
-    text_spans (path_grammar wide longest) (path_exact wide longest) (longest_path_command_text wide longest) (Spans-path_command wide longest) command (inside, is)
+pub path_text_within : (signed wide : Bool) (longest : ℕ) (command : Command) → IsCommandIn signed wide command → IsPathCommand longest command → length (path_command_text command) ≤ longest_path_command_text signed wide longest
+path_text_within signed wide longest command inside is =
+    text_spans (path_grammar signed wide longest) (path_exact signed wide longest) (longest_path_command_text signed wide longest) (Spans-path_command signed wide longest) command (inside, is)

@@ -194,12 +194,12 @@ pub log_text-by_path : (commands : List Command) → log_text (map ByPath comman
 log_text-by_path [] = refl
 log_text-by_path (command ∷ commands) = ap (λ (more : List ℕ). path_command_text command ++ more) (log_text-by_path commands)
 
-by_path_in_range : (format : LogFormat) (commands : List Command) → format.by_path ≡ true → AllByRecursion (IsCommandIn format.wide) commands → AllByRecursion (IsPathCommand format.longest) commands → AllByRecursion (IsCommand format) (map ByPath commands)
+by_path_in_range : (format : LogFormat) (commands : List Command) → format.by_path ≡ true → AllByRecursion (IsCommandIn format.signed format.wide) commands → AllByRecursion (IsPathCommand format.longest) commands → AllByRecursion (IsCommand format) (map ByPath commands)
 by_path_in_range format [] by_path within is = tt
 by_path_in_range format (command ∷ commands) by_path within is =
-    (subst (λ (names_paths : Bool). IsCommandBy names_paths format.wide format.longest (ByPath command)) (sym by_path) (within.0, is.0), by_path_in_range format commands by_path within.1 is.1)
+    (subst (λ (names_paths : Bool). IsCommandBy names_paths format.signed format.wide format.longest (ByPath command)) (sym by_path) (within.0, is.0), by_path_in_range format commands by_path within.1 is.1)
 
 -- Where commands name paths, their joined texts are read as these commands.
-pub read_log-path_text : (format : LogFormat) (commands : List Command) → format.by_path ≡ true → AllByRecursion (IsCommandIn format.wide) commands → AllByRecursion (IsPathCommand format.longest) commands → read_log format (path_log_text commands) ≡ record { commands = map ByPath commands; end = whole }
+pub read_log-path_text : (format : LogFormat) (commands : List Command) → format.by_path ≡ true → AllByRecursion (IsCommandIn format.signed format.wide) commands → AllByRecursion (IsPathCommand format.longest) commands → read_log format (path_log_text commands) ≡ record { commands = map ByPath commands; end = whole }
 read_log-path_text format commands by_path within is =
     ap (read_log format) (sym (log_text-by_path commands)) ∙ read_log-text format (map ByPath commands) (by_path_in_range format commands by_path within is)

@@ -27,21 +27,22 @@ naming_slots parsed = do
   Ok (BySlot command.0, command.1)
 
 -- the command that the bytes begin with, where commands name paths and where they name slots
-abbrev pub command_by : Bool → Bool → ℕ → List ℕ → Parsed LogCommand
-command_by true wide longest bytes = naming_paths (path_command_at wide longest bytes)
-command_by false wide longest bytes = naming_slots (slot_command_at wide longest bytes)
+abbrev pub command_by : Bool → Bool → Bool → ℕ → List ℕ → Parsed LogCommand
+command_by true signed wide longest bytes = naming_paths (path_command_at signed wide longest bytes)
+command_by false signed wide longest bytes = naming_slots (slot_command_at signed wide longest bytes)
 
 -- the command of a format that the bytes begin with, and the bytes behind it; or the first fault
 unfoldable pub command_at : LogFormat → List ℕ → Parsed LogCommand
-command_at format bytes = command_by format.by_path format.wide format.longest bytes
+command_at format bytes = command_by format.by_path format.signed format.wide format.longest bytes
 
 -- what has a text where commands name paths, and where they name slots: one of the other kind has none
-abbrev pub IsCommandBy : Bool → Bool → ℕ → LogCommand → Type 0
-IsCommandBy true wide longest (ByPath command) = IsCommandIn wide command × IsPathCommand longest command
-IsCommandBy true wide longest (BySlot command) = ⊥
-IsCommandBy false wide longest (ByPath command) = ⊥
-IsCommandBy false wide longest (BySlot command) = IsSlotCommandIn wide command × IsSlotCommand longest command
+abbrev pub IsCommandBy : Bool → Bool → Bool → ℕ → LogCommand → Type 0
+IsCommandBy true signed wide longest (ByPath command) = IsCommandIn signed wide command × IsPathCommand longest command
+IsCommandBy true signed wide longest (BySlot command) = ⊥
+IsCommandBy false signed wide longest (ByPath command) = ⊥
+IsCommandBy false signed wide longest (BySlot command) = IsSlotCommandIn signed wide command × IsSlotCommand longest command
 
--- a command that has a text in a format: it is of its kind, its paths are of its tree, and each of its fields is in its range
+-- a command that has a text in a format: it is of its kind, its paths are of its tree, it is signed only where requests are, and
+-- each of its fields is in its range
 abbrev pub IsCommand : LogFormat → LogCommand → Type 0
-IsCommand format command = IsCommandBy format.by_path format.wide format.longest command
+IsCommand format command = IsCommandBy format.by_path format.signed format.wide format.longest command

@@ -1,6 +1,6 @@
-//! The nine commands of a log.
+//! The commands of a log that names paths.
 use lamport_clocks::Stamp;
-use record_text::Value;
+use record_text::{Signature, Value};
 use tree_keys::Path;
 
 /// A command of a verifier's log.
@@ -51,5 +51,17 @@ pub enum Command {
     Absent {
         path: Path,
         parent: Path,
+    },
+    /// Reads a data value, which must be this one, for a client that signed the request.
+    SignedGet {
+        path: Path,
+        value: Value,
+        signature: Signature,
+    },
+    /// Writes a data value for a client that signed the request.
+    SignedPut {
+        path: Path,
+        value: Value,
+        signature: Signature,
     },
 }

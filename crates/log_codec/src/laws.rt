@@ -64,6 +64,8 @@ pub fn commands_have_a_longest_text()
         → longest_command_text (format_of header) ≡ 106 }
     ensures third { (header : Header) → header.version ≡ 3
         → longest_command_text (format_of header) ≡ (if wide_of header then 287 else 279) }
+    ensures fourth { (header : Header) → header.version ≡ 4
+        → longest_command_text (format_of header) ≡ 304 }
 
     // Whatever a header says, they fit in the room that is kept for a command.
     ensures most { (header : Header) → longest_command_text (format_of header) ≤ LONGEST_COMMAND_TEXT }
@@ -114,6 +116,6 @@ pub fn logs_by_path_are_read()
     ensures text { (commands : List Command)
         → log_text (map ByPath commands) ≡ path_log_text commands }
     ensures read { (format : LogFormat) (commands : List Command) → format.by_path ≡ true
-        → AllByRecursion (IsCommandIn format.wide) commands → AllByRecursion (IsPathCommand format.longest) commands
+        → AllByRecursion (IsCommandIn format.signed format.wide) commands → AllByRecursion (IsPathCommand format.longest) commands
         → read_log format (path_log_text commands) ≡ record { commands = map ByPath commands; end = whole } }
 {}

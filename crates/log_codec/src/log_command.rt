@@ -7,6 +7,6 @@ use crate::slot_command::SlotCommand;
 pub enum LogCommand {
     /// One that names paths, as all do in a bundle of version 1.
     ByPath(Command),
-    /// One that names slots of the verifier's cache, as all do in a bundle of version 2 or 3.
+    /// One that names slots of the verifier's cache, as all do in a bundle of a later version.
     BySlot(SlotCommand),
 }

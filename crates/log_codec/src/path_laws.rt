@@ -10,43 +10,44 @@ ghost use Rattle.log_codec.specs.Command.{path_command_text, path_command_at, Is
 
 /// A command is read of its text, whatever follows; and what is read as a command is its text.
 pub fn path_commands_are_read_as_spelled()
-    ensures spelled { (wide : Bool) (longest : ℕ) (bytes : List ℕ) (command : Command) (rest : List ℕ)
-        → All (λ byte. byte < 256) bytes → path_command_at wide longest bytes ≡ Ok (command, rest)
-        → (bytes ≡ path_command_text command ++ rest) × IsCommandIn wide command × IsPathCommand longest command }
-    ensures read { (wide : Bool) (longest : ℕ) (command : Command) (rest : List ℕ)
-        → IsCommandIn wide command → IsPathCommand longest command
-        → path_command_at wide longest (path_command_text command ++ rest) ≡ Ok (command, rest) }
+    ensures spelled { (signed wide : Bool) (longest : ℕ) (bytes : List ℕ) (command : Command) (rest : List ℕ)
+        → All (λ byte. byte < 256) bytes → path_command_at signed wide longest bytes ≡ Ok (command, rest)
+        → (bytes ≡ path_command_text command ++ rest) × IsCommandIn signed wide command × IsPathCommand longest command }
+    ensures read { (signed wide : Bool) (longest : ℕ) (command : Command) (rest : List ℕ)
+        → IsCommandIn signed wide command → IsPathCommand longest command
+        → path_command_at signed wide longest (path_command_text command ++ rest) ≡ Ok (command, rest) }
 {}
 
 /// The text of no command begins another's: whatever follows two of them, they are one text of one command
 /// of a tree where the bytes are the same.
 pub fn no_path_command_begins_another()
-    ensures one { (wide : Bool) (longest : ℕ) (a b : Command) (x y : List ℕ)
-        → IsCommandIn wide a → IsPathCommand longest a → IsCommandIn wide b → IsPathCommand longest b
+    ensures one { (signed wide : Bool) (longest : ℕ) (a b : Command) (x y : List ℕ)
+        → IsCommandIn signed wide a → IsPathCommand longest a → IsCommandIn signed wide b → IsPathCommand longest b
         → path_command_text a ++ x ≡ path_command_text b ++ y → (a ≡ b) × (x ≡ y) }
 {}
 
 /// More bytes behind change neither which command was read, nor that the bytes are malformed. A command
 /// takes a byte at least. A command's text that is cut short is truncated, wherever it is cut.
 pub fn path_commands_keep_on()
-    ensures more { (wide : Bool) (longest : ℕ) → KeepsOn (path_command_at wide longest) }
-    ensures shorter { (wide : Bool) (longest : ℕ) (bytes : List ℕ) (command : Command) (rest : List ℕ)
-        → path_command_at wide longest bytes ≡ Ok (command, rest) → length rest < length bytes }
-    ensures front { (wide : Bool) (longest : ℕ) (command : Command) (front : List ℕ) (byte : ℕ) (back : List ℕ)
-        → IsCommandIn wide command → IsPathCommand longest command → path_command_text command ≡ front ++ byte ∷ back
-        → path_command_at wide longest front ≡ Err Truncated }
+    ensures more { (signed wide : Bool) (longest : ℕ) → KeepsOn (path_command_at signed wide longest) }
+    ensures shorter { (signed wide : Bool) (longest : ℕ) (bytes : List ℕ) (command : Command) (rest : List ℕ)
+        → path_command_at signed wide longest bytes ≡ Ok (command, rest) → length rest < length bytes }
+    ensures front { (signed wide : Bool) (longest : ℕ) (command : Command) (front : List ℕ) (byte : ℕ) (back : List ℕ)
+        → IsCommandIn signed wide command → IsPathCommand longest command → path_command_text command ≡ front ++ byte ∷ back
+        → path_command_at signed wide longest front ≡ Err Truncated }
 {}
 
 /// A command takes no more bytes than the longest of its tree, and where it is cut there are fewer.
 pub fn path_commands_have_a_longest_text()
-    ensures text { (wide : Bool) (longest : ℕ) (command : Command) → IsCommandIn wide command → IsPathCommand longest command
-        → length (path_command_text command) ≤ longest_path_command_text wide longest }
-    ensures taken { (wide : Bool) (longest : ℕ) (bytes : List ℕ) (command : Command) (rest : List ℕ)
-        → path_command_at wide longest bytes ≡ Ok (command, rest)
-        → length bytes ≤ longest_path_command_text wide longest + length rest }
-    ensures cut { (wide : Bool) (longest : ℕ) (bytes : List ℕ) → path_command_at wide longest bytes ≡ Err Truncated
-        → length bytes < longest_path_command_text wide longest }
+    ensures text { (signed wide : Bool) (longest : ℕ) (command : Command) → IsCommandIn signed wide command → IsPathCommand longest command
+        → length (path_command_text command) ≤ longest_path_command_text signed wide longest }
+    ensures taken { (signed wide : Bool) (longest : ℕ) (bytes : List ℕ) (command : Command) (rest : List ℕ)
+        → path_command_at signed wide longest bytes ≡ Ok (command, rest)
+        → length bytes ≤ longest_path_command_text signed wide longest + length rest }
+    ensures cut { (signed wide : Bool) (longest : ℕ) (bytes : List ℕ) → path_command_at signed wide longest bytes ≡ Err Truncated
+        → length bytes < longest_path_command_text signed wide longest }
 
     // How many these are.
-    ensures counts { (longest_path_command_text false 64 ≡ 104) × (longest_path_command_text true longest_blob ≡ 292) }
+    ensures counts { (longest_path_command_text false false 64 ≡ 104) × (longest_path_command_text false true longest_blob ≡ 292)
+        × (longest_path_command_text true true longest_blob ≡ 319) }
 {}

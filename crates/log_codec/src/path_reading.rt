@@ -1,6 +1,6 @@
 //! Reads a command that names paths, field by field.
 ghost use Rattle.record_text.specs.Fields.{TakesInto};
-ghost use Rattle.log_codec.specs.Command.{add_m_at, evict_m_at, add_b_at, evict_b_at, evict_bm_at, get_at, put_at, absent_at, path_command_behind, path_command_at};
+ghost use Rattle.log_codec.specs.Command.{add_m_at, evict_m_at, add_b_at, evict_b_at, evict_bm_at, get_at, put_at, absent_at, signed_get_at, signed_put_at, signed_command_behind, path_command_behind, path_command_at};
 ghost use Rattle.log_codec.specs.LogCommand.{naming_paths};
 
 use crate::command::Command;
@@ -151,15 +151,83 @@ fn absent(reader: &mut Reader<'_>, wide: bool, place: &mut LogCommand) -> Result
     Ok(())
 }
 
-// The command of this tag.
-fn behind(
+fn signed_get(
     reader: &mut Reader<'_>,
+    wide: bool,
+    longest: u8,
+    place: &mut LogCommand,
+) -> Result<(), TextFault>
+    ensures takes { TakesInto result place.new reader.new (naming_paths (signed_get_at wide longest reader.old)) }
+{
+    let path = reader.path(wide)?;
+    let signature = reader.signature()?;
+    *place = LogCommand::ByPath(Command::SignedGet {
+        path,
+        value: Value::Blob(Blob::none()),
+        signature,
+    });
+    match place {
+        LogCommand::ByPath(Command::SignedGet { value, .. }) => {
+            reader.value_into(longest, &path, value)
+        }
+        _ => unreachable!(),
+    }
+}
+
+fn signed_put(
+    reader: &mut Reader<'_>,
+    wide: bool,
+    longest: u8,
+    place: &mut LogCommand,
+) -> Result<(), TextFault>
+    ensures takes { TakesInto result place.new reader.new (naming_paths (signed_put_at wide longest reader.old)) }
+{
+    let path = reader.path(wide)?;
+    let signature = reader.signature()?;
+    *place = LogCommand::ByPath(Command::SignedPut {
+        path,
+        value: Value::Blob(Blob::none()),
+        signature,
+    });
+    match place {
+        LogCommand::ByPath(Command::SignedPut { value, .. }) => {
+            reader.value_into(longest, &path, value)
+        }
+        _ => unreachable!(),
+    }
+}
+
+// The command of this tag, where it is none of those of all versions.
+fn signed_behind(
+    reader: &mut Reader<'_>,
+    signed: bool,
     wide: bool,
     longest: u8,
     tag: u8,
     place: &mut LogCommand,
 ) -> Result<(), TextFault>
-    ensures takes { TakesInto result place.new reader.new (naming_paths (path_command_behind wide longest tag reader.old)) }
+    ensures takes { TakesInto result place.new reader.new (naming_paths (signed_command_behind signed wide longest tag reader.old)) }
+{
+    if !signed {
+        return Err(TextFault::Malformed);
+    }
+    match tag {
+        10 => signed_get(reader, wide, longest, place),
+        11 => signed_put(reader, wide, longest, place),
+        _ => Err(TextFault::Malformed),
+    }
+}
+
+// The command of this tag.
+fn behind(
+    reader: &mut Reader<'_>,
+    signed: bool,
+    wide: bool,
+    longest: u8,
+    tag: u8,
+    place: &mut LogCommand,
+) -> Result<(), TextFault>
+    ensures takes { TakesInto result place.new reader.new (naming_paths (path_command_behind signed wide longest tag reader.old)) }
 {
     match tag {
         1 => add_m(reader, wide, longest, place),
@@ -174,7 +242,7 @@ fn behind(
             Ok(())
         }
         9 => absent(reader, wide, place),
-        _ => Err(TextFault::Malformed),
+        _ => signed_behind(reader, signed, wide, longest, tag, place),
     }
 }
 
@@ -182,12 +250,13 @@ fn behind(
 #[tactic(auto, unfolding(crate::specs::Command::path_command_at))]
 pub(crate) fn path_command(
     reader: &mut Reader<'_>,
+    signed: bool,
     wide: bool,
     longest: u8,
     place: &mut LogCommand,
 ) -> Result<(), TextFault>
-    ensures takes { TakesInto result place.new reader.new (naming_paths (path_command_at wide longest reader.old)) }
+    ensures takes { TakesInto result place.new reader.new (naming_paths (path_command_at signed wide longest reader.old)) }
 {
     let tag = reader.byte()?;
-    behind(reader, wide, longest, tag, place)
+    behind(reader, signed, wide, longest, tag, place)
 }

@@ -2,15 +2,16 @@
 ghost use Rattle.std.specs.Prelude.{◌≡◌, ◌∷◌, [], ◌++◌, ◌≤◌};
 ghost use Rattle.arrayvec.specs.ArrayVec.{array_vec_len};
 ghost use Rattle.record_text.specs.Texts.{path_text, value_text};
+ghost use Rattle.record_text.specs.Signature.{signature_text};
 ghost use Rattle.log_codec.specs.Command.{path_command_text};
 
 use crate::command::Command;
 use crate::command_text::CommandText;
-use record_text::{Value, push_path, push_stamp, push_u16, push_value};
+use record_text::{Signature, Value, push_path, push_signature, push_stamp, push_u16, push_value};
 use tree_keys::Path;
 
-/// The most bytes of a command's text: an add of the longest data value by its parent, of paths of 128 bits.
-pub const LONGEST_PATH_COMMAND_TEXT: usize = 292;
+/// The most bytes of a command's text: a signed put of the longest data value, at a path of 128 bits.
+pub const LONGEST_PATH_COMMAND_TEXT: usize = 319;
 
 /// The text of a command: its tag, and its fields.
 pub fn write_path_command(command: &Command) -> CommandText
@@ -62,7 +63,34 @@ pub fn push_path_command(text: &mut CommandText, command: &Command)
         Command::Put { path, value } => push_with_value(text, 7, path, value),
         Command::NextEpoch => push_tag_alone(text, 8),
         Command::Absent { path, parent } => push_with_parent(text, 9, path, parent),
+        Command::SignedGet {
+            path,
+            value,
+            signature,
+        } => push_signed(text, 10, path, value, signature),
+        Command::SignedPut {
+            path,
+            value,
+            signature,
+        } => push_signed(text, 11, path, value, signature),
     }
+}
+
+// A tag, a path, its client's signature and its value.
+fn push_signed(
+    text: &mut CommandText,
+    tag: u8,
+    path: &Path,
+    value: &Value,
+    signature: &Signature,
+)
+    requires empty { text.old.items ≡ [] }
+    ensures text { text.new.items
+        ≡ tag ∷ path_text path.now ++ signature_text signature.now ++ value_text value.now }
+{
+    push_tagged(text, tag, path);
+    push_signature(text, signature);
+    push_value(text, value);
 }
 
 // A tag with nothing behind it yet.

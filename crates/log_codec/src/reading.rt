@@ -76,11 +76,12 @@ fn command_into(
 ) -> Result<(), TextFault>
     ensures takes { TakesInto result place.new reader.new (command_at (format_of header.now) reader.old) }
 {
+    let signed = header.is_signed();
     let wide = wide_of(header);
     let longest = longest_of(header);
     if header.names_paths() {
-        path_command(reader, wide, longest, place)
+        path_command(reader, signed, wide, longest, place)
     } else {
-        slot_command(reader, wide, longest, place)
+        slot_command(reader, signed, wide, longest, place)
     }
 }

@@ -1,6 +1,6 @@
-//! The nine commands of a log that names slots.
+//! The commands of a log that names slots.
 use lamport_clocks::Stamp;
-use record_text::{Blob, Value};
+use record_text::{Blob, Signature, Value};
 use tree_keys::Path;
 
 /// A command of a verifier's log, by the numbers of the slots of its cache: its own, and its parent's.
@@ -53,5 +53,17 @@ pub enum SlotCommand {
     Absent {
         path: Path,
         parent: u16,
+    },
+    /// Reads the data value in a slot, which must be this one, for a client that signed the request.
+    SignedGet {
+        slot: u16,
+        value: Blob,
+        signature: Signature,
+    },
+    /// Writes the data value in a slot for a client that signed the request.
+    SignedPut {
+        slot: u16,
+        value: Blob,
+        signature: Signature,
     },
 }

@@ -1,6 +1,6 @@
 //! Reads a command that names slots, field by field.
 ghost use Rattle.record_text.specs.Fields.{TakesInto};
-ghost use Rattle.log_codec.specs.SlotCommand.{add_m_at, evict_m_at, add_b_at, evict_b_at, evict_bm_at, get_at, put_at, absent_at, slot_command_behind, slot_command_at};
+ghost use Rattle.log_codec.specs.SlotCommand.{add_m_at, evict_m_at, add_b_at, evict_b_at, evict_bm_at, get_at, put_at, absent_at, signed_get_at, signed_put_at, signed_command_behind, slot_command_behind, slot_command_at};
 ghost use Rattle.log_codec.specs.LogCommand.{naming_slots};
 
 use crate::log_command::LogCommand;
@@ -151,15 +151,82 @@ fn absent(reader: &mut Reader<'_>, wide: bool, place: &mut LogCommand) -> Result
     Ok(())
 }
 
+fn signed_get(
+    reader: &mut Reader<'_>,
+    longest: u8,
+    place: &mut LogCommand,
+) -> Result<(), TextFault>
+    ensures takes { TakesInto result place.new reader.new (naming_slots (signed_get_at longest reader.old)) }
+{
+    let slot = reader.u16()?;
+    let signature = reader.signature()?;
+    *place = LogCommand::BySlot(SlotCommand::SignedGet {
+        slot,
+        value: Blob::none(),
+        signature,
+    });
+    match place {
+        LogCommand::BySlot(SlotCommand::SignedGet { value, .. }) => {
+            value.assign_from(&reader.blob(longest)?);
+            Ok(())
+        }
+        _ => unreachable!(),
+    }
+}
+
+fn signed_put(
+    reader: &mut Reader<'_>,
+    longest: u8,
+    place: &mut LogCommand,
+) -> Result<(), TextFault>
+    ensures takes { TakesInto result place.new reader.new (naming_slots (signed_put_at longest reader.old)) }
+{
+    let slot = reader.u16()?;
+    let signature = reader.signature()?;
+    *place = LogCommand::BySlot(SlotCommand::SignedPut {
+        slot,
+        value: Blob::none(),
+        signature,
+    });
+    match place {
+        LogCommand::BySlot(SlotCommand::SignedPut { value, .. }) => {
+            value.assign_from(&reader.blob(longest)?);
+            Ok(())
+        }
+        _ => unreachable!(),
+    }
+}
+
+// The command of this tag, where it is none of those of all versions.
+fn signed_behind(
+    reader: &mut Reader<'_>,
+    signed: bool,
+    longest: u8,
+    tag: u8,
+    place: &mut LogCommand,
+) -> Result<(), TextFault>
+    ensures takes { TakesInto result place.new reader.new (naming_slots (signed_command_behind signed longest tag reader.old)) }
+{
+    if !signed {
+        return Err(TextFault::Malformed);
+    }
+    match tag {
+        10 => signed_get(reader, longest, place),
+        11 => signed_put(reader, longest, place),
+        _ => Err(TextFault::Malformed),
+    }
+}
+
 // The command of this tag.
 fn behind(
     reader: &mut Reader<'_>,
+    signed: bool,
     wide: bool,
     longest: u8,
     tag: u8,
     place: &mut LogCommand,
 ) -> Result<(), TextFault>
-    ensures takes { TakesInto result place.new reader.new (naming_slots (slot_command_behind wide longest tag reader.old)) }
+    ensures takes { TakesInto result place.new reader.new (naming_slots (slot_command_behind signed wide longest tag reader.old)) }
 {
     match tag {
         1 => add_m(reader, wide, longest, place),
@@ -174,7 +241,7 @@ fn behind(
             Ok(())
         }
         9 => absent(reader, wide, place),
-        _ => Err(TextFault::Malformed),
+        _ => signed_behind(reader, signed, longest, tag, place),
     }
 }
 
@@ -182,12 +249,13 @@ fn behind(
 #[tactic(auto, unfolding(crate::specs::SlotCommand::slot_command_at))]
 pub(crate) fn slot_command(
     reader: &mut Reader<'_>,
+    signed: bool,
     wide: bool,
     longest: u8,
     place: &mut LogCommand,
 ) -> Result<(), TextFault>
-    ensures takes { TakesInto result place.new reader.new (naming_slots (slot_command_at wide longest reader.old)) }
+    ensures takes { TakesInto result place.new reader.new (naming_slots (slot_command_at signed wide longest reader.old)) }
 {
     let tag = reader.byte()?;
-    behind(reader, wide, longest, tag, place)
+    behind(reader, signed, wide, longest, tag, place)
 }

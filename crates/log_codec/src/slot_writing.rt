@@ -2,15 +2,18 @@
 ghost use Rattle.std.specs.Prelude.{◌≡◌, ◌∷◌, [], ◌++◌, ◌≤◌};
 ghost use Rattle.arrayvec.specs.ArrayVec.{array_vec_len};
 ghost use Rattle.record_text.specs.Texts.{path_text, value_text, blob_text};
+ghost use Rattle.record_text.specs.Signature.{signature_text};
 ghost use Rattle.log_codec.specs.SlotCommand.{slot_text, slot_command_text};
 
 use crate::command_text::CommandText;
 use crate::slot_command::SlotCommand;
-use record_text::{Blob, Value, push_blob, push_path, push_stamp, push_u16, push_value};
+use record_text::{
+    Blob, Signature, Value, push_blob, push_path, push_signature, push_stamp, push_u16, push_value,
+};
 use tree_keys::Path;
 
-/// The most bytes of a command's text: an add of the longest data value by its stamp, at a path of 128 bits.
-pub const LONGEST_SLOT_COMMAND_TEXT: usize = 287;
+/// The most bytes of a command's text: a signed put of the longest data value.
+pub const LONGEST_SLOT_COMMAND_TEXT: usize = 304;
 
 /// The text of a command: its tag, and its fields.
 pub fn write_slot_command(command: &SlotCommand) -> CommandText
@@ -64,7 +67,34 @@ pub fn push_slot_command(text: &mut CommandText, command: &SlotCommand)
         SlotCommand::Put { slot, value } => push_with_blob(text, 7, *slot, value),
         SlotCommand::NextEpoch => push_tag_alone(text, 8),
         SlotCommand::Absent { path, parent } => push_absent(text, path, *parent),
+        SlotCommand::SignedGet {
+            slot,
+            value,
+            signature,
+        } => push_signed(text, 10, *slot, value, signature),
+        SlotCommand::SignedPut {
+            slot,
+            value,
+            signature,
+        } => push_signed(text, 11, *slot, value, signature),
     }
+}
+
+// A tag, a slot, its client's signature and a data value.
+fn push_signed(
+    text: &mut CommandText,
+    tag: u8,
+    slot: u16,
+    value: &Blob,
+    signature: &Signature,
+)
+    requires empty { text.old.items ≡ [] }
+    ensures text { text.new.items
+        ≡ tag ∷ slot_text slot ++ signature_text signature.now ++ blob_text value.now }
+{
+    push_tagged(text, tag, slot);
+    push_signature(text, signature);
+    push_blob(text, &value.by_ref());
 }
 
 // A tag with nothing behind it yet.

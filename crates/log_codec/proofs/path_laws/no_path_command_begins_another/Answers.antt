@@ -4,4 +4,4 @@ use Rattle.log_codec.proofs.GrammarLaws.{one_of}
 use Rattle.log_codec.proofs.path_laws.no_path_command_begins_another.Goals as goal
 
 pub returns : goal.returns
-returns c = record { one = λ wide longest a b x y in_a is_a in_b is_b. one_of (path_grammar wide longest) (path_exact wide longest) a b x y (in_a, is_a) (in_b, is_b) }
+returns c = record { one = λ signed wide longest a b x y in_a is_a in_b is_b. one_of (path_grammar signed wide longest) (path_exact signed wide longest) a b x y (in_a, is_a) (in_b, is_b) }

@@ -7,5 +7,5 @@ pub returns : goal.returns
 returns c = record {
   more = keeps_on-path_command;
   shorter = path_command_shorter;
-  front = λ wide longest command front byte back inside is. front_of (path_grammar wide longest) (path_exact wide longest) command front byte back (inside, is);
+  front = λ signed wide longest command front byte back inside is. front_of (path_grammar signed wide longest) (path_exact signed wide longest) command front byte back (inside, is);
 }

@@ -6,5 +6,5 @@ pub returns : goal.returns
 returns c = record {
   more = keeps_on-slot_command;
   shorter = slot_command_shorter;
-  front = λ wide longest command front byte back inside is. front_of (slot_grammar wide longest) (slot_exact wide longest) command front byte back (inside, is);
+  front = λ signed wide longest command front byte back inside is. front_of (slot_grammar signed wide longest) (slot_exact signed wide longest) command front byte back (inside, is);
 }
