@@ -7,7 +7,7 @@ use Rattle.record_text.specs.Reading.{path_at, value_at, stamp_at, u16_at}
 use Rattle.record_text.proofs.KeepsOnLaws.{keeps_on-nothing, keeps_on-then, keeps_on-path, keeps_on-value, keeps_on-stamp, keeps_on-u16}
 use Rattle.record_text.proofs.SignatureLaws.{keeps_on-signature}
 use Rattle.log_codec.specs.declared.command.Command.{Command}
-use Rattle.log_codec.specs.declared.command.Command.TheVariants.{AddM, EvictM, AddB, EvictB, EvictBM, Get, Put, NextEpoch, Absent, SignedGet, SignedPut}
+use Rattle.log_codec.specs.declared.command.Command.TheVariants.{AddM, EvictM, AddB, EvictB, EvictBM, Get, Put, NextEpoch, Absent}
 use Rattle.log_codec.specs.Command.{add_m_at, evict_m_at, add_b_at, evict_b_at, evict_bm_at, get_at, put_at, absent_at, signed_get_at, signed_put_at, signed_command_behind, path_command_behind, path_command_at}
 use Rattle.log_codec.proofs.StepLaws.{two_at, keeps_on-if, keeps_on-malformed, keeps_on-two, keeps_on-three, keeps_on-four}
 use Rattle.log_codec.proofs.GrammarLaws.{IsExact, keeps_on-tagged, tagged_shorter}

@@ -18,7 +18,7 @@ use Rattle.record_text.specs.Fields.{Parsed, field, ranged}
 use Rattle.record_text.specs.Reading.{first_byte, byte_at, run_at, path_in, path_at, flag_in, count_in, blob_behind, blob_at, pointer_tag_in, path_below_in, path_below_at, pointer_behind, pointer_at, node_at, value_by, value_at, u16_at, u32_at, u64_at, stamp_at}
 use Rattle.record_text.proofs.FieldLaws.{field_ok, Ok-is}
 use Rattle.log_codec.specs.declared.command.Command.{Command}
-use Rattle.log_codec.specs.declared.command.Command.TheVariants.{AddM, EvictM, AddB, EvictB, EvictBM, Get, Put, NextEpoch, Absent, SignedGet, SignedPut}
+use Rattle.log_codec.specs.declared.command.Command.TheVariants.{AddM, EvictM, AddB, EvictB, EvictBM, Get, Put, NextEpoch, Absent}
 use Rattle.log_codec.specs.Command.{add_m_at, evict_m_at, add_b_at, evict_b_at, evict_bm_at, get_at, put_at, absent_at, signed_get_at, signed_put_at, signed_command_behind, path_command_behind, path_command_at, path_command_text, IsPathCommand, IsCommandIn}
 use Rattle.log_codec.specs.Lengths.{longest_path_text, longest_pointer_text, longest_blob_text, longest_value_text, longest_signature_text, longest_signing, longest_path_command_text}
 use Rattle.log_codec.proofs.CommandLaws.{path_grammar, signed_get, signed_put}

@@ -69,7 +69,7 @@ evict_bm_spells signed wide longest =
     Spells-u16 (slot_grammar signed wide longest) (5 ∷ []) (λ slot left. two_at (EvictBM slot) u16_at (λ parent. stamp_at) left) (λ slot small.
     Spells-u16 (slot_grammar signed wide longest) (5 ∷ slot_text slot) (λ parent left. then_at (stamp_at left) (λ stamp rest. Ok (EvictBM slot parent stamp, rest))) (λ parent within.
     Spells-stamp (slot_grammar signed wide longest) (5 ∷ slot_text slot ++ slot_text parent) (λ stamp rest. Ok (EvictBM slot parent stamp, rest)) (λ stamp fits.
-    Spells-done (slot_grammar signed wide longest) _ (EvictBM slot parent stamp) refl (refl, (small, within, fits)))))
+    Spells-done (slot_grammar signed wide longest) _ (EvictBM slot parent stamp) refl (tt, (small, within, fits)))))
 
 get_spells : (signed wide : Bool) (longest : ℕ) → Spells (slot_grammar signed wide longest) (6 ∷ []) (λ bytes. get_at longest bytes)
 get_spells signed wide longest =

@@ -77,13 +77,7 @@ pub fn push_path_command(text: &mut CommandText, command: &Command)
 }
 
 // A tag, a path, its client's signature and its value.
-fn push_signed(
-    text: &mut CommandText,
-    tag: u8,
-    path: &Path,
-    value: &Value,
-    signature: &Signature,
-)
+fn push_signed(text: &mut CommandText, tag: u8, path: &Path, value: &Value, signature: &Signature)
     requires empty { text.old.items ≡ [] }
     ensures text { text.new.items
         ≡ tag ∷ path_text path.now ++ signature_text signature.now ++ value_text value.now }

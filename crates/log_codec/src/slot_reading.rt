@@ -151,11 +151,7 @@ fn absent(reader: &mut Reader<'_>, wide: bool, place: &mut LogCommand) -> Result
     Ok(())
 }
 
-fn signed_get(
-    reader: &mut Reader<'_>,
-    longest: u8,
-    place: &mut LogCommand,
-) -> Result<(), TextFault>
+fn signed_get(reader: &mut Reader<'_>, longest: u8, place: &mut LogCommand) -> Result<(), TextFault>
     ensures takes { TakesInto result place.new reader.new (naming_slots (signed_get_at longest reader.old)) }
 {
     let slot = reader.u16()?;
@@ -174,11 +170,7 @@ fn signed_get(
     }
 }
 
-fn signed_put(
-    reader: &mut Reader<'_>,
-    longest: u8,
-    place: &mut LogCommand,
-) -> Result<(), TextFault>
+fn signed_put(reader: &mut Reader<'_>, longest: u8, place: &mut LogCommand) -> Result<(), TextFault>
     ensures takes { TakesInto result place.new reader.new (naming_slots (signed_put_at longest reader.old)) }
 {
     let slot = reader.u16()?;

@@ -81,13 +81,7 @@ pub fn push_slot_command(text: &mut CommandText, command: &SlotCommand)
 }
 
 // A tag, a slot, its client's signature and a data value.
-fn push_signed(
-    text: &mut CommandText,
-    tag: u8,
-    slot: u16,
-    value: &Blob,
-    signature: &Signature,
-)
+fn push_signed(text: &mut CommandText, tag: u8, slot: u16, value: &Blob, signature: &Signature)
     requires empty { text.old.items ≡ [] }
     ensures text { text.new.items
         ≡ tag ∷ slot_text slot ++ signature_text signature.now ++ blob_text value.now }
