@@ -14,7 +14,6 @@ const REQUEST: u8 = 5;
 pub const LONGEST_REQUEST_TEXT: usize = 320;
 
 /// The text of a request that this client gives this number, in a bundle whose keys have 128 bits or 64.
-#[tactic(auto, unfolding(crate::specs::Texts::request_text))]
 pub fn request_text(
     wide: bool,
     client: u32,
@@ -23,13 +22,29 @@ pub fn request_text(
 ) -> ArrayVec<u8, LONGEST_REQUEST_TEXT>
     ensures text { result.items ≡ request_text wide client number request.now }
 {
+    let value = request.value.by_ref();
+    spelled(wide, client, number, request.put, request.key, &value)
+}
+
+// The text of a request whose parts stand apart.
+#[tactic(auto, unfolding(crate::specs::Texts::request_text))]
+pub(crate) fn spelled(
+    wide: bool,
+    client: u32,
+    number: u64,
+    put: bool,
+    key: u128,
+    value: &BlobRef,
+) -> ArrayVec<u8, LONGEST_REQUEST_TEXT>
+    ensures text { result.items ≡ request_text wide client number (record { put = put; key = key; value = value.now }) }
+{
     let mut text = ArrayVec::new();
     text.push(REQUEST);
     push_u32(&mut text, client);
     push_u64(&mut text, number);
-    text.push(kind_tag(request.put));
-    push_key(&mut text, wide, request.key);
-    push_blob(&mut text, &value_put(request));
+    text.push(kind_tag(put));
+    push_key(&mut text, wide, key);
+    push_blob(&mut text, &value_put(put, value));
     text
 }
 
@@ -48,11 +63,11 @@ pub fn request_tag<D: Digests>(
 }
 
 // What a request puts: a get puts nothing.
-fn value_put(request: &Request) -> BlobRef<'_>
-    ensures value { result ≡ put_value request.now.put request.now.value }
+fn value_put<'a>(put: bool, value: &BlobRef<'a>) -> BlobRef<'a>
+    ensures value { result ≡ put_value put value.now }
 {
-    if request.put {
-        request.value.by_ref()
+    if put {
+        BlobRef::new(value.bytes())
     } else {
         BlobRef::new(None)
     }

@@ -3,6 +3,7 @@ ghost use Rattle.std.specs.Prelude.{◌≡◌, ◌≤◌, length, Option, IfSome
 ghost use Rattle.std.specs.Option.{option_map};
 
 use crate::operation::Operation;
+use crate::signature::Signer;
 use crate::value::{Blob, LONGEST_BLOB};
 use lamport_clocks::Stamp;
 use std::marker::Model;
@@ -61,6 +62,7 @@ pub struct OperationRef<'a> {
     wide: bool,
     key: u128,
     value: BlobRef<'a>,
+    signer: Option<Signer>,
 }
 
 impl<'a> Model for OperationRef<'a> {
@@ -68,7 +70,7 @@ impl<'a> Model for OperationRef<'a> {
 
     ghost Value = { Operation };
 
-    ghost view = { λ o. record { stamp = o.stamp; verifier = o.verifier; index = o.index; put = o.put; wide = o.wide; key = o.key; value = o.value } };
+    ghost view = { λ o. record { stamp = o.stamp; verifier = o.verifier; index = o.index; put = o.put; wide = o.wide; key = o.key; value = o.value; signer = o.signer } };
 }
 
 impl<'a> OperationRef<'a> {
@@ -81,8 +83,9 @@ impl<'a> OperationRef<'a> {
         wide: bool,
         key: u128,
         value: BlobRef<'a>,
+        signer: Option<Signer>,
     ) -> Self
-        ensures value { result ≡ record { stamp = stamp; verifier = verifier; index = index; put = put; wide = wide; key = key; value = value.entry } }
+        ensures value { result ≡ record { stamp = stamp; verifier = verifier; index = index; put = put; wide = wide; key = key; value = value.entry; signer = signer } }
     {
         OperationRef {
             stamp,
@@ -92,6 +95,7 @@ impl<'a> OperationRef<'a> {
             wide,
             key,
             value,
+            signer,
         }
     }
 
@@ -142,6 +146,13 @@ impl<'a> OperationRef<'a> {
         &self.value
     }
 
+    /// Who signed the request, where requests are signed.
+    pub fn signer(&self) -> Option<Signer>
+        ensures value { result ≡ self.now.signer }
+    {
+        self.signer
+    }
+
     /// The same with a value of its own.
     pub fn to_operation(&self) -> Operation
         ensures value { result ≡ self.now }
@@ -154,6 +165,7 @@ impl<'a> OperationRef<'a> {
             self.wide,
             self.key,
             self.value.to_blob(),
+            self.signer,
         )
     }
 }

@@ -39,7 +39,7 @@ pub use reader::{Reader, TextFault};
 pub use reading::{read_element, read_path, read_value};
 pub use refusal::Refusal;
 pub use request::Request;
-pub use signature::{SIGNATURE_TEXT, Signature, push_signature};
+pub use signature::{SIGNATURE_TEXT, Signature, Signer, push_signature};
 pub use value::{Blob, LONGEST_BLOB, Node, Pointer, Value, initial};
 pub use writing::{
     LONGEST_ELEMENT_TEXT, LONGEST_PATH_TEXT, LONGEST_VALUE_TEXT, element_text, push_blob,

@@ -2,6 +2,7 @@
 ghost use Rattle.std.specs.Prelude.{◌≡◌};
 
 use crate::blob_ref::OperationRef;
+use crate::signature::Signer;
 use crate::value::Blob;
 use lamport_clocks::Stamp;
 
@@ -20,6 +21,8 @@ pub struct Operation {
     pub key: u128,
     /// What was got or put.
     pub value: Blob,
+    /// Who signed the request, where requests are signed.
+    pub signer: Option<Signer>,
 }
 
 impl Operation {
@@ -32,8 +35,9 @@ impl Operation {
         wide: bool,
         key: u128,
         value: Blob,
+        signer: Option<Signer>,
     ) -> Self
-        ensures value { result ≡ record { stamp = stamp; verifier = verifier; index = index; put = put; wide = wide; key = key; value = value } }
+        ensures value { result ≡ record { stamp = stamp; verifier = verifier; index = index; put = put; wide = wide; key = key; value = value; signer = signer } }
     {
         Operation {
             stamp,
@@ -43,6 +47,7 @@ impl Operation {
             wide,
             key,
             value,
+            signer,
         }
     }
 
@@ -58,6 +63,7 @@ impl Operation {
             self.wide,
             self.key,
             self.value.by_ref(),
+            self.signer,
         )
     }
 

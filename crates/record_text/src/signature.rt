@@ -1,7 +1,7 @@
 //! Signatures: what a client puts to a request of its own.
 ghost use Rattle.std.specs.Prelude.{◌≡◌, ◌+◌, ◌≤◌, ◌++◌};
 ghost use Rattle.arrayvec.specs.ArrayVec.{array_vec_len};
-ghost use Rattle.record_text.specs.Signature.{signature_text};
+ghost use Rattle.record_text.specs.Signature.{signature_text, signer_of};
 
 use crate::writing::{push_all, push_u32, push_u64};
 use arrayvec::ArrayVec;
@@ -18,6 +18,25 @@ pub struct Signature {
     pub number: u64,
     /// The tag of the request's text under the client's key.
     pub tag: [u8; 32],
+}
+
+/// Who signed a request: a client, and the number that it gave the request.
+#[derive(Clone, Copy, Debug, PartialEq, Eq)]
+pub struct Signer {
+    pub client: u32,
+    pub number: u64,
+}
+
+impl Signature {
+    /// Who signed it.
+    pub fn signer(&self) -> Signer
+        ensures value { result ≡ signer_of self.now }
+    {
+        Signer {
+            client: self.client,
+            number: self.number,
+        }
+    }
 }
 
 /// Appends the text of a signature, of 44 bytes.
