@@ -14,7 +14,7 @@ use Rattle.record_text.specs.Value.{node_side, initial_value}
 use Rattle.record_text.specs.Texts.{value_text}
 use Rattle.record_text.specs.Same.{same_value}
 use Rattle.log_codec.specs.declared.command.Command.{Command}
-use Rattle.log_codec.specs.declared.command.Command.TheVariants.{AddM, EvictM, AddB, EvictB, EvictBM, Get, Put, NextEpoch, Absent}
+use Rattle.log_codec.specs.declared.command.Command.TheVariants.{AddM, EvictM, AddB, EvictB, EvictBM, Get, Put, NextEpoch, Absent, SignedGet, SignedPut}
 use Rattle.merkle_records.specs.Merkle.{Digest, case_of}
 use Rattle.merkle_records.specs.declared.cases.AddCase.{AddCase}
 use Rattle.merkle_records.specs.declared.cases.AddCase.TheVariants as cases
@@ -27,7 +27,8 @@ use Rattle.verifier_cache.proofs.EntriesLaws.{absent-changed}
 use Rattle.verifier_commands.specs.declared.state.State.{State}
 use Rattle.verifier_commands.specs.State.{with_entries}
 use Rattle.verifier_commands.specs.Changes.{Parent, Family, above, set_kid_on, has_digest, is_deferred, add_by, add_under, evict_under, defer_under, absent_under, is_by_stamp}
-use Rattle.verifier_commands.specs.Transition.{Rules, Step, is_root, is_full, timed, add_m, evict_m, add_b, evict_b, evict_bm, get, put, absent, next_epoch, transition}
+use Rattle.verifier_commands.specs.Outcome.{blob_of}
+use Rattle.verifier_commands.specs.Transition.{Ask, unasked, asked, Rules, asks, Step, is_root, is_full, timed, add_m, evict_m, add_b, evict_b, evict_bm, get, put, absent, next_epoch, transition}
 use Rattle.verifier_commands.proofs.LeavesLemmas.{Leaves, test-leaves, need-leaves}
 use Rattle.verifier_commands.proofs.AlikeLemmas.{alike-push, alike-without, alike-replaced}
 
@@ -189,24 +190,26 @@ module _ (state : State) (entries : List Entry) (alike : AreAlike state.cache.en
         },
       ))))))
 
-  get-alike : (path : List Bool) (value : Value) → AreLikeSteps (get state path value) (get (with_entries state entries) path value)
-  get-alike path value =
+  get-alike : (path : List Bool) (value : Value) (ask : Ask) → AreLikeSteps (get state path value ask) (get (with_entries state entries) path value ask)
+  get-alike path value ask =
       need-alike (entry_of path state.cache.entries) (entry_of path entries) refusals.NotCached _ _ (alike.found path) (λ entry there.
       test-alike (not (is_data path)) (not (is_data path)) refusals.NotData _ _ refl (λ data_path.
-      test-alike (not (same_value entry.value value)) (not (same_value entry.value value)) refusals.WrongValue _ _ refl (λ right.
-      (refl, record { entries = entries; alike = alike; same = refl }))))
+      and_then-alike (asked ask false path (blob_of value)) _ _ (λ right made.
+      test-alike (not (same_value entry.value value)) (not (same_value entry.value value)) refusals.WrongValue _ _ refl (λ same.
+      (refl, record { entries = entries; alike = alike; same = refl })))))
 
-  put-alike : (path : List Bool) (value : Value) → AreLikeSteps (put state path value) (put (with_entries state entries) path value)
-  put-alike path value =
+  put-alike : (path : List Bool) (value : Value) (ask : Ask) → AreLikeSteps (put state path value ask) (put (with_entries state entries) path value ask)
+  put-alike path value ask =
       need-alike (entry_of path state.cache.entries) (entry_of path entries) refusals.NotCached _ _ (alike.found path) (λ entry there.
-      test-alike (not (is_data path)) (not (is_data path)) refusals.NotData _ _ refl (λ data_path. (
+      test-alike (not (is_data path)) (not (is_data path)) refusals.NotData _ _ refl (λ data_path.
+      and_then-alike (asked ask true path (blob_of value)) _ _ (λ right made. (
         refl,
         record {
           entries = replaced (record entry { value = value }) entries;
           alike = alike-replaced (record entry { value = value }) _ _ alike;
           same = refl;
         },
-      )))
+      ))))
 
   absent-alike : (path parent : List Bool) → AreLikeSteps (absent state path parent) (absent (with_entries state entries) path parent)
   absent-alike path parent =
@@ -224,7 +227,9 @@ module _ (state : State) (entries : List Entry) (alike : AreAlike state.cache.en
   transition-alike rules (AddB path value stamp verifier) = add_b-alike rules.verifiers path value stamp verifier
   transition-alike rules (EvictB path stamp) = evict_b-alike rules.number path stamp
   transition-alike rules (EvictBM path parent stamp) = evict_bm-alike rules.number path parent stamp
-  transition-alike rules (Get path value) = get-alike path value
-  transition-alike rules (Put path value) = put-alike path value
+  transition-alike rules (Get path value) = get-alike path value unasked
+  transition-alike rules (Put path value) = put-alike path value unasked
   transition-alike rules NextEpoch = next_epoch-alike
   transition-alike rules (Absent path parent) = absent-alike path parent
+  transition-alike rules (SignedGet path value signature) = get-alike path value (asks rules signature)
+  transition-alike rules (SignedPut path value signature) = put-alike path value (asks rules signature)

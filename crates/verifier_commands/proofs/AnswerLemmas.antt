@@ -1,69 +1,71 @@
 -- What a step of a verifier's state hands up tells the verifier's step: its answer and its sums are those of the outcome.
-use Rattle.std.proofs.Common.{◌≡◌, ◌+◌, Some, None, Result, Ok, Err, refl, sym, ◌∙◌, ap, subst}
+use Rattle.std.proofs.Common.{◌≡◌, ℕ, ◌+◌, List, Option, Some, None, Result, Ok, Err, refl, sym, ◌∙◌, ap, subst}
 use Rattle.std.proofs.lemmas.Result.{IfOk-at_ok}
 use Rattle.base_words.specs.Follows.{Follows}
 use Rattle.lamport_clocks.specs.Reading.{Reading}
 use Rattle.lamport_clocks.specs.declared.stamp.Stamp.{Stamp}
 use Rattle.record_hash.specs.Functions.{DigestFunctions}
 use Rattle.record_text.specs.declared.refusal.Refusal.{Refusal}
+use Rattle.record_text.specs.declared.signature.Signer.{Signer}
 use Rattle.log_codec.specs.declared.log_command.LogCommand.{LogCommand}
 use Rattle.merkle_records.specs.Scheme.{Scheme, scheme_of}
 use Rattle.verifier_commands.specs.declared.answer.Answer.{Answer}
 use Rattle.verifier_commands.specs.declared.effect.Effect.{Effect}
 use Rattle.verifier_commands.specs.declared.sums.Sums.{Sums}
 use Rattle.verifier_commands.specs.Outcome.{Outcome, AddM, EvictM, AddB, EvictB, EvictBM, Get, Put, NextEpoch, outcome_of, told}
-use Rattle.verifier_commands.specs.VerifierState.{VerifierState, VerifierStep, perform}
-use Rattle.verifier_commands.specs.Machine.{Machine, effect_of, machine_after, concluded, stepped, rules_for}
+use Rattle.verifier_commands.specs.VerifierState.{VerifierState, VerifierStep, signer_in, perform}
+use Rattle.verifier_commands.specs.Machine.{Machine, effect_of, numbers_after, machine_after, concluded, stepped, rules_for}
 use Rattle.verifier_commands.specs.Answer.{answer_of, answered, sums_by, effect_by}
 
--- the verifier behind a command that handed this up and left this state
-abbrev machine_by : Machine → Answer → VerifierState → Machine
-machine_by machine answer state = record machine {
+-- the verifier behind a command that was signed so, handed this up and left this state
+abbrev machine_by : Machine → Option Signer → Answer → VerifierState → Machine
+machine_by machine signer answer state = record machine {
   state = state;
   sums = sums_by machine.state.clock.at.epoch machine.sums answer;
+  numbers = numbers_after machine.header.verifiers machine.numbers signer;
   accepted = machine.accepted + 1;
 }
 
-effect-by : (scheme : Scheme) (machine : Machine) (at : Stamp) (outcome : Outcome)
-    → effect_of machine at outcome ≡ effect_by machine at (answer_of scheme.lanes outcome)
-effect-by scheme machine at AddM = refl
-effect-by scheme machine at EvictM = refl
-effect-by scheme machine at (AddB element) = refl
-effect-by scheme machine at (EvictB element) = refl
-effect-by scheme machine at (EvictBM element) = refl
-effect-by scheme machine at (Get wide key value) = refl
-effect-by scheme machine at (Put wide key value) = refl
-effect-by scheme machine at (NextEpoch None) = refl
-effect-by scheme machine at (NextEpoch (Some epoch)) = refl
+effect-by : (scheme : Scheme) (machine : Machine) (signer : Option Signer) (at : Stamp) (outcome : Outcome)
+    → effect_of machine signer at outcome ≡ effect_by machine signer at (answer_of scheme.lanes outcome)
+effect-by scheme machine signer at AddM = refl
+effect-by scheme machine signer at EvictM = refl
+effect-by scheme machine signer at (AddB element) = refl
+effect-by scheme machine signer at (EvictB element) = refl
+effect-by scheme machine signer at (EvictBM element) = refl
+effect-by scheme machine signer at (Get wide key value) = refl
+effect-by scheme machine signer at (Put wide key value) = refl
+effect-by scheme machine signer at (NextEpoch None) = refl
+effect-by scheme machine signer at (NextEpoch (Some epoch)) = refl
 
-machine-by : (scheme : Scheme) (machine : Machine) (outcome : Outcome) (state : VerifierState)
-    → machine_after scheme machine outcome state ≡ machine_by machine (answer_of scheme.lanes outcome) state
-machine-by scheme machine AddM state = refl
-machine-by scheme machine EvictM state = refl
-machine-by scheme machine (AddB element) state = refl
-machine-by scheme machine (EvictB element) state = refl
-machine-by scheme machine (EvictBM element) state = refl
-machine-by scheme machine (Get wide key value) state = refl
-machine-by scheme machine (Put wide key value) state = refl
-machine-by scheme machine (NextEpoch sealed) state = refl
+machine-by : (scheme : Scheme) (machine : Machine) (signer : Option Signer) (outcome : Outcome) (state : VerifierState)
+    → machine_after scheme machine signer outcome state ≡ machine_by machine signer (answer_of scheme.lanes outcome) state
+machine-by scheme machine signer AddM state = refl
+machine-by scheme machine signer EvictM state = refl
+machine-by scheme machine signer (AddB element) state = refl
+machine-by scheme machine signer (EvictB element) state = refl
+machine-by scheme machine signer (EvictBM element) state = refl
+machine-by scheme machine signer (Get wide key value) state = refl
+machine-by scheme machine signer (Put wide key value) state = refl
+machine-by scheme machine signer (NextEpoch sealed) state = refl
 
-concluded_ok : (scheme : Scheme) (machine : Machine) (step : VerifierStep) (answer : Answer) (state : VerifierState) → answered scheme.lanes step ≡ Ok (answer, state)
-    → concluded scheme machine (told step) ≡ Ok (effect_by machine state.clock.at answer, machine_by machine answer state)
-concluded_ok scheme machine (Ok done) answer state is =
+concluded_ok : (scheme : Scheme) (machine : Machine) (signer : Option Signer) (step : VerifierStep) (answer : Answer) (state : VerifierState) → answered scheme.lanes step ≡ Ok (answer, state)
+    → concluded scheme machine signer (told step) ≡ Ok (effect_by machine signer state.clock.at answer, machine_by machine signer answer state)
+concluded_ok scheme machine signer (Ok done) answer state is =
     let outcome : Outcome = outcome_of done.0 in
-    IfOk-at_ok (λ (made : Answer × VerifierState). concluded scheme machine (told (Ok done)) ≡ Ok (effect_by machine made.1.clock.at made.0, machine_by machine made.0 made.1)) is
-    (ap (λ (effect : Effect). let answers : Result (Effect × Machine) Refusal = Ok (effect, machine_after scheme machine outcome done.1) in answers) (effect-by scheme machine done.1.clock.at outcome)
-    ∙ ap (λ (after : Machine). let answers : Result (Effect × Machine) Refusal = Ok (effect_by machine done.1.clock.at (answer_of scheme.lanes outcome), after) in answers) (machine-by scheme machine outcome done.1))
-concluded_ok scheme machine (Err refusal) answer state is = absurd (cc)
+    IfOk-at_ok (λ (made : Answer × VerifierState). concluded scheme machine signer (told (Ok done)) ≡ Ok (effect_by machine signer made.1.clock.at made.0, machine_by machine signer made.0 made.1)) is
+    (ap (λ (effect : Effect). let answers : Result (Effect × Machine) Refusal = Ok (effect, machine_after scheme machine signer outcome done.1) in answers) (effect-by scheme machine signer done.1.clock.at outcome)
+    ∙ ap (λ (after : Machine). let answers : Result (Effect × Machine) Refusal = Ok (effect_by machine signer done.1.clock.at (answer_of scheme.lanes outcome), after) in answers) (machine-by scheme machine signer outcome done.1))
+concluded_ok scheme machine signer (Err refusal) answer state is = absurd (cc)
 
 -- A command that was accepted and handed this up: what the verifier answers, and the verifier behind it.
 stepped_ok : (scheme : Scheme) (machine : Machine) (command : LogCommand) (answer : Answer) (state : VerifierState) → answered scheme.lanes (perform (rules_for scheme machine) machine.state command) ≡ Ok (answer, state)
-    → stepped scheme machine command ≡ Ok (effect_by machine state.clock.at answer, machine_by machine answer state)
-stepped_ok scheme machine command answer state is = concluded_ok scheme machine (perform (rules_for scheme machine) machine.state command) answer state is
+    → stepped scheme machine command ≡ Ok (effect_by machine (signer_in command) state.clock.at answer, machine_by machine (signer_in command) answer state)
+stepped_ok scheme machine command answer state is = concluded_ok scheme machine (signer_in command) (perform (rules_for scheme machine) machine.state command) answer state is
 
-concluded_err : (scheme : Scheme) (machine : Machine) (step : VerifierStep) (refusal : Refusal) → answered scheme.lanes step ≡ Err refusal → concluded scheme machine (told step) ≡ Err refusal
-concluded_err scheme machine (Ok done) refusal is = absurd (cc)
-concluded_err scheme machine (Err other) refusal is = ap refused is
+concluded_err : (scheme : Scheme) (machine : Machine) (signer : Option Signer) (step : VerifierStep) (refusal : Refusal) → answered scheme.lanes step ≡ Err refusal → concluded scheme machine signer (told step) ≡ Err refusal
+concluded_err scheme machine signer (Ok done) refusal is = absurd (cc)
+concluded_err scheme machine signer (Err other) refusal is = ap refused is
   where
     refused : Result (Answer × VerifierState) Refusal → Result (Effect × Machine) Refusal
     refused (Ok done) = Err other
@@ -72,7 +74,7 @@ concluded_err scheme machine (Err other) refusal is = ap refused is
 -- A command that was refused.
 stepped_err : (scheme : Scheme) (machine : Machine) (command : LogCommand) (refusal : Refusal) → answered scheme.lanes (perform (rules_for scheme machine) machine.state command) ≡ Err refusal
     → stepped scheme machine command ≡ Err refusal
-stepped_err scheme machine command refusal is = concluded_err scheme machine (perform (rules_for scheme machine) machine.state command) refusal is
+stepped_err scheme machine command refusal is = concluded_err scheme machine (signer_in command) (perform (rules_for scheme machine) machine.state command) refusal is
 
 -- what a state's step handed up where it refused, as the verifier's step
 pub refused_step : (functions : DigestFunctions) (whole machine : Machine) (command : LogCommand) (result : Result Answer Refusal) (refusal : Refusal) (new : VerifierState)
@@ -91,23 +93,29 @@ refused_step functions whole machine command result refusal new view is follows 
 
 -- and where it was taken
 pub taken_step : (functions : DigestFunctions) (whole machine : Machine) (command : LogCommand) (result : Result Answer Refusal) (answer : Answer) (new : VerifierState)
-    (before now : Reading) (at : Stamp) (effect : Effect) (sums : Sums)
+    (before now : Reading) (at : Stamp) (effect : Effect) (sums : Sums) (signer : Option Signer) (numbers : List ℕ)
     → machine ≡ whole → result ≡ Ok answer
     → Follows result machine.state new (answered functions.lanes (perform (rules_for (scheme_of functions machine.header) machine) machine.state command))
-    → now ≡ new.clock → at ≡ now.at → effect ≡ effect_by machine at answer
-    → before ≡ machine.state.clock → sums ≡ sums_by before.at.epoch machine.sums answer
-    → stepped (scheme_of functions whole.header) whole command ≡ Ok (effect, record machine { state = new; sums = sums; accepted = machine.accepted + 1 })
-taken_step functions whole machine command result answer new before now at effect sums view is follows clock stamp answers earlier summed =
+    → now ≡ new.clock → at ≡ now.at → signer ≡ signer_in command → effect ≡ effect_by machine signer at answer
+    → before ≡ machine.state.clock → sums ≡ sums_by before.at.epoch machine.sums answer → numbers ≡ numbers_after machine.header.verifiers machine.numbers signer
+    → stepped (scheme_of functions whole.header) whole command
+        ≡ Ok (effect, record machine { state = new; sums = sums; numbers = numbers; accepted = machine.accepted + 1 })
+taken_step functions whole machine command result answer new before now at effect sums signer numbers view is follows clock stamp signed answers earlier summed noted =
     let taken : answered functions.lanes (perform (rules_for (scheme_of functions machine.header) machine) machine.state command) ≡ Ok (answer, new) =
     subst (λ (r : Result Answer Refusal). Follows r machine.state new (answered functions.lanes (perform (rules_for (scheme_of functions machine.header) machine) machine.state command))) is follows in
-    let effects : effect_by machine new.clock.at answer ≡ effect =
-    sym (answers ∙ ap (λ (t : Stamp). effect_by machine t answer) (stamp ∙ ap (λ (c : Reading). c.at) clock)) in
+    let effects : effect_by machine (signer_in command) new.clock.at answer ≡ effect =
+    sym (answers
+    ∙ (ap (λ (o : Option Signer). effect_by machine o at answer) signed
+    ∙ ap (λ (t : Stamp). effect_by machine (signer_in command) t answer) (stamp ∙ ap (λ (c : Reading). c.at) clock))) in
     let sum : sums_by machine.state.clock.at.epoch machine.sums answer ≡ sums =
     sym (summed ∙ ap (λ (c : Reading). sums_by c.at.epoch machine.sums answer) earlier) in
-    subst (λ (m : Machine). stepped (scheme_of functions m.header) m command ≡ Ok (effect, behind machine sums)) view
+    let last : numbers_after machine.header.verifiers machine.numbers (signer_in command) ≡ numbers =
+    sym (noted ∙ ap (λ (o : Option Signer). numbers_after machine.header.verifiers machine.numbers o) signed) in
+    subst (λ (m : Machine). stepped (scheme_of functions m.header) m command ≡ Ok (effect, behind machine sums numbers)) view
     (stepped_ok (scheme_of functions machine.header) machine command answer new taken
-    ∙ (ap (λ (e : Effect). let step : Result (Effect × Machine) Refusal = Ok (e, machine_by machine answer new) in step) effects
-    ∙ ap (λ (t : Sums). let step : Result (Effect × Machine) Refusal = Ok (effect, behind machine t) in step) sum))
+    ∙ (ap (λ (e : Effect). let step : Result (Effect × Machine) Refusal = Ok (e, machine_by machine (signer_in command) answer new) in step) effects
+    ∙ (ap (λ (t : Sums). let step : Result (Effect × Machine) Refusal = Ok (effect, behind machine t (numbers_after machine.header.verifiers machine.numbers (signer_in command))) in step) sum
+    ∙ ap (λ (n : List ℕ). let step : Result (Effect × Machine) Refusal = Ok (effect, behind machine sums n) in step) last)))
   where
-    behind : Machine → Sums → Machine
-    behind machine sums = record machine { state = new; sums = sums; accepted = machine.accepted + 1 }
+    behind : Machine → Sums → List ℕ → Machine
+    behind machine sums numbers = record machine { state = new; sums = sums; numbers = numbers; accepted = machine.accepted + 1 }

@@ -1,12 +1,15 @@
 -- A command on a verifier, and on one that is the same but for the order in which its cache lists entries by path: it is refused for the
 -- same, or answers the same and leaves two such verifiers.
-use Rattle.std.proofs.Common.{◌≡◌, ℕ, Bool, true, false, [], ◌∷◌, Some, None, Ok, Err, if◌then◌else◌, refl, sym, ◌∙◌, ap, subst}
+use Rattle.std.proofs.Common.{◌≡◌, ℕ, ◌&&◌, Bool, true, false, [], ◌∷◌, Option, Some, None, Ok, Err, if◌then◌else◌, refl, sym, ◌∙◌, ap, subst}
 use Rattle.std.specs.Prelude.{◌==◌}
 use Rattle.lamport_clocks.specs.declared.header.Header.{Header}
 use Rattle.lamport_clocks.specs.Header.{names_paths}
 use Rattle.lamport_clocks.specs.Reading.{Reading}
 use Rattle.lamport_clocks.specs.declared.stamp.Stamp.{Stamp}
+use Rattle.base_words.specs.Steps.{test}
 use Rattle.record_text.specs.Tree.{wide_of}
+use Rattle.record_text.specs.declared.refusal.Refusal.{Refusal}
+use Rattle.record_text.specs.declared.signature.Signer.{Signer}
 use Rattle.log_codec.specs.declared.log_command.LogCommand.{LogCommand}
 use Rattle.log_codec.specs.declared.log_command.LogCommand.TheVariants.{ByPath, BySlot}
 use Rattle.merkle_records.specs.Scheme.{Scheme}
@@ -18,7 +21,7 @@ use Rattle.verifier_commands.specs.State.{root_entry}
 use Rattle.verifier_commands.specs.Change.{Change}
 use Rattle.verifier_commands.specs.Transition.{Rules, Step, transition}
 use Rattle.verifier_commands.specs.SlotTransition.{SlotStep, slot_transition}
-use Rattle.verifier_commands.specs.VerifierState.{AnyCache, by_path, by_slot, VerifierState, VerifierStep, path_state, path_step, slot_step, perform_on, perform, opening_cache}
+use Rattle.verifier_commands.specs.VerifierState.{AnyCache, by_path, by_slot, VerifierState, VerifierStep, path_state, path_step, slot_step, is_unsigned, signer_in, perform_on, perform, opening_cache}
 use Rattle.verifier_commands.specs.Outcome.{Outcome, AddM, EvictM, AddB, EvictB, EvictBM, Get, Put, NextEpoch, outcome_of, told}
 use Rattle.verifier_commands.specs.Machine.{Machine, opening_machine, effect_of, machine_after, concluded, rules_for, stepped}
 use Rattle.verifier_commands.specs.Likeness.{AreAlikeCaches, machine_with, IsLikeMachine, AreLikeAnswers}
@@ -109,66 +112,75 @@ perform_on-alike rules (by_slot slots) (by_slot others) clock (BySlot command) a
     (sym alike)
     (slot_step-self (slot_transition rules (record { slots = slots; clock = clock }) command))
 
+test-alike : (met : Bool) (refusal : Refusal) (step other : VerifierStep) → AreLikeVerifierSteps step other → AreLikeVerifierSteps (test met refusal step) (test met refusal other)
+test-alike true refusal step other like = refl
+test-alike false refusal step other like = like
+
+perform-alike : (rules : Rules) (cache other : AnyCache) (clock : Reading) (command : LogCommand) → AreAlikeCaches cache other
+    → AreLikeVerifierSteps (perform rules (record { cache = cache; clock = clock }) command) (perform rules (record { cache = other; clock = clock }) command)
+perform-alike rules cache other clock command alike =
+    test-alike (rules.requests.signed && is_unsigned command) _ _ _ (perform_on-alike rules cache other clock command alike)
+
 -- ---- a command of the verifier
 
 -- the cache has no part in an answer
-effect-alike : (machine : Machine) (cache : AnyCache) (at : Stamp) (outcome : Outcome) → effect_of (machine_with machine cache) at outcome ≡ effect_of machine at outcome
-effect-alike machine cache at AddM = refl
-effect-alike machine cache at EvictM = refl
-effect-alike machine cache at (AddB element) = refl
-effect-alike machine cache at (EvictB element) = refl
-effect-alike machine cache at (EvictBM element) = refl
-effect-alike machine cache at (Get wide key value) = refl
-effect-alike machine cache at (Put wide key value) = refl
-effect-alike machine cache at (NextEpoch None) = refl
-effect-alike machine cache at (NextEpoch (Some epoch)) = refl
+effect-alike : (machine : Machine) (cache : AnyCache) (signer : Option Signer) (at : Stamp) (outcome : Outcome) → effect_of (machine_with machine cache) signer at outcome ≡ effect_of machine signer at outcome
+effect-alike machine cache signer at AddM = refl
+effect-alike machine cache signer at EvictM = refl
+effect-alike machine cache signer at (AddB element) = refl
+effect-alike machine cache signer at (EvictB element) = refl
+effect-alike machine cache signer at (EvictBM element) = refl
+effect-alike machine cache signer at (Get wide key value) = refl
+effect-alike machine cache signer at (Put wide key value) = refl
+effect-alike machine cache signer at (NextEpoch None) = refl
+effect-alike machine cache signer at (NextEpoch (Some epoch)) = refl
 
-after-alike : (scheme : Scheme) (machine : Machine) (cache : AnyCache) (done other : Change × VerifierState) → other.0 ≡ done.0 → IsLikeState done.1 other.1
-    → IsLikeMachine (machine_after scheme machine (outcome_of done.0) done.1) (machine_after scheme (machine_with machine cache) (outcome_of other.0) other.1)
-after-alike scheme machine cache done other change state = record {
+after-alike : (scheme : Scheme) (machine : Machine) (cache : AnyCache) (signer : Option Signer) (done other : Change × VerifierState) → other.0 ≡ done.0 → IsLikeState done.1 other.1
+    → IsLikeMachine (machine_after scheme machine signer (outcome_of done.0) done.1) (machine_after scheme (machine_with machine cache) signer (outcome_of other.0) other.1)
+after-alike scheme machine cache signer done other change state = record {
   cache = state.cache;
   alike = state.alike;
   same =
-      ap (λ (c : Change). machine_after scheme (machine_with machine cache) (outcome_of c) other.1) change
-      ∙ ap (λ (s : VerifierState). machine_after scheme (machine_with machine cache) (outcome_of done.0) s) state.same;
+      ap (λ (c : Change). machine_after scheme (machine_with machine cache) signer (outcome_of c) other.1) change
+      ∙ ap (λ (s : VerifierState). machine_after scheme (machine_with machine cache) signer (outcome_of done.0) s) state.same;
 }
 
-done_by-alike : (scheme : Scheme) (machine : Machine) (cache : AnyCache) (step other : VerifierStep) → AreLikeVerifierSteps step other
-    → AreLikeAnswers (done_by scheme machine step) (done_by scheme (machine_with machine cache) other)
-done_by-alike scheme machine cache (Ok done) (Ok other) like = (
-  ap (λ (c : Change). done_with (machine_with machine cache) c other.1) like.0
-      ∙ (ap (λ (s : VerifierState). done_with (machine_with machine cache) done.0 s) like.1.same
-      ∙ ap (λ (e : Effect). let told : Done = record { event = (done_with machine done.0 done.1).event; effect = e } in told) (effect-alike machine cache done.1.clock.at (outcome_of done.0))),
-  after-alike scheme machine cache done other like.0 like.1,
+done_by-alike : (scheme : Scheme) (machine : Machine) (cache : AnyCache) (signer : Option Signer) (step other : VerifierStep) → AreLikeVerifierSteps step other
+    → AreLikeAnswers (done_by scheme machine signer step) (done_by scheme (machine_with machine cache) signer other)
+done_by-alike scheme machine cache signer (Ok done) (Ok other) like = (
+  ap (λ (c : Change). done_with (machine_with machine cache) signer c other.1) like.0
+      ∙ (ap (λ (s : VerifierState). done_with (machine_with machine cache) signer done.0 s) like.1.same
+      ∙ ap (λ (e : Effect). let told : Done = record { event = (done_with machine signer done.0 done.1).event; effect = e } in told) (effect-alike machine cache signer done.1.clock.at (outcome_of done.0))),
+  after-alike scheme machine cache signer done other like.0 like.1,
 )
-done_by-alike scheme machine cache (Ok done) (Err refusal) like = like
-done_by-alike scheme machine cache (Err refusal) (Ok other) like = like
-done_by-alike scheme machine cache (Err refusal) (Err other) like = like
+done_by-alike scheme machine cache signer (Ok done) (Err refusal) like = like
+done_by-alike scheme machine cache signer (Err refusal) (Ok other) like = like
+done_by-alike scheme machine cache signer (Err refusal) (Err other) like = like
 
-concluded-alike : (scheme : Scheme) (machine : Machine) (cache : AnyCache) (step other : VerifierStep) → AreLikeVerifierSteps step other
-    → AreLikeAnswers (concluded scheme machine (told step)) (concluded scheme (machine_with machine cache) (told other))
-concluded-alike scheme machine cache (Ok done) (Ok other) like = (
-  ap (λ (c : Change). effect_of (machine_with machine cache) other.1.clock.at (outcome_of c)) like.0
-      ∙ (ap (λ (s : VerifierState). effect_of (machine_with machine cache) s.clock.at (outcome_of done.0)) like.1.same
-      ∙ effect-alike machine cache done.1.clock.at (outcome_of done.0)),
-  after-alike scheme machine cache done other like.0 like.1,
+concluded-alike : (scheme : Scheme) (machine : Machine) (cache : AnyCache) (signer : Option Signer) (step other : VerifierStep) → AreLikeVerifierSteps step other
+    → AreLikeAnswers (concluded scheme machine signer (told step)) (concluded scheme (machine_with machine cache) signer (told other))
+concluded-alike scheme machine cache signer (Ok done) (Ok other) like = (
+  ap (λ (c : Change). effect_of (machine_with machine cache) signer other.1.clock.at (outcome_of c)) like.0
+      ∙ (ap (λ (s : VerifierState). effect_of (machine_with machine cache) signer s.clock.at (outcome_of done.0)) like.1.same
+      ∙ effect-alike machine cache signer done.1.clock.at (outcome_of done.0)),
+  after-alike scheme machine cache signer done other like.0 like.1,
 )
-concluded-alike scheme machine cache (Ok done) (Err refusal) like = like
-concluded-alike scheme machine cache (Err refusal) (Ok other) like = like
-concluded-alike scheme machine cache (Err refusal) (Err other) like = like
+concluded-alike scheme machine cache signer (Ok done) (Err refusal) like = like
+concluded-alike scheme machine cache signer (Err refusal) (Ok other) like = like
+concluded-alike scheme machine cache signer (Err refusal) (Err other) like = like
 
 -- What was done.
 pub performed-alike : (scheme : Scheme) (machine other : Machine) (command : LogCommand) → IsLikeMachine machine other
     → AreLikeAnswers (performed scheme machine command) (performed scheme other command)
 performed-alike scheme machine other command like =
     subst (λ (m : Machine). AreLikeAnswers (performed scheme machine command) (performed scheme m command)) (sym like.same)
-    (done_by-alike scheme machine like.cache (perform (rules_for scheme machine) machine.state command) (perform (rules_for scheme machine) (machine_with machine like.cache).state command)
-    (perform_on-alike (rules_for scheme machine) machine.state.cache like.cache machine.state.clock command like.alike))
+    (done_by-alike scheme machine like.cache (signer_in command) (perform (rules_for scheme machine) machine.state command) (perform (rules_for scheme machine) (machine_with machine like.cache).state command)
+    (perform-alike (rules_for scheme machine) machine.state.cache like.cache machine.state.clock command like.alike))
 
 -- What is answered.
 pub stepped-alike : (scheme : Scheme) (machine other : Machine) (command : LogCommand) → IsLikeMachine machine other
     → AreLikeAnswers (stepped scheme machine command) (stepped scheme other command)
 stepped-alike scheme machine other command like =
     subst (λ (m : Machine). AreLikeAnswers (stepped scheme machine command) (stepped scheme m command)) (sym like.same)
-    (concluded-alike scheme machine like.cache (perform (rules_for scheme machine) machine.state command) (perform (rules_for scheme machine) (machine_with machine like.cache).state command)
-    (perform_on-alike (rules_for scheme machine) machine.state.cache like.cache machine.state.clock command like.alike))
+    (concluded-alike scheme machine like.cache (signer_in command) (perform (rules_for scheme machine) machine.state command) (perform (rules_for scheme machine) (machine_with machine like.cache).state command)
+    (perform-alike (rules_for scheme machine) machine.state.cache like.cache machine.state.clock command like.alike))

@@ -1,14 +1,15 @@
 -- An accepted command leaves the kind and the size of the cache, and the bounds of the clock.
-use Rattle.std.proofs.Common.{◌≡◌, ℕ, ◌≤◌, length, Result, Ok, not, nat_le, is_some, refl, sym, ap, subst}
+use Rattle.std.proofs.Common.{◌≡◌, ℕ, ◌&&◌, ◌≤◌, length, Result, Ok, not, nat_le, is_some, refl, sym, ap, subst}
 use Rattle.tree_keys.specs.Path.{is_data}
 use Rattle.lamport_clocks.specs.declared.header.Header.{Header}
 use Rattle.lamport_clocks.specs.Reading.{Reading, SameBounds}
 use Rattle.lamport_clocks.specs.Clock.{received, sent, advanced}
 use Rattle.lamport_clocks.proofs.ClockLaws.{received-bounds, sent-bounds, advanced-bounds}
+use Rattle.base_words.proofs.StepLaws.{test-ok}
 use Rattle.record_text.specs.declared.refusal.Refusal.{Refusal}
 use Rattle.record_text.specs.Same.{same_value}
 use Rattle.log_codec.specs.declared.command.Command.{Command}
-use Rattle.log_codec.specs.declared.command.Command.TheVariants.{AddM, EvictM, AddB, EvictB, EvictBM, Get, Put, NextEpoch, Absent}
+use Rattle.log_codec.specs.declared.command.Command.TheVariants.{AddM, EvictM, AddB, EvictB, EvictBM, Get, Put, NextEpoch, Absent, SignedGet, SignedPut}
 use Rattle.log_codec.specs.declared.log_command.LogCommand.{LogCommand}
 use Rattle.log_codec.specs.declared.log_command.LogCommand.TheVariants.{ByPath, BySlot}
 use Rattle.verifier_cache.specs.Entry.{has_kid}
@@ -18,9 +19,10 @@ use Rattle.verifier_commands.specs.declared.slot_state.SlotState.{SlotState}
 use Rattle.verifier_commands.specs.Change.{Change, did_add_m, did_evict_m, did_add_b, did_evict_b, did_evict_bm, did_get, did_put, did_next_epoch}
 use Rattle.verifier_commands.specs.Ticks.{Ticks}
 use Rattle.verifier_commands.specs.Changes.{add_under, evict_under, defer_under, absent_under, is_by_stamp}
-use Rattle.verifier_commands.specs.Transition.{Rules, is_root, is_full, transition}
+use Rattle.verifier_commands.specs.Outcome.{blob_of}
+use Rattle.verifier_commands.specs.Transition.{Rules, asked, asks, is_root, is_full, transition}
 use Rattle.verifier_commands.specs.SlotTransition.{opening_slots, slot_transition}
-use Rattle.verifier_commands.specs.VerifierState.{AnyCache, by_path, by_slot, VerifierState, perform_on, perform}
+use Rattle.verifier_commands.specs.VerifierState.{AnyCache, by_path, by_slot, VerifierState, is_unsigned, perform_on, perform}
 use Rattle.verifier_commands.proofs.LeavesLemmas.{Leaves, test-leaves, need-leaves, and_then-leaves, timed-leaves}
 use Rattle.verifier_commands.proofs.SlotCountLemmas.{AsMany, as_many, opening_count}
 use Rattle.verifier_commands.proofs.TickLaws.{path_step-ok, slot_step-ok, ticks_perform}
@@ -70,6 +72,15 @@ room-kept rules state (Absent path parent) =
     test-leaves (SameRoom state) (not (is_data path)) _ _
     (need-leaves (SameRoom state) (entry_of parent state.cache.entries) _ _ (λ holder.
     and_then-leaves (SameRoom state) (absent_under holder path) _ (λ entry. refl)))
+room-kept rules state (SignedGet path value signature) =
+    need-leaves (SameRoom state) (entry_of path state.cache.entries) _ _ (λ entry.
+    test-leaves (SameRoom state) (not (is_data path)) _ _
+    (and_then-leaves (SameRoom state) (asked (asks rules signature) false path (blob_of value)) _ (λ right.
+    test-leaves (SameRoom state) (not (same_value entry.value value)) _ _ refl)))
+room-kept rules state (SignedPut path value signature) =
+    need-leaves (SameRoom state) (entry_of path state.cache.entries) _ _ (λ entry.
+    test-leaves (SameRoom state) (not (is_data path)) _ _
+    (and_then-leaves (SameRoom state) (asked (asks rules signature) true path (blob_of value)) _ (λ right. refl)))
 room-kept rules state NextEpoch = timed-leaves (SameRoom state) (advanced state.clock) _ (λ turn. refl)
 
 -- ---- a cache of either kind, and the clock
@@ -99,7 +110,9 @@ size_on rules (by_slot all) clock (BySlot command) done is =
 -- The cache keeps its kind and size.
 pub size-kept : (rules : Rules) (state : VerifierState) (command : LogCommand) (done : Change × VerifierState)
     → perform rules state command ≡ Ok done → SameSize state.cache done.1.cache
-size-kept rules state command done is = size_on rules state.cache state.clock command done is
+size-kept rules state command done is =
+    let tested = test-ok (rules.requests.signed && is_unsigned command) _ _ done is in
+    size_on rules state.cache state.clock command done tested.1
 
 stood : (old new : Reading) → new ≡ old → SameBounds old new
 stood old new is = record { first = ap (λ (r : Reading). r.first) is; end = ap (λ (r : Reading). r.end) is }

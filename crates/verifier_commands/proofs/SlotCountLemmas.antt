@@ -11,7 +11,7 @@ use Rattle.record_text.specs.declared.refusal.Refusal.TheVariants as refusals
 use Rattle.record_text.specs.Same.{same_value}
 use Rattle.record_text.specs.Tree.{wide_of}
 use Rattle.log_codec.specs.declared.slot_command.SlotCommand.{SlotCommand}
-use Rattle.log_codec.specs.declared.slot_command.SlotCommand.TheVariants.{AddM, EvictM, AddB, EvictB, EvictBM, Get, Put, NextEpoch, Absent}
+use Rattle.log_codec.specs.declared.slot_command.SlotCommand.TheVariants.{AddM, EvictM, AddB, EvictB, EvictBM, Get, Put, NextEpoch, Absent, SignedGet, SignedPut}
 use Rattle.verifier_cache.specs.declared.entry.Entry.{Entry}
 use Rattle.verifier_cache.specs.Entry.{has_kid}
 use Rattle.verifier_cache.specs.Slots.{Slots, is_slot, entry_at, with_slot, empty_slots}
@@ -20,7 +20,7 @@ use Rattle.verifier_commands.specs.declared.answer.Answer.{Answer}
 use Rattle.verifier_commands.specs.State.{root_entry}
 use Rattle.verifier_commands.specs.Change.{Change}
 use Rattle.verifier_commands.specs.Changes.{add_under, evict_under, defer_under, absent_under, is_by_stamp}
-use Rattle.verifier_commands.specs.Transition.{Rules, is_root}
+use Rattle.verifier_commands.specs.Transition.{Rules, asked, asks, is_root}
 use Rattle.verifier_commands.specs.SlotTransition.{SlotStep, with_pair, slot_transition, opening_slots}
 use Rattle.verifier_commands.specs.Answer.{answered}
 use Rattle.verifier_commands.proofs.LeavesLemmas.{Leaves, test-leaves, need-leaves, and_then-leaves, timed-leaves}
@@ -78,6 +78,16 @@ module _ (rules : Rules) (state : SlotState) where
       need-leaves (AsMany state) (entry_at state.slots slot) refusals.SlotEmpty _
       (λ entry. test-leaves (AsMany state) (not (is_data entry.path)) refusals.NotData _
       (length-set state.slots slot _))
+  as_many (SignedGet slot value signature) =
+      need-leaves (AsMany state) (entry_at state.slots slot) refusals.SlotEmpty _
+      (λ entry. test-leaves (AsMany state) (not (is_data entry.path)) refusals.NotData _
+      (and_then-leaves (AsMany state) (asked (asks rules signature) false entry.path value) _
+      (λ right. test-leaves (AsMany state) (not (same_value entry.value (values.Blob value))) refusals.WrongValue _ refl)))
+  as_many (SignedPut slot value signature) =
+      need-leaves (AsMany state) (entry_at state.slots slot) refusals.SlotEmpty _
+      (λ entry. test-leaves (AsMany state) (not (is_data entry.path)) refusals.NotData _
+      (and_then-leaves (AsMany state) (asked (asks rules signature) true entry.path value) _
+      (λ right. length-set state.slots slot _)))
   as_many NextEpoch = timed-leaves (AsMany state) (advanced state.clock) _ (λ turn. refl)
   as_many (Absent path parent) =
       test-leaves (AsMany state) (not (is_data path)) refusals.NotData _

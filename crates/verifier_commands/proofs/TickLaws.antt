@@ -1,5 +1,5 @@
 -- How the clock moves with what a command did, which of two readings is later, and that the clock never falls.
-use Rattle.std.proofs.Common.{◌≡◌, ◌<◌, ◌≤◌, ◌⊎◌, inl, inr, not, nat_le, is_some, Ok, Err, refl, sym, ◌∙◌, ap, subst, arith}
+use Rattle.std.proofs.Common.{◌≡◌, ◌&&◌, ◌<◌, ◌≤◌, ◌⊎◌, inl, inr, not, nat_le, is_some, Ok, Err, refl, sym, ◌∙◌, ap, subst, arith}
 use Rattle.std.proofs.lemmas.Result.{IfOk-at_ok}
 use Rattle.tree_keys.specs.Path.{is_data}
 use Rattle.lamport_clocks.specs.declared.stamp.Stamp.{Stamp}
@@ -11,7 +11,7 @@ use Rattle.base_words.proofs.StepLaws.{test-ok}
 use Rattle.record_text.specs.declared.value.Value.TheVariants as values
 use Rattle.record_text.specs.Same.{same_value}
 use Rattle.log_codec.specs.declared.command.Command.{Command}
-use Rattle.log_codec.specs.declared.command.Command.TheVariants.{AddM, EvictM, AddB, EvictB, EvictBM, Get, Put, NextEpoch, Absent}
+use Rattle.log_codec.specs.declared.command.Command.TheVariants.{AddM, EvictM, AddB, EvictB, EvictBM, Get, Put, NextEpoch, Absent, SignedGet, SignedPut}
 use Rattle.log_codec.specs.declared.slot_command.SlotCommand.{SlotCommand}
 use Rattle.log_codec.specs.declared.slot_command.SlotCommand.TheVariants as slots
 use Rattle.log_codec.specs.declared.log_command.LogCommand.{LogCommand}
@@ -24,9 +24,10 @@ use Rattle.verifier_commands.specs.declared.slot_state.SlotState.{SlotState}
 use Rattle.verifier_commands.specs.Change.{Change, did_add_m, did_evict_m, did_add_b, did_evict_b, did_evict_bm, did_get, did_put, did_next_epoch}
 use Rattle.verifier_commands.specs.Ticks.{Ticks}
 use Rattle.verifier_commands.specs.Changes.{add_under, evict_under, defer_under, absent_under, is_by_stamp}
-use Rattle.verifier_commands.specs.Transition.{Rules, Step, is_root, is_full, transition}
+use Rattle.verifier_commands.specs.Outcome.{blob_of}
+use Rattle.verifier_commands.specs.Transition.{Rules, Step, asked, asks, is_root, is_full, transition}
 use Rattle.verifier_commands.specs.SlotTransition.{SlotStep, slot_transition}
-use Rattle.verifier_commands.specs.VerifierState.{AnyCache, by_path, by_slot, VerifierState, path_state, slot_state, path_step, slot_step, perform_on, perform}
+use Rattle.verifier_commands.specs.VerifierState.{AnyCache, by_path, by_slot, VerifierState, path_state, slot_state, path_step, slot_step, is_unsigned, perform_on, perform}
 use Rattle.verifier_commands.proofs.InvertLaws.{need-ok, and_then-ok, timed-ok}
 
 -- ---- how the clock moves
@@ -89,6 +90,17 @@ ticks_step rules state (Absent path parent) done is =
     let holder = need-ok (entry_of parent state.cache.entries) _ _ done data_path.1 in
     let unset = and_then-ok (absent_under holder.0 path) _ done holder.2 in
     IfOk-at_ok (DidTick state) unset.2 refl
+ticks_step rules state (SignedGet path value signature) done is =
+    let entry = need-ok (entry_of path state.cache.entries) _ _ done is in
+    let data_path = test-ok (not (is_data path)) _ _ done entry.2 in
+    let right = and_then-ok (asked (asks rules signature) false path (blob_of value)) _ done data_path.1 in
+    let same = test-ok (not (same_value entry.0.value value)) _ _ done right.2 in
+    IfOk-at_ok (DidTick state) same.1 refl
+ticks_step rules state (SignedPut path value signature) done is =
+    let entry = need-ok (entry_of path state.cache.entries) _ _ done is in
+    let data_path = test-ok (not (is_data path)) _ _ done entry.2 in
+    let right = and_then-ok (asked (asks rules signature) true path (blob_of value)) _ done data_path.1 in
+    IfOk-at_ok (DidTick state) right.2 refl
 ticks_step rules state NextEpoch done is =
     let turn = timed-ok (advanced state.clock) _ done is in
     IfOk-at_ok (DidTick state) turn.2 turn.1
@@ -144,6 +156,17 @@ ticks_slot_step rules state (slots.Absent path parent) done is =
     let holder = need-ok (entry_at state.slots parent) _ _ done data_path.1 in
     let unset = and_then-ok (absent_under holder.0 path) _ done holder.2 in
     IfOk-at_ok (DidTickSlots state) unset.2 refl
+ticks_slot_step rules state (slots.SignedGet slot value signature) done is =
+    let entry = need-ok (entry_at state.slots slot) _ _ done is in
+    let data_path = test-ok (not (is_data entry.0.path)) _ _ done entry.2 in
+    let right = and_then-ok (asked (asks rules signature) false entry.0.path value) _ done data_path.1 in
+    let same = test-ok (not (same_value entry.0.value (values.Blob value))) _ _ done right.2 in
+    IfOk-at_ok (DidTickSlots state) same.1 refl
+ticks_slot_step rules state (slots.SignedPut slot value signature) done is =
+    let entry = need-ok (entry_at state.slots slot) _ _ done is in
+    let data_path = test-ok (not (is_data entry.0.path)) _ _ done entry.2 in
+    let right = and_then-ok (asked (asks rules signature) true entry.0.path value) _ done data_path.1 in
+    IfOk-at_ok (DidTickSlots state) right.2 refl
 ticks_slot_step rules state slots.NextEpoch done is =
     let turn = timed-ok (advanced state.clock) _ done is in
     IfOk-at_ok (DidTickSlots state) turn.2 turn.1
@@ -173,7 +196,9 @@ ticks_on rules (by_slot kept) clock (commands.BySlot command) done is =
 -- An accepted command moved the clock with its change, whatever it names.
 pub ticks_perform : (rules : Rules) (state : VerifierState) (command : LogCommand) (done : Change × VerifierState)
     → perform rules state command ≡ Ok done → Ticks state.clock done.1.clock done.0
-ticks_perform rules state command done is = ticks_on rules state.cache state.clock command done is
+ticks_perform rules state command done is =
+    let tested = test-ok (rules.requests.signed && is_unsigned command) _ _ done is in
+    ticks_on rules state.cache state.clock command done tested.1
 
 -- the first stamp is not after the other
 abbrev pub IsUpTo : Stamp → Stamp → Type 0

@@ -1,11 +1,12 @@
 -- What the code hands up of an accepted command: an outcome by what sums and answers take of it. Of an element that is
 -- the lanes, and of one that comes back the epoch of its stamp.
-use Rattle.std.specs.Prelude.{◌≡◌, ℕ, ◌<◌, ◌==◌, List, Some, None, Result, Ok, Err, if◌then◌else◌, true, false}
+use Rattle.std.specs.Prelude.{◌≡◌, ℕ, ◌<◌, ◌==◌, List, Option, Some, None, Result, Ok, Err, if◌then◌else◌, true, false}
 use Rattle.lamport_clocks.specs.Reading.{Reading}
 use Rattle.lamport_clocks.specs.declared.stamp.Stamp.{Stamp}
 use Rattle.multiset_sum.specs.Sum.{with_lanes}
 use Rattle.record_text.specs.Texts.{element_text}
 use Rattle.record_text.specs.declared.refusal.Refusal.{Refusal}
+use Rattle.record_text.specs.declared.signature.Signer.{Signer}
 use Rattle.verifier_commands.specs.declared.answer.Answer.{Answer}
 use Rattle.verifier_commands.specs.declared.answer.Answer.TheVariants as answers
 use Rattle.verifier_commands.specs.declared.effect.Effect.{Effect}
@@ -54,17 +55,17 @@ sums_by epoch sums (answers.Get wide key value) = sums
 sums_by epoch sums (answers.Put wide key value) = sums
 sums_by epoch sums (answers.NextEpoch sealed) = advanced_sums sums
 
--- what a command answers that handed this up, where the clock then stands so
-abbrev pub effect_by : Machine → Stamp → Answer → Effect
-effect_by machine at answers.AddM = Plain
-effect_by machine at answers.EvictM = Plain
-effect_by machine at (answers.AddB stamped lanes) = Plain
-effect_by machine at (answers.EvictB lanes) = Plain
-effect_by machine at (answers.EvictBM lanes) = Plain
-effect_by machine at (answers.Get wide key value) = Did (operation_by machine at false wide key value)
-effect_by machine at (answers.Put wide key value) = Did (operation_by machine at true wide key value)
-effect_by machine at (answers.NextEpoch None) = Opened
-effect_by machine at (answers.NextEpoch (Some epoch)) =
+-- what a command answers that was signed so and handed this up, where the clock then stands so
+abbrev pub effect_by : Machine → Option Signer → Stamp → Answer → Effect
+effect_by machine signer at answers.AddM = Plain
+effect_by machine signer at answers.EvictM = Plain
+effect_by machine signer at (answers.AddB stamped lanes) = Plain
+effect_by machine signer at (answers.EvictB lanes) = Plain
+effect_by machine signer at (answers.EvictBM lanes) = Plain
+effect_by machine signer at (answers.Get wide key value) = Did (operation_by machine signer at false wide key value)
+effect_by machine signer at (answers.Put wide key value) = Did (operation_by machine signer at true wide key value)
+effect_by machine signer at (answers.NextEpoch None) = Opened
+effect_by machine signer at (answers.NextEpoch (Some epoch)) =
     Sealed (record { verifier = machine.number; epoch = epoch; added = machine.sums.added_before; evicted = machine.sums.evicted_before })
 
 -- How the clock moves with what is handed up: it stands, or its counter rises, or the counter begins again at 0.

@@ -14,7 +14,7 @@ use Rattle.record_text.specs.declared.refusal.Refusal.{Refusal}
 use Rattle.record_text.specs.declared.refusal.Refusal.TheVariants as refusals
 use Rattle.record_text.specs.Same.{same_value}
 use Rattle.log_codec.specs.declared.slot_command.SlotCommand.{SlotCommand}
-use Rattle.log_codec.specs.declared.slot_command.SlotCommand.TheVariants.{AddM, EvictM, AddB, EvictB, EvictBM, Get, Put, NextEpoch, Absent}
+use Rattle.log_codec.specs.declared.slot_command.SlotCommand.TheVariants.{AddM, EvictM, AddB, EvictB, EvictBM, Get, Put, NextEpoch, Absent, SignedGet, SignedPut}
 use Rattle.merkle_records.specs.Merkle.{Digest}
 use Rattle.verifier_cache.specs.declared.entry.Entry.{Entry}
 use Rattle.verifier_cache.specs.declared.entry.Hold.TheVariants.{B}
@@ -24,7 +24,7 @@ use Rattle.verifier_commands.specs.declared.slot_state.SlotState.{SlotState}
 use Rattle.verifier_commands.specs.State.{root_entry}
 use Rattle.verifier_commands.specs.Change.{Change, did_add_m, did_evict_m, did_add_b, did_evict_b, did_evict_bm, did_get, did_put, did_next_epoch}
 use Rattle.verifier_commands.specs.Changes.{add_under, evict_under, defer_under, absent_under, is_by_stamp}
-use Rattle.verifier_commands.specs.Transition.{Rules, is_root, timed, evicted_as}
+use Rattle.verifier_commands.specs.Transition.{Ask, unasked, asked, Rules, asks, is_root, timed, evicted_as}
 
 -- what was done and the state after it, or why nothing was
 abbrev pub SlotStep : Type 0
@@ -99,22 +99,24 @@ evict_bm number state slot parent stamp =
     ))))))
 
 -- Reading a data value, which must be this one.
-abbrev pub get : SlotState → ℕ → Option (List ℕ) → SlotStep
-get state slot value =
+abbrev pub get : SlotState → ℕ → Option (List ℕ) → Ask → SlotStep
+get state slot value ask =
     need (entry_at state.slots slot) refusals.SlotEmpty
     (λ entry. test (not (is_data entry.path)) refusals.NotData
-    (test (not (same_value entry.value (values.Blob value))) refusals.WrongValue
-    (Ok (did_get entry, state))))
+    (and_then (asked ask false entry.path value)
+    (λ done. test (not (same_value entry.value (values.Blob value))) refusals.WrongValue
+    (Ok (did_get entry, state)))))
 
 -- Writing a data value.
-abbrev pub put : SlotState → ℕ → Option (List ℕ) → SlotStep
-put state slot value =
+abbrev pub put : SlotState → ℕ → Option (List ℕ) → Ask → SlotStep
+put state slot value ask =
     need (entry_at state.slots slot) refusals.SlotEmpty
     (λ entry. test (not (is_data entry.path)) refusals.NotData
-    (Ok (
+    (and_then (asked ask true entry.path value)
+    (λ done. Ok (
       did_put entry (with_value entry (values.Blob value)),
       record state { slots = with_slot state.slots slot (Some (with_value entry (values.Blob value))) },
-    )))
+    ))))
 
 -- Reading a data path that has no record, by the parent in a slot, which doesn't lead to it.
 abbrev pub absent : SlotState → List Bool → ℕ → SlotStep
@@ -137,10 +139,12 @@ slot_transition rules state (EvictM slot parent) = evict_m rules.scheme.digest s
 slot_transition rules state (AddB slot path value stamp verifier) = add_b rules.verifiers state slot path value stamp verifier
 slot_transition rules state (EvictB slot stamp) = evict_b rules.number state slot stamp
 slot_transition rules state (EvictBM slot parent stamp) = evict_bm rules.number state slot parent stamp
-slot_transition rules state (Get slot value) = get state slot value
-slot_transition rules state (Put slot value) = put state slot value
+slot_transition rules state (Get slot value) = get state slot value unasked
+slot_transition rules state (Put slot value) = put state slot value unasked
 slot_transition rules state NextEpoch = next_epoch state
 slot_transition rules state (Absent path parent) = absent state path parent
+slot_transition rules state (SignedGet slot value signature) = get state slot value (asks rules signature)
+slot_transition rules state (SignedPut slot value signature) = put state slot value (asks rules signature)
 
 -- ---- before the first command
 

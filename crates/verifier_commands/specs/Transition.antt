@@ -1,7 +1,9 @@
 -- The transition of one verifier: what each command does, or the first refusal. The tests stand in the one
 -- order in which they are made.
-use Rattle.std.specs.Prelude.{ℕ, nat_le, Bool, true, false, not, List, [], ◌∷◌, ◌++◌, length, is_some, Result, Ok, Err}
-use Rattle.tree_keys.specs.Path.{is_data}
+use Rattle.std.specs.Prelude.{ℕ, nat_le, Bool, true, false, not, List, [], ◌∷◌, ◌++◌, length, is_some, Option, Some, None, Result, Ok, Err}
+use Rattle.tree_keys.specs.Path.{is_data, tree_of, key_of}
+use Rattle.lamport_clocks.specs.declared.header.Header.{Header}
+use Rattle.lamport_clocks.specs.Header.{is_signed}
 use Rattle.lamport_clocks.specs.declared.stamp.Stamp.{Stamp}
 use Rattle.lamport_clocks.specs.declared.clock.ClockFault.{ClockFault}
 use Rattle.lamport_clocks.specs.declared.clock.ClockFault.TheVariants as faults
@@ -11,8 +13,11 @@ use Rattle.record_text.specs.declared.value.Value.{Value}
 use Rattle.record_text.specs.declared.element.Element.{Element}
 use Rattle.record_text.specs.declared.refusal.Refusal.{Refusal}
 use Rattle.record_text.specs.declared.refusal.Refusal.TheVariants as refusals
+use Rattle.record_text.specs.declared.request.Request.{Request}
+use Rattle.record_text.specs.declared.signature.Signature.{Signature}
+use Rattle.client_requests.specs.Signing.{Clients, permit}
 use Rattle.log_codec.specs.declared.command.Command.{Command}
-use Rattle.log_codec.specs.declared.command.Command.TheVariants.{AddM, EvictM, AddB, EvictB, EvictBM, Get, Put, NextEpoch, Absent}
+use Rattle.log_codec.specs.declared.command.Command.TheVariants.{AddM, EvictM, AddB, EvictB, EvictBM, Get, Put, NextEpoch, Absent, SignedGet, SignedPut}
 use Rattle.merkle_records.specs.Merkle.{Digest}
 use Rattle.merkle_records.specs.Scheme.{Scheme}
 use Rattle.verifier_cache.specs.declared.entry.Entry.{Entry}
@@ -23,6 +28,7 @@ use Rattle.record_text.specs.Same.{same_value}
 use Rattle.verifier_commands.specs.declared.state.State.{State}
 use Rattle.verifier_commands.specs.State.{with_entries, at_clock}
 use Rattle.verifier_commands.specs.Change.{Change, did_add_m, did_evict_m, did_add_b, did_evict_b, did_evict_bm, did_get, did_put, did_next_epoch}
+use Rattle.verifier_commands.specs.Outcome.{blob_of}
 use Rattle.verifier_commands.specs.Changes.{add_under, evict_under, defer_under, absent_under, is_by_stamp}
 
 -- what was done and the state after it, or why nothing was
@@ -118,23 +124,37 @@ evict_bm number state path parent stamp =
       at_clock state (without path (replaced after state.cache.entries)) clock,
     ))))))
 
+-- the test of a request, of the tree of its key
+abbrev pub Ask : Type 0
+Ask = Bool → Request → Result (Unit {0}) Refusal
+
+-- nothing is asked of a request without a signature
+abbrev pub unasked : Ask
+unasked wide request = Ok tt
+
+-- what is asked of a get of a data path, or of a put
+abbrev pub asked : Ask → Bool → List Bool → Option (List ℕ) → Result (Unit {0}) Refusal
+asked ask put path value = ask (tree_of path) (record { put = put; key = key_of path; value = value })
+
 -- Reading a data value, which must be this one.
-abbrev pub get : State → List Bool → Value → Step
-get state path value =
+abbrev pub get : State → List Bool → Value → Ask → Step
+get state path value ask =
     need (entry_of path state.cache.entries) refusals.NotCached
     (λ entry. test (not (is_data path)) refusals.NotData
-    (test (not (same_value entry.value value)) refusals.WrongValue
-    (Ok (did_get entry, state))))
+    (and_then (asked ask false path (blob_of value))
+    (λ done. test (not (same_value entry.value value)) refusals.WrongValue
+    (Ok (did_get entry, state)))))
 
 -- Writing a data value.
-abbrev pub put : State → List Bool → Value → Step
-put state path value =
+abbrev pub put : State → List Bool → Value → Ask → Step
+put state path value ask =
     need (entry_of path state.cache.entries) refusals.NotCached
     (λ entry. test (not (is_data path)) refusals.NotData
-    (Ok (
+    (and_then (asked ask true path (blob_of value))
+    (λ done. Ok (
       did_put entry (record entry { value = value }),
       with_entries state (replaced (record entry { value = value }) state.cache.entries),
-    )))
+    ))))
 
 -- Reading a data path that has no record, by a parent that doesn't lead to it.
 abbrev pub absent : State → List Bool → List Bool → Step
@@ -150,12 +170,44 @@ next_epoch state =
     timed (advanced state.clock)
     (λ turn. Ok (did_next_epoch turn.0, record state { clock = turn.1 }))
 
--- What the transition of a verifier stands on: the scheme of its bundle, the verifier's number, and how many
--- verifiers there are.
+-- What is asked of the requests in a log: whether each must be signed, and the test of a signature.
+pub record RequestRules : Type 0 where
+  pub signed : Bool
+  pub permit : Bool → Request → Signature → Result (Unit {0}) Refusal
+
+-- no request must be signed, and no signature is tested
+abbrev pub unsigned : RequestRules
+unsigned = record { signed = false; permit = λ wide request signature. Ok tt }
+
+-- What the transition of a verifier stands on: the scheme of its bundle, the verifier's number, how many
+-- verifiers there are, and what is asked of requests.
 pub record Rules : Type 0 where
   pub scheme : Scheme
   pub number : ℕ
   pub verifiers : ℕ
+  pub requests : RequestRules
+
+-- the clients of a bundle as the verifier of this number knows them, with the last number of each of its own
+abbrev pub clients_of : Header → ℕ → List ℕ → Clients
+clients_of header number numbers = record { number = number; verifiers = header.verifiers; count = header.clients; last = numbers }
+
+-- what that verifier asks of requests
+abbrev pub request_rules : Scheme → Header → ℕ → List ℕ → RequestRules
+request_rules scheme header number numbers =
+    record { signed = is_signed header; permit = permit scheme.client_tag (clients_of header number numbers) }
+
+-- its rules
+abbrev pub rules_by : Scheme → Header → ℕ → List ℕ → Rules
+rules_by scheme header number numbers =
+    record { scheme = scheme; number = number; verifiers = header.verifiers; requests = request_rules scheme header number numbers }
+
+-- the test of a signature by these rules, and by what stands beside them in the code
+abbrev pub asks : Rules → Signature → Ask
+asks rules signature = λ wide request. rules.requests.permit wide request signature
+
+abbrev pub asked_by : (ℕ → List ℕ → List ℕ) → Clients → Option Signature → Ask
+asked_by client_tag clients None = unasked
+asked_by client_tag clients (Some signature) = λ wide request. permit client_tag clients wide request signature
 
 -- What each command does.
 abbrev pub transition : Rules → State → Command → Step
@@ -164,7 +216,9 @@ transition rules state (EvictM path parent) = evict_m rules.scheme.digest state 
 transition rules state (AddB path value stamp verifier) = add_b rules.verifiers state path value stamp verifier
 transition rules state (EvictB path stamp) = evict_b rules.number state path stamp
 transition rules state (EvictBM path parent stamp) = evict_bm rules.number state path parent stamp
-transition rules state (Get path value) = get state path value
-transition rules state (Put path value) = put state path value
+transition rules state (Get path value) = get state path value unasked
+transition rules state (Put path value) = put state path value unasked
 transition rules state NextEpoch = next_epoch state
 transition rules state (Absent path parent) = absent state path parent
+transition rules state (SignedGet path value signature) = get state path value (asks rules signature)
+transition rules state (SignedPut path value signature) = put state path value (asks rules signature)

@@ -7,11 +7,13 @@ ghost use Rattle.log_codec.specs.declared.log_command.LogCommand.TheVariants.{By
 ghost use Rattle.merkle_records.specs.Scheme.{scheme_of};
 ghost use Rattle.verifier_cache.specs.Cache.{AreDistinct};
 ghost use Rattle.verifier_cache.specs.Listed.{entries_in, SlotsRise};
-ghost use Rattle.verifier_commands.specs.VerifierState.{state_of, first_state, path_entry, slot_entry, slots_in, perform};
+ghost use Rattle.verifier_commands.specs.VerifierState.{state_of, first_state, path_entry, slot_entry, slots_in, perform_on, perform};
+ghost use Rattle.verifier_commands.specs.Transition.{rules_by};
 ghost use Rattle.verifier_commands.specs.Resumed.{AreListedOf, cache_of};
 ghost use Rattle.verifier_commands.specs.Answer.{answered, ClockMoves};
 
 use crate::answer::Answer;
+use crate::asking::{is_unsigned, is_unsigned_by_slot};
 use crate::slot_state::SlotState;
 use crate::state::State;
 use base_words::Memory;
@@ -112,41 +114,89 @@ impl EitherState {
         }
     }
 
-    /// Applies a command that names paths, by the verifier of this number, under this header.
+    /// Applies a command that names paths, by the verifier of this number, under this header, with these last numbers of its clients.
+    #[tactic(auto, using(crate::proofs::EitherLemmas::unsigned_view))]
     pub(crate) fn apply<'a, D: Digests>(
         &mut self,
         d: &D,
         number: u16,
         header: &Header,
+        numbers: &[u64],
         command: &'a Command,
     ) -> Result<Answer<'a>, Refusal>
+        requires verifiers { 1 ≤ header.now.verifiers }
         ensures follows { Follows result (state_of self.old) (state_of self.new)
-            (answered (D.functions d.now).lanes (perform (record { scheme = scheme_of (D.functions d.now) header.now; number = number; verifiers = header.now.verifiers }) (state_of self.old) (ByPath command.now))) }
+            (answered (D.functions d.now).lanes (perform (rules_by (scheme_of (D.functions d.now) header.now) header.now number numbers.now) (state_of self.old) (ByPath command.now))) }
+        ensures clock { IfOk result (ClockMoves (state_of self.old).clock (state_of self.new).clock) }
+        ensures slots { slots_in (state_of self.new).cache ≡ slots_in (state_of self.old).cache }
+    {
+        if header.is_signed() && is_unsigned(command) {
+            return Err(Refusal::Unsigned);
+        }
+        self.apply_tested(d, number, header, numbers, command)
+    }
+
+    // The same of a command that is not without a signature where it needs one.
+    fn apply_tested<'a, D: Digests>(
+        &mut self,
+        d: &D,
+        number: u16,
+        header: &Header,
+        numbers: &[u64],
+        command: &'a Command,
+    ) -> Result<Answer<'a>, Refusal>
+        requires verifiers { 1 ≤ header.now.verifiers }
+        ensures follows { Follows result (state_of self.old) (state_of self.new)
+            (answered (D.functions d.now).lanes (perform_on (rules_by (scheme_of (D.functions d.now) header.now) header.now number numbers.now) (state_of self.old).cache (state_of self.old).clock (ByPath command.now))) }
         ensures clock { IfOk result (ClockMoves (state_of self.old).clock (state_of self.new).clock) }
         ensures slots { slots_in (state_of self.new).cache ≡ slots_in (state_of self.old).cache }
     {
         match self {
-            EitherState::ByPath(state) => state.apply(d, number, header, command),
+            EitherState::ByPath(state) => state.apply(d, number, header, numbers, command),
             EitherState::BySlot(_) => Err(Refusal::Malformed),
         }
     }
 
-    /// Applies a command that names slots, by the verifier of this number, under this header.
+    /// Applies a command that names slots, by the verifier of this number, under this header, with these last numbers of its clients.
+    #[tactic(auto, using(crate::proofs::EitherLemmas::unsigned_view))]
     pub(crate) fn apply_slots<'a, D: Digests>(
         &mut self,
         d: &D,
         number: u16,
         header: &Header,
+        numbers: &[u64],
         command: &'a SlotCommand,
     ) -> Result<Answer<'a>, Refusal>
+        requires verifiers { 1 ≤ header.now.verifiers }
         ensures follows { Follows result (state_of self.old) (state_of self.new)
-            (answered (D.functions d.now).lanes (perform (record { scheme = scheme_of (D.functions d.now) header.now; number = number; verifiers = header.now.verifiers }) (state_of self.old) (BySlot command.now))) }
+            (answered (D.functions d.now).lanes (perform (rules_by (scheme_of (D.functions d.now) header.now) header.now number numbers.now) (state_of self.old) (BySlot command.now))) }
+        ensures clock { IfOk result (ClockMoves (state_of self.old).clock (state_of self.new).clock) }
+        ensures slots { slots_in (state_of self.new).cache ≡ slots_in (state_of self.old).cache }
+    {
+        if header.is_signed() && is_unsigned_by_slot(command) {
+            return Err(Refusal::Unsigned);
+        }
+        self.apply_slots_tested(d, number, header, numbers, command)
+    }
+
+    // The same of a command that is not without a signature where it needs one.
+    fn apply_slots_tested<'a, D: Digests>(
+        &mut self,
+        d: &D,
+        number: u16,
+        header: &Header,
+        numbers: &[u64],
+        command: &'a SlotCommand,
+    ) -> Result<Answer<'a>, Refusal>
+        requires verifiers { 1 ≤ header.now.verifiers }
+        ensures follows { Follows result (state_of self.old) (state_of self.new)
+            (answered (D.functions d.now).lanes (perform_on (rules_by (scheme_of (D.functions d.now) header.now) header.now number numbers.now) (state_of self.old).cache (state_of self.old).clock (BySlot command.now))) }
         ensures clock { IfOk result (ClockMoves (state_of self.old).clock (state_of self.new).clock) }
         ensures slots { slots_in (state_of self.new).cache ≡ slots_in (state_of self.old).cache }
     {
         match self {
             EitherState::ByPath(_) => Err(Refusal::Malformed),
-            EitherState::BySlot(state) => state.apply(d, number, header, command),
+            EitherState::BySlot(state) => state.apply(d, number, header, numbers, command),
         }
     }
 }

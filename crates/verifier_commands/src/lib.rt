@@ -4,12 +4,13 @@
 //! and `slot_transition` in `specs/SlotTransition.antt` where they name slots of the cache: tests in one order, over a
 //! `State` of cached entries, or a `SlotState`, and a clock. `perform` in `specs/VerifierState.antt` is both. Beside its
 //! state a verifier keeps sums of what it added and evicted in two epochs. The crate stands on `log_codec` for the
-//! commands, and on `merkle_records`, `verifier_cache`, `lamport_clocks` and `multiset_sum` for what they change. Its
+//! commands, on `client_requests` for the tests of signatures, and on `merkle_records`, `verifier_cache`, `lamport_clocks` and `multiset_sum` for what they change. Its
 //! laws are in `laws.rt`. Begin with `Verifier::step_any` in `verifier.rt`, beside `stepped` in `specs/Machine.antt`.
 #![tactic(auto)]
 
 mod answer;
 mod applying;
+mod asking;
 mod changes;
 mod deferred;
 mod effect;

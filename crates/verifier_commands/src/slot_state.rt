@@ -3,9 +3,11 @@ ghost use Rattle.std.specs.Prelude.{◌≡◌, ◌≤◌, IfOk};
 ghost use Rattle.base_words.specs.Follows.{Follows};
 ghost use Rattle.merkle_records.specs.Scheme.{scheme_of};
 ghost use Rattle.verifier_commands.specs.SlotTransition.{slot_opening, slot_transition};
+ghost use Rattle.verifier_commands.specs.Transition.{rules_by};
 ghost use Rattle.verifier_commands.specs.Answer.{answered, ClockMoves};
 
 use crate::answer::Answer;
+use crate::asking::clients_of;
 use base_words::Memory;
 use lamport_clocks::{Clock, Header};
 use log_codec::SlotCommand;
@@ -44,19 +46,22 @@ impl SlotState {
         Ok(SlotState { slots, clock })
     }
 
-    /// Applies one command by the verifier of this number, under this header. It answers what that handed up, or
-    /// the first refusal; after a refusal the state is as before.
+    /// Applies one command by the verifier of this number, under this header, with these last numbers of its clients. It
+    /// answers what that handed up, or the first refusal; after a refusal the state is as before.
     pub fn apply<'a, D: Digests>(
         &mut self,
         d: &D,
         number: u16,
         header: &Header,
+        numbers: &[u64],
         command: &'a SlotCommand,
     ) -> Result<Answer<'a>, Refusal>
+        requires verifiers { 1 ≤ header.now.verifiers }
         ensures follows { Follows result self.old self.new
-            (answered (D.functions d.now).lanes (slot_transition (record { scheme = scheme_of (D.functions d.now) header.now; number = number; verifiers = header.now.verifiers }) self.old command.now)) }
+            (answered (D.functions d.now).lanes (slot_transition (rules_by (scheme_of (D.functions d.now) header.now) header.now number numbers.now) self.old command.now)) }
         ensures clock { IfOk result (ClockMoves self.old.clock self.new.clock) }
     {
+        let clients = clients_of(header, number, numbers);
         match command {
             SlotCommand::AddM {
                 slot,
@@ -78,10 +83,20 @@ impl SlotState {
                 parent,
                 stamp,
             } => self.evict_bm(d, number, *slot, *parent, *stamp),
-            SlotCommand::Get { slot, value } => self.get(*slot, value),
-            SlotCommand::Put { slot, value } => self.put(*slot, value),
+            SlotCommand::Get { slot, value } => self.get(d, *slot, value, &clients, None),
+            SlotCommand::Put { slot, value } => self.put(d, *slot, value, &clients, None),
             SlotCommand::NextEpoch => self.next_epoch(),
             SlotCommand::Absent { path, parent } => self.absent(path, *parent),
+            SlotCommand::SignedGet {
+                slot,
+                value,
+                signature,
+            } => self.get(d, *slot, value, &clients, Some(signature)),
+            SlotCommand::SignedPut {
+                slot,
+                value,
+                signature,
+            } => self.put(d, *slot, value, &clients, Some(signature)),
         }
     }
 }

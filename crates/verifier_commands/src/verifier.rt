@@ -14,15 +14,17 @@ ghost use Rattle.verifier_commands.specs.Resumed.{AreListedOf, resumed_machine};
 ghost use Rattle.verifier_commands.specs.Answer.{effect_by};
 
 use crate::answer::Answer;
+use crate::asking::{note_signer, signer_by_slot, signer_of};
 use crate::effect::Effect;
 use crate::either_state::EitherState;
 use crate::sums::Sums;
 use base_words::Memory;
+use client_requests::opening_numbers;
 use lamport_clocks::{Clock, Header, Stamp};
 use log_codec::{Command, LogCommand, SlotCommand};
 use multiset_sum::Part;
 use record_hash::Digests;
-use record_text::{BlobRef, OperationRef, Refusal};
+use record_text::{BlobRef, OperationRef, Refusal, Signer};
 use std::alloc::Global;
 use std::marker::Model;
 use tree_keys::Path;
@@ -35,6 +37,7 @@ pub struct Verifier {
     header: Header,
     state: EitherState,
     sums: Sums,
+    numbers: Vec<u64>,
     accepted: u64,
 }
 
@@ -44,9 +47,9 @@ impl Model for Verifier {
 
     ghost Value = { Machine };
 
-    ghost view = { λ v. record { number = v.number; header = v.header; state = state_of v.state; sums = v.sums; accepted = v.accepted } };
+    ghost view = { λ v. record { number = v.number; header = v.header; state = state_of v.state; sums = v.sums; numbers = v.numbers.items; accepted = v.accepted } };
 
-    ghost invariant = { λ v. KeepsBounds v.sums (state_of v.state) };
+    ghost invariant = { λ v. KeepsBounds v.number v.header v.sums (state_of v.state) };
 }
 
 impl Verifier {
@@ -57,17 +60,19 @@ impl Verifier {
         ensures opening { IfOk result (λ verifier. verifier ≡ opening_machine number header.now) }
     {
         let state = EitherState::new(alloc, number, header)?;
+        let numbers = opening_numbers(alloc, header.clients, header.verifiers, number)?;
         Ok(Verifier {
             number,
             header: *header,
             state,
             sums: Sums::zero(),
+            numbers,
             accepted: 0,
         })
     }
 
     /// The verifier of this number that goes on with listed entries, from where its clock stood, with the sums that it had,
-    /// and so many accepted commands. It takes all of its memory here.
+    /// the last numbers of its clients, and so many accepted commands. It takes all of its memory here.
     pub fn resume(
         alloc: Global,
         number: u16,
@@ -75,6 +80,7 @@ impl Verifier {
         entries: &[ListedEntry],
         at: Stamp,
         sums: &Sums,
+        numbers: &[u64],
         accepted: u64,
     ) -> Result<Self, Memory>
         requires header { IsHeader header.now }
@@ -88,15 +94,17 @@ impl Verifier {
         // The clock is not before the first epoch, and bounds the sums.
         requires from_first { header.now.first ≤ at.epoch }
         requires bounded { AreBounded sums.now (reading_at header.now.first header.now.end at) }
-        ensures resumed { IfOk result (λ verifier. verifier ≡ resumed_machine number header.now entries.now at sums.now accepted) }
+        ensures resumed { IfOk result (λ verifier. verifier ≡ resumed_machine number header.now entries.now at sums.now numbers.now accepted) }
     {
         let clock = Clock::resume(header.first, header.end, at);
         let state = EitherState::resume(alloc, header, entries, clock)?;
+        let numbers = copied(alloc, numbers)?;
         Ok(Verifier {
             number,
             header: *header,
             state,
             sums: *sums,
+            numbers,
             accepted,
         })
     }
@@ -129,14 +137,18 @@ impl Verifier {
             (stepped (scheme_of (D.functions d.now) self.old.header) self.old (ByPath command.now)) }
     {
         let before = *self.state.clock();
-        let applied = self.state.apply(d, self.number, &self.header, command);
+        let applied = self
+            .state
+            .apply(d, self.number, &self.header, &self.numbers, command);
         let answer = match &applied {
             Ok(answer) => answer,
             Err(refusal) => return Err(*refusal),
         };
         let at = self.state.clock().at();
-        let effect = effect_of(self.number, self.accepted, at, &self.sums, answer);
+        let signer = signer_of(command);
+        let effect = effect_of(self.number, self.accepted, at, &self.sums, signer, answer);
         self.sums.apply(&before, self.state.clock(), answer);
+        note_signer(&mut self.numbers, self.header.verifiers, signer);
         self.accepted += 1;
         Ok(effect)
     }
@@ -152,16 +164,18 @@ impl Verifier {
             (stepped (scheme_of (D.functions d.now) self.old.header) self.old (BySlot command.now)) }
     {
         let before = *self.state.clock();
-        let applied = self
-            .state
-            .apply_slots(d, self.number, &self.header, command);
+        let applied =
+            self.state
+                .apply_slots(d, self.number, &self.header, &self.numbers, command);
         let answer = match &applied {
             Ok(answer) => answer,
             Err(refusal) => return Err(*refusal),
         };
         let at = self.state.clock().at();
-        let effect = effect_of(self.number, self.accepted, at, &self.sums, answer);
+        let signer = signer_by_slot(command);
+        let effect = effect_of(self.number, self.accepted, at, &self.sums, signer, answer);
         self.sums.apply(&before, self.state.clock(), answer);
+        note_signer(&mut self.numbers, self.header.verifiers, signer);
         self.accepted += 1;
         Ok(effect)
     }
@@ -201,6 +215,13 @@ impl Verifier {
         &self.sums
     }
 
+    /// The last number that each of its clients has used, in their order: 0 before the client's first request.
+    pub fn numbers(&self) -> &[u64]
+        ensures value { result.now ≡ self.now.numbers }
+    {
+        &self.numbers
+    }
+
     /// The entries of its cache: by rising path with slot 0 where commands name paths, else by rising slot.
     pub fn listed(&self, alloc: Global) -> Result<Vec<ListedEntry>, Memory>
         ensures listed { IfOk result (λ listed. AreListedOf self.now.state.cache listed.items) }
@@ -230,16 +251,17 @@ impl Verifier {
     }
 }
 
-// What the verifier's next command answers that handed this up, at this stamp.
+// What the verifier's next command answers that was signed so and handed this up, at this stamp.
 fn effect_of<'a>(
     number: u16,
     accepted: u64,
     at: Stamp,
     sums: &Sums,
+    signer: Option<Signer>,
     answer: &Answer<'a>,
 ) -> Effect<'a>
     ensures value { (machine : Machine) → machine.number ≡ number → machine.accepted ≡ accepted → machine.sums ≡ sums.now
-        → result ≡ effect_by machine at answer.now }
+        → result ≡ effect_by machine signer at answer.now }
 {
     let (put, wide, key, value) = match answer {
         Answer::Get(wide, key, value) => (false, *wide, *key, value),
@@ -260,5 +282,16 @@ fn effect_of<'a>(
         | Answer::EvictBM(_) => return Effect::Plain,
     };
     let value = BlobRef::new(value.bytes());
-    Effect::Did(OperationRef::new(at, number, accepted, put, wide, key, value))
+    Effect::Did(OperationRef::new(
+        at, number, accepted, put, wide, key, value, signer,
+    ))
+}
+
+// The same numbers once more.
+fn copied(alloc: Global, numbers: &[u64]) -> Result<Vec<u64>, Memory>
+    ensures same { IfOk result (λ copied. copied.items ≡ numbers.now) }
+{
+    let mut copied = Vec::with_capacity(alloc, numbers.len())?;
+    copied.extend_from_slice(numbers)?;
+    Ok(copied)
 }
