@@ -11,7 +11,7 @@ use std::alloc::Global;
 use std::marker::Model;
 
 /// The clients of a bundle as one of its verifiers knows them: client c belongs to verifier c mod N.
-#[derive(Clone, Copy, Debug)]
+#[derive(Debug, Drop)]
 pub struct Clients<'a> {
     number: u16,
     verifiers: u16,

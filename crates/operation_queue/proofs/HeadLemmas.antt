@@ -26,7 +26,7 @@ value_in_front (Some n) bytes more within = ap (λ (value : List ℕ). Some valu
 operation_in_front : (head : Head) (bytes more : List ℕ) → bytes_of_len head.len ≤ length bytes
     → operation_of head (bytes ++ more) ≡ operation_of head bytes
 operation_in_front head bytes more within =
-    ap (λ (value : Option (List ℕ)). record { stamp = head.stamp; verifier = head.verifier; index = head.index; put = head.put; wide = head.wide; key = key_of_words head.key_high head.key_low; value = value })
+    ap (λ (value : Option (List ℕ)). record { stamp = head.stamp; verifier = head.verifier; index = head.index; put = head.put; wide = head.wide; key = key_of_words head.key_high head.key_low; value = value; signer = head.signer })
     (value_in_front head.len bytes more within)
 
 -- a value and its length

@@ -25,6 +25,7 @@ operation_of head bytes = record {
   wide = head.wide;
   key = key_of_words head.key_high head.key_low;
   value = option_map (λ len. take len bytes) head.len;
+  signer = head.signer;
 }
 
 -- the head of an operation
@@ -38,6 +39,7 @@ head_of operation = record {
   key_high = operation.key / 2 ^ 64;
   key_low = operation.key % 2 ^ 64;
   len = option_map (λ bytes. length bytes) operation.value;
+  signer = operation.signer;
 }
 
 -- the bytes of a data value: none of no value

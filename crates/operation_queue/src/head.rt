@@ -5,10 +5,10 @@ ghost use Rattle.record_text.specs.Longest.{longest_blob};
 ghost use Rattle.operation_queue.specs.Heads.{FitsBlob, bytes_in, bytes_of, bytes_of_len, head_of, key_of_words, operation_of};
 
 use lamport_clocks::Stamp;
-use record_text::{BlobRef, LONGEST_BLOB, OperationRef};
+use record_text::{BlobRef, LONGEST_BLOB, OperationRef, Signer};
 
-/// An operation without its value's bytes: 40 bytes. Its key is kept as two words, since a number of 128 bits would have it take
-/// 48.
+/// An operation without its value's bytes: 64 bytes. Its key is kept as two words, since a number of 128 bits would have it take
+/// more.
 #[derive(Clone, Copy, Debug)]
 pub(crate) struct Head {
     index: u64,
@@ -20,6 +20,7 @@ pub(crate) struct Head {
     wide: bool,
     // the length of its value, if it has one
     len: Option<u8>,
+    signer: Option<Signer>,
 }
 
 impl Head {
@@ -37,6 +38,7 @@ impl Head {
             put: operation.is_put(),
             wide: operation.is_wide(),
             len: len_of(operation.value()),
+            signer: operation.signer(),
         }
     }
 
@@ -75,6 +77,7 @@ impl Head {
             self.wide,
             self.key(),
             value,
+            self.signer,
         )
     }
 }

@@ -1,5 +1,5 @@
 -- Texts of receipts and certificates, field by field.
-use Rattle.std.proofs.Common.{◌≡◌, ◌≢◌, true, false, append-nil, ℕ, ◌+◌, ◌-◌, ◌<◌, ◌≤◌, ◌^◌, ◌==◌, eqb-true, Bool, List, [], ◌∷◌, ◌++◌, length, take, drop, get_or, Option, Some, Result, Ok, Err, refl, sym, ap, subst, ◌∙◌, arith, length-drop, length-take, length-append}
+use Rattle.std.proofs.Common.{◌≡◌, ◌≢◌, true, false, append-nil, ℕ, ◌+◌, ◌-◌, ◌<◌, ◌≤◌, ◌^◌, ◌==◌, eqb-true, Bool, List, [], ◌∷◌, ◌++◌, length, take, drop, get_or, Option, Some, None, Result, Ok, Err, refl, sym, ap, subst, ◌∙◌, arith, length-drop, length-take, length-append}
 use Rattle.std.specs.Int.{w16, w32, w64, byte_len, from_be_bytes, to_be_bytes}
 use Rattle.std.proofs.lemmas.List.{take_all, take_at, drop_at, take-append-drop}
 use Rattle.std.proofs.Math.Seq.{take-append_seam, drop-append_seam}
@@ -15,7 +15,7 @@ use Rattle.record_text.proofs.WideWordLaws.{wide_word}
 use Rattle.record_text.proofs.FieldLaws.{Ok-is, AreBytes, AreBytes-take, AreBytes-drop, wide16, wide32, wide64}
 use Rattle.record_text.specs.Longest.{longest_blob}
 use Rattle.receipts.specs.declared.tagged_texts.Certificate.{Certificate}
-use Rattle.receipts.specs.Receipts.{IsOperation, receipt_tag, kind_tag, receipt_text, certificate_text}
+use Rattle.receipts.specs.Receipts.{IsOperation, receipt_tag, kind_tag, receipt_text, without_signer, certificate_text}
 
 -- all that is left behind so many
 pub rest-is : (n : ℕ) (bytes : List ℕ) → take (length bytes - n) (drop n bytes) ≡ drop n bytes
@@ -82,14 +82,14 @@ in_tree wide own same = cc
 
 -- an operation of these fields
 made : (epoch counter verifier index key : ℕ) (put wide : Bool) (value : Option (List ℕ)) → Operation
-made epoch counter verifier index key put wide value = record { stamp = record { epoch = epoch; counter = counter }; verifier = verifier; index = index; put = put; wide = wide; key = key; value = value }
+made epoch counter verifier index key put wide value = record { stamp = record { epoch = epoch; counter = counter }; verifier = verifier; index = index; put = put; wide = wide; key = key; value = value; signer = None }
 
 made-same : (e e' c c' v v' i i' k k' : ℕ) (p p' w w' : Bool) (o o' : Option (List ℕ)) → e ≡ e' → c ≡ c' → v ≡ v' → i ≡ i' → k ≡ k' → Some p ≡ Some p' → Some w ≡ Some w' → Some o ≡ Some o' → Some (made e c v i k p w o) ≡ Some (made e' c' v' i' k' p' w' o')
 made-same e e' c c' v v' i i' k k' p p' w w' o o' es cs vs is ks ps ws os = cc
 
 -- so it is the one whose text it is
 pub operation-is : (operation : Operation) (epoch counter verifier index key : ℕ) (put wide : Bool) (value : Option (List ℕ)) → epoch ≡ operation.stamp.epoch → counter ≡ operation.stamp.counter → verifier ≡ operation.verifier → index ≡ operation.index → key ≡ operation.key → Some put ≡ Some operation.put → Some wide ≡ Some operation.wide → Some value ≡ Some operation.value
-    → (let read : Operation = record { stamp = record { epoch = epoch; counter = counter }; verifier = verifier; index = index; put = put; wide = wide; key = key; value = value } in Some read) ≡ Some operation
+    → (let read : Operation = record { stamp = record { epoch = epoch; counter = counter }; verifier = verifier; index = index; put = put; wide = wide; key = key; value = value; signer = None } in Some read) ≡ Some (without_signer operation)
 unfolding made
 operation-is operation epoch counter verifier index key put wide value e c v i k p w o =
     made-same epoch operation.stamp.epoch counter operation.stamp.counter verifier operation.verifier index operation.index key operation.key put operation.put wide operation.wide value operation.value e c v i k p w o
@@ -248,13 +248,13 @@ tree-one true true same = refl
 some-one : (a b : Operation) → Some a ≡ Some b → a ≡ b
 some-one a b same = cc
 
-pub receipts-one : (one other : Operation) → IsOperation one → IsOperation other → receipt_text one ≡ receipt_text other → one ≡ other
+pub receipts-one : (one other : Operation) → IsOperation one → IsOperation other → receipt_text one ≡ receipt_text other → without_signer one ≡ without_signer other
 receipts-one one other fits fits' same =
     let text = receipt_text one in
     let tree : one.wide ≡ other.wide = tree-one one.wide other.wide (sym (first-of one text refl) ∙ first-of other text same) in
     let own = behind-of one text refl in
     let others = behind-of other text same in
-    some-one one other
+    some-one (without_signer one) (without_signer other)
     (operation-is other one.stamp.epoch one.stamp.counter one.verifier one.index one.key one.put one.wide one.value
     (sym (epoch-of one text refl fits) ∙ epoch-of other text same fits')
     (sym (counter-of one text refl fits) ∙ counter-of other text same fits')

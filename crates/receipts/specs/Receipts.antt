@@ -1,5 +1,5 @@
 -- The texts of receipts and certificates. All numbers are big-endian.
-use Rattle.std.specs.Prelude.{ℕ, ◌<◌, ◌^◌, Bool, true, false, List, ◌∷◌, ◌++◌}
+use Rattle.std.specs.Prelude.{ℕ, ◌<◌, ◌^◌, Bool, true, false, List, ◌∷◌, ◌++◌, None}
 use Rattle.std.specs.Int.{w16, w32, w64, to_be_bytes}
 use Rattle.tree_keys.specs.Path.{key_bits}
 use Rattle.record_hash.specs.Functions.{DigestFunctions}
@@ -25,6 +25,10 @@ unfoldable pub receipt_text : Operation → List ℕ
 receipt_text operation =
     receipt_tag operation.wide ∷ stamp_text operation.stamp ++ to_be_bytes w16 operation.verifier ++ to_be_bytes w64 operation.index
     ++ kind_tag operation.put ∷ to_be_bytes (word_width operation.wide) operation.key ++ blob_text operation.value
+
+-- the operation as a receipt tells it: without who signed it
+abbrev pub without_signer : Operation → Operation
+without_signer operation = record operation { signer = None }
 
 -- 2; the first epoch, and the last that is certified
 unfoldable pub certificate_text : ℕ → ℕ → List ℕ

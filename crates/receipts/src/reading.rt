@@ -7,7 +7,7 @@ ghost use Rattle.record_text.specs.Value.{IsBlob};
 ghost use Rattle.record_text.specs.Texts.{blob_text};
 ghost use Rattle.record_text.specs.Longest.{longest_blob};
 ghost use Rattle.record_text.specs.Tree.{word_width};
-ghost use Rattle.receipts.specs.Receipts.{IsOperation, receipt_tag, kind_tag, receipt_text, certificate_text};
+ghost use Rattle.receipts.specs.Receipts.{IsOperation, receipt_tag, kind_tag, receipt_text, without_signer, certificate_text};
 
 use crate::issuing::{CERTIFICATE, CERTIFICATE_LEN, GET, PUT, RECEIPT, WIDE_RECEIPT};
 use crate::tagged_texts::{Certificate, Receipt, TAG_LEN};
@@ -25,7 +25,7 @@ pub fn read_receipt(bytes: &[u8]) -> Option<Receipt>
     // What is spelled so is read.
     ensures only { (operation : Operation) (tag : List ℕ) → IsOperation operation → length tag ≡ TAG_LEN
         → bytes.now ≡ receipt_text operation ++ tag
-        → result ≡ Some (record { operation = operation; tag = tag }) }
+        → result ≡ Some (record { operation = without_signer operation; tag = tag }) }
 {
     if bytes.len() < HEAD_LEN + TAG_LEN {
         return None;
@@ -64,7 +64,7 @@ fn operation_in(text: &[u8]) -> Option<Operation>
     ensures found { IfSome result (λ operation. text.now ≡ receipt_text operation) }
     ensures fits { IfSome result IsOperation }
     ensures only { (operation : Operation) → IsOperation operation → text.now ≡ receipt_text operation
-        → result ≡ Some operation }
+        → result ≡ Some (without_signer operation) }
 {
     let wide = tree_in(text[0])?;
     let put = kind_in(text[19])?;
@@ -81,7 +81,9 @@ fn operation_in(text: &[u8]) -> Option<Operation>
     };
     let verifier = u16_in(&text[9..11]);
     let index = u64_in(&text[11..19]);
-    Some(Operation::new(stamp, verifier, index, put, wide, key, value))
+    Some(Operation::new(
+        stamp, verifier, index, put, wide, key, value, None,
+    ))
 }
 
 // Of which tree the key is, by the first byte.

@@ -47,3 +47,9 @@ follows_slot lanes rules command whole old new result is follows =
     subst (λ (w : EitherState). Follows result (state_of w) (slot_state new) (answered lanes (perform_on rules (state_of w).cache (state_of w).clock (BySlot command)))) (sym is)
     (subst (Follows result (slot_state old) (slot_state new)) (answered_slot lanes (slot_transition rules old command))
     (follows_as slot_state result old new (answered lanes (slot_transition rules old command)) follows))
+
+-- What a state follows without the test of what must be signed, it follows with it where that is not met.
+tested_follows : (lanes : List ℕ → List ℕ) (met : Bool) (result : Result Answer Refusal) (old new : VerifierState) (step : VerifierStep) → met ≡ false → Follows result old new (answered lanes step)
+    → Follows result old new (answered lanes (test met refusals.Unsigned step))
+tested_follows lanes met result old new step is follows =
+    subst (λ (b : Bool). Follows result old new (answered lanes (test b refusals.Unsigned step))) (sym is) follows

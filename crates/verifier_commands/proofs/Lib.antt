@@ -13,6 +13,7 @@ pub mod BoundLaws
 pub mod InvertLaws
 pub mod TickLaws
 pub mod TraceLaws
+pub mod SignedLaws
 mod AlikeLemmas
 mod AlikeStepLemmas
 pub mod LikenessLaws

@@ -15,3 +15,4 @@ pub mod Answer
 pub mod Ticks
 pub mod Event
 pub mod Trace
+pub mod Signed

@@ -115,7 +115,6 @@ impl EitherState {
     }
 
     /// Applies a command that names paths, by the verifier of this number, under this header, with these last numbers of its clients.
-    #[tactic(auto, using(crate::proofs::EitherLemmas::unsigned_view))]
     pub(crate) fn apply<'a, D: Digests>(
         &mut self,
         d: &D,
@@ -158,7 +157,6 @@ impl EitherState {
     }
 
     /// Applies a command that names slots, by the verifier of this number, under this header, with these last numbers of its clients.
-    #[tactic(auto, using(crate::proofs::EitherLemmas::unsigned_view))]
     pub(crate) fn apply_slots<'a, D: Digests>(
         &mut self,
         d: &D,

@@ -1,4 +1,4 @@
-use Rattle.std.proofs.Common.{◌≡◌, ◌∙◌, ℕ, Bool, List, length, take, drop, sym, ap, arith}
+use Rattle.std.proofs.Common.{◌≡◌, ◌∙◌, ℕ, Bool, None, List, length, take, drop, sym, ap, arith}
 use Rattle.std.specs.Int.{byte_len, from_be_bytes}
 use Rattle.record_text.specs.Tree.{word_width}
 use Rattle.record_text.proofs.FieldLaws.{AreBytes}
@@ -44,7 +44,7 @@ returns-clause-found c =
     key-spelled c.in_ok-wide.wide (take c.key_len-2.result (drop 20 text)) c.key_in-key.result (cells text c.key_len-2.result 20 fits) len
     (c.key_in-key.ensures.value ∙ ap (from_be_bytes (word_width c.in_ok-wide.wide)) front) in
     rw c.new.ensures.value
-    (spelled text (record { stamp = record { epoch = c.u32_in.result; counter = c.u32_in-2.result }; verifier = c.u16_in-verifier.result; index = c.u64_in-index.result; put = c.in_ok-put.put; wide = c.in_ok-wide.wide; key = c.key_in-key.result; value = c.in_ok-value.value })
+    (spelled text (record { stamp = record { epoch = c.u32_in.result; counter = c.u32_in-2.result }; verifier = c.u16_in-verifier.result; index = c.u64_in-index.result; put = c.in_ok-put.put; wide = c.in_ok-wide.wide; key = c.key_in-key.result; value = c.in_ok-value.value; signer = None })
     c.key_len-2.result c.requires.long fits c.in_ok-wide.ensures.found c.u32_in.ensures.value c.u32_in-2.ensures.value c.u16_in-verifier.ensures.value c.u64_in-index.ensures.value
     c.in_ok-put.ensures.found key (sym back ∙ c.in_ok-value.ensures.found))
 
