@@ -17,7 +17,7 @@ use Rattle.verifier_commands.specs.Change.{Change}
 use Rattle.verifier_commands.specs.Machine.{opening_machine}
 use Rattle.verifier_commands.specs.VerifierState.{first_state}
 use Rattle.soundness.specs.History.{Event, log_events, histories_from, histories_of}
-use Rattle.soundness.specs.StateHistory.{Machinery, events_behind, events_from, rules_under, machinery_of}
+use Rattle.soundness.specs.StateHistory.{Machinery, events_behind, events_from, machinery_of, first_numbered}
 use Rattle.soundness.specs.Certified.{event_moment, order_of, order_up_to}
 use Rattle.soundness.specs.Clash.{none_evicted, first_clash}
 use Rattle.soundness.specs.Typed.{IsTyped, AreTyped}
@@ -61,7 +61,7 @@ module _ (longest : ℕ) (digest : Digest) {S C : Type 0} (machinery : Machinery
 
   stands_by : (number index : ℕ) (state : S) (told : Shown) (command : C) (step : Result (Change × S) Refusal) (event : Event) (part rest : List Event)
       (more : S → List Event) (after : S → S) → machinery.step state command ≡ step → IsTyped command → Shows state told
-      → events_behind machinery number index step more ≡ event ∷ part ++ rest → IsFresh told event.change
+      → events_behind machinery number index (machinery.signer command) step more ≡ event ∷ part ++ rest → IsFresh told event.change
       → ((next : S) → more next ≡ part ++ rest → Shows next (shown_after told event.change) → Shows (after next) (told_after (shown_after told event.change) part))
       → Shows (state_by state step after) (told_after told (event ∷ part))
   stands_by number index state told command (Err refusal) event part rest more after is typed stand events fresh further = absurd (cc)
@@ -214,8 +214,8 @@ module _ (functions : DigestFunctions) (header : Header) (logs : List (List LogC
           stand : HoldsEachOnce (state_behind scheme header logs front v)
               × ShowSame (shown_of (state_behind scheme header logs front v)) (told_after (opening_shown header v) (of_verifier event_moment v front))
           stand =
-              stands_after (longest_of header) functions.digest (machinery_of scheme header v) shown_of HoldsEachOnce (IsTyped (longest_of header))
-              (lawful (rules_under scheme header v)) v 0 (first_state v header) (opening_shown header v) log (of_verifier event_moment v front) part.0
+              stands_after (longest_of header) functions.digest (machinery_of scheme header v) numbered_shown NumberedOnce (IsTyped (longest_of header))
+              (numbered_lawful scheme header v) v 0 (first_numbered v header) (opening_shown header v) log (of_verifier event_moment v front) part.0
               (typed_log (longest_of header) logs v typed) (first_once v header, first_shown v header)
               (sym (events-from_state scheme (opening_machine v header) log) ∙ part.1)
               (part_fresh v (opening_shown header) front fresh)

@@ -20,13 +20,13 @@ use Rattle.verifier_commands.specs.Trace.{events_from}
 use Rattle.verifier_commands.proofs.TickLaws.{IsUpTo, up_to-trans, up_to-epoch, ticks-up_to}
 use Rattle.soundness.specs.History.{Event, log_events}
 use Rattle.soundness.specs.Certified.{event_moment, order_of}
-use Rattle.soundness.specs.StateHistory.{machinery_under}
+use Rattle.soundness.specs.StateHistory.{numbered_of}
 use Rattle.soundness.specs.PathHistory.{path_log_events}
 use Rattle.soundness.specs.IsHistory.{IsTicking, IsTimely}
 use Rattle.soundness.proofs.MachineryLemmas.{machinery_ticks}
 use Rattle.soundness.proofs.PathHistoryLaws.{path_log_timely}
-use Rattle.soundness.proofs.StateHistoryLemmas.{events-from_state}
-use Rattle.soundness.proofs.LogHistoryLemmas.{timely, log_timely}
+use Rattle.soundness.proofs.StateHistoryLemmas.{machinery_for, events-from_state}
+use Rattle.soundness.proofs.LogHistoryLemmas.{numbered_timely, log_timely}
 
 -- ---- the events of a log
 
@@ -35,8 +35,8 @@ pub events-tick : (scheme : Scheme) (machine : Machine) (commands : List LogComm
     → IsTicking machine.number machine.accepted machine.state.clock (events_from scheme machine commands)
 events-tick scheme machine commands =
     subst (IsTicking machine.number machine.accepted machine.state.clock) (sym (events-from_state scheme machine commands))
-    (machinery_ticks (machinery_under (rules_for scheme machine)) machine.number (λ state. state.clock) machine.accepted machine.state commands
-    (λ state. refl) (timely (rules_for scheme machine)))
+    (machinery_ticks (machinery_for scheme machine) machine.number (λ old. old.state.clock) machine.accepted (numbered_of machine) commands
+    (λ old. refl) (numbered_timely scheme machine.header machine.number))
 
 -- an event is of the verifier, of this index or a later one, and not before the stamp
 abbrev pub IsBehind : ℕ → ℕ → Stamp → Event → Type 0

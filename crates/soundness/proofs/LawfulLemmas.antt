@@ -13,7 +13,7 @@ use Rattle.record_text.specs.Tree.{wide_of}
 use Rattle.record_text.specs.Texts.{value_text}
 use Rattle.record_text.specs.Value.{IsOf, node_side, initial_value}
 use Rattle.log_codec.specs.declared.command.Command.{Command}
-use Rattle.log_codec.specs.declared.command.Command.TheVariants.{AddM, EvictM, AddB, EvictB, EvictBM, Get, Put, NextEpoch, Absent}
+use Rattle.log_codec.specs.declared.command.Command.TheVariants.{AddM, EvictM, AddB, EvictB, EvictBM, Get, Put, NextEpoch, Absent, SignedGet, SignedPut}
 use Rattle.soundness.specs.Typed.{IsPathTyped}
 use Rattle.merkle_records.specs.declared.cases.AddCase.{AddCase}
 use Rattle.merkle_records.specs.declared.cases.AddCase.TheVariants as cases
@@ -29,9 +29,10 @@ use Rattle.verifier_commands.specs.State.{opening, root_entry}
 use Rattle.verifier_commands.specs.Change.{Change}
 use Rattle.verifier_commands.specs.Changes.{Parent, Family, above, leads_to, is_deferred, has_digest, holds_wrong, is_by_digest, set_kid_on, add_by, add_under, evict_under, defer_under, absent_under, is_by_stamp}
 use Rattle.record_text.specs.Same.{same_value}
-use Rattle.verifier_commands.specs.Transition.{Rules, is_root, is_full, transition, add_m, evict_m, add_b, evict_b, evict_bm, get, put, absent, next_epoch}
+use Rattle.verifier_commands.specs.Transition.{unasked, Rules, asks, is_root, is_full, transition, add_m, evict_m, add_b, evict_b, evict_bm, get, put, absent, next_epoch}
 use Rattle.soundness.specs.Showing.{HasDone, shown_by, showing, ShowSame}
 use Rattle.verifier_commands.proofs.InvertLaws.{need-ok, and_then-ok, timed-ok}
+use Rattle.verifier_commands.proofs.AskLaws.{get-unasked, put-unasked}
 use Rattle.verifier_commands.proofs.TickLaws.{ticks_step}
 use Rattle.soundness.proofs.ToldLemmas.{did_shown, retold}
 use Rattle.soundness.proofs.MachineryLemmas.{EvictsItsOwn, IsTimelyDone, IsLawful}
@@ -240,7 +241,7 @@ pub data_tested : (path own : List Bool) → own ≡ path → not (is_data path)
 data_tested path own same is = subst IsData (sym same) (is-data path (not-false _ is))
 
 lawful_get : (rules : Rules) (state : State) (path : List Bool) (value : Value) (done : Change × State)
-    → AreDistinct state.cache.entries → get state path value ≡ Ok done → LeavesDistinct rules state done
+    → AreDistinct state.cache.entries → get state path value unasked ≡ Ok done → LeavesDistinct rules state done
 lawful_get rules state path value done distinct is =
     let xs = state.cache.entries in
     let entry = need-ok (entry_of path xs) _ _ done is in
@@ -257,7 +258,7 @@ lawful_get rules state path value done distinct is =
 
 lawful_put : (rules : Rules) (state : State) (path : List Bool) (value : Value) (done : Change × State)
     → IsOf rules.scheme.format.longest path value → AreDistinct state.cache.entries
-    → put state path value ≡ Ok done → LeavesDistinct rules state done
+    → put state path value unasked ≡ Ok done → LeavesDistinct rules state done
 lawful_put rules state path value done kind distinct is =
     let xs = state.cache.entries in
     let entry = need-ok (entry_of path xs) _ _ done is in
@@ -326,6 +327,10 @@ lawful_step rules state NextEpoch done ranges distinct is =
     lawful_next_epoch rules state done distinct is
 lawful_step rules state (Absent path parent) done ranges distinct is =
     lawful_absent rules state path parent done distinct is
+lawful_step rules state (SignedGet path value signature) done ranges distinct is =
+    lawful_get rules state path value done distinct (get-unasked state path value (asks rules signature) done is)
+lawful_step rules state (SignedPut path value signature) done ranges distinct is =
+    lawful_put rules state path value done ranges distinct (put-unasked state path value (asks rules signature) done is)
 
 -- An accepted command is lawful.
 pub path_lawful : (rules : Rules) (state : State) (command : Command) (done : Change × State)
@@ -392,6 +397,10 @@ own_step rules state (Put path value) done is =
     let entry = need-ok (entry_of path state.cache.entries) _ _ done is in
     let data_path = test-ok (not (is_data path)) _ _ done entry.2 in
     IfOk-at_ok (EvictsOwn rules.number) data_path.1 tt
+own_step rules state (SignedGet path value signature) done is =
+    own_step rules state (Get path value) done (get-unasked state path value (asks rules signature) done is)
+own_step rules state (SignedPut path value signature) done is =
+    own_step rules state (Put path value) done (put-unasked state path value (asks rules signature) done is)
 own_step rules state NextEpoch done is =
     let turn = timed-ok (advanced state.clock) _ done is in
     IfOk-at_ok (EvictsOwn rules.number) turn.2 tt

@@ -41,7 +41,7 @@ module _ {S C : Type 0} (machinery : Machinery S C) (number : ℕ) (reading : S 
 
   ticking_behind : (index : ℕ) (state : S) (command : C) (step : Result (Change × S) Refusal) (more : S → List Event) → IsClock → IsTimelyStep
       → machinery.step state command ≡ step → ((after : S) → IsTicking number (suc index) (reading after) (more after))
-      → IsTicking number index (reading state) (events_behind machinery number index step more)
+      → IsTicking number index (reading state) (events_behind machinery number index (machinery.signer command) step more)
   ticking_behind index state command (Ok done) more clock law is further =
       let step = law state command done is in (reading done.1, refl, refl, clock done.1, step.0, further done.1)
   ticking_behind index state command (Err refusal) more clock law is further = tt
@@ -58,7 +58,7 @@ module _ {S C : Type 0} (machinery : Machinery S C) (number : ℕ) (reading : S 
 
   own_behind : (index : ℕ) (state : S) (command : C) (step : Result (Change × S) Refusal) (more : S → List Event) → IsTimelyStep
       → machinery.step state command ≡ step → ((after : S) → EvictsOwn number (more after))
-      → EvictsOwn number (events_behind machinery number index step more)
+      → EvictsOwn number (events_behind machinery number index (machinery.signer command) step more)
   own_behind index state command (Ok done) more law is further =
       every-append (λ element. element.verifier ≡ number) (evicted_by done.0) (evicted_among (more done.1))
       (law state command done is).1 (further done.1)
@@ -92,7 +92,7 @@ module _ (longest : ℕ) (digest : Digest) {S C : Type 0} (machinery : Machinery
   chain_behind : (number index : ℕ) (state : S) (told : Shown) (command : C) (step : Result (Change × S) Refusal) (more : S → List Event) → IsLawfulStep
       → ShowSame (shows state) told → IsGood state → IsTyped command → machinery.step state command ≡ step
       → ((after : S) (told : Shown) → ShowSame (shows after) told → IsGood after → IsChain longest digest told (more after))
-      → IsChain longest digest told (events_behind machinery number index step more)
+      → IsChain longest digest told (events_behind machinery number index (machinery.signer command) step more)
   chain_behind number index state told command (Ok done) more law same good typed is further =
       let step = law state command done typed good is in (
         retold longest digest (shows state) told (shown_after (shows state) done.0) same done.0 step.did,

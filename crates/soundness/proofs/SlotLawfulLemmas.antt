@@ -13,7 +13,7 @@ use Rattle.record_text.specs.declared.value.Value.TheVariants as values
 use Rattle.record_text.specs.Value.{IsOf, IsBlob}
 use Rattle.record_text.specs.Same.{same_value}
 use Rattle.log_codec.specs.declared.slot_command.SlotCommand.{SlotCommand}
-use Rattle.log_codec.specs.declared.slot_command.SlotCommand.TheVariants.{AddM, EvictM, AddB, EvictB, EvictBM, Get, Put, NextEpoch, Absent}
+use Rattle.log_codec.specs.declared.slot_command.SlotCommand.TheVariants.{AddM, EvictM, AddB, EvictB, EvictBM, Get, Put, NextEpoch, Absent, SignedGet, SignedPut}
 use Rattle.verifier_cache.specs.declared.entry.Entry.{Entry}
 use Rattle.verifier_cache.specs.declared.entry.Hold.TheVariants.{B}
 use Rattle.verifier_cache.specs.Entry.{has_kid, new_entry, with_value}
@@ -194,7 +194,7 @@ lawful_evict_b rules state slot stamp done once is =
     })
 
 lawful_get : (rules : Rules) (state : SlotState) (slot : ℕ) (value : Option (List ℕ)) (done : Change × SlotState) → HasEachOnce state
-    → get state slot value ≡ Ok done → IsSlotLawful rules state done
+    → get state slot value unasked ≡ Ok done → IsSlotLawful rules state done
 lawful_get rules state slot value done once is =
     let entry = need-ok (entry_at state.slots slot) _ _ done is in
     let data_path = test-ok (not (is_data entry.0.path)) _ _ done entry.2 in
@@ -210,7 +210,7 @@ lawful_get rules state slot value done once is =
 
 lawful_put : (rules : Rules) (state : SlotState) (slot : ℕ) (value : Option (List ℕ)) (done : Change × SlotState)
     → IsBlob rules.scheme.format.longest value → HasEachOnce state
-    → put state slot value ≡ Ok done → IsSlotLawful rules state done
+    → put state slot value unasked ≡ Ok done → IsSlotLawful rules state done
 lawful_put rules state slot value done kind once is =
     let slots = state.slots in
     let xs = standing_in slots in
@@ -275,6 +275,10 @@ slot_lawful rules state (Get slot value) done typed once is = lawful_get rules s
 slot_lawful rules state (Put slot value) done typed once is = lawful_put rules state slot value done typed once is
 slot_lawful rules state NextEpoch done typed once is = lawful_next_epoch rules state done once is
 slot_lawful rules state (Absent path parent) done typed once is = lawful_absent rules state path parent done once is
+slot_lawful rules state (SignedGet slot value signature) done typed once is =
+    lawful_get rules state slot value done once (slot_get-unasked state slot value (asks rules signature) done is)
+slot_lawful rules state (SignedPut slot value signature) done typed once is =
+    lawful_put rules state slot value done typed once (slot_put-unasked state slot value (asks rules signature) done is)
 
 -- what was done evicts none but the verifier's own
 abbrev EvictsOwn : ℕ → Change × SlotState → Type 0
@@ -325,6 +329,10 @@ slot_own rules state (Put slot value) done is =
     let entry = need-ok (entry_at state.slots slot) _ _ done is in
     let data_path = test-ok (not (is_data entry.0.path)) _ _ done entry.2 in
     IfOk-at_ok (EvictsOwn rules.number) data_path.1 tt
+slot_own rules state (SignedGet slot value signature) done is =
+    slot_own rules state (Get slot value) done (slot_get-unasked state slot value (asks rules signature) done is)
+slot_own rules state (SignedPut slot value signature) done is =
+    slot_own rules state (Put slot value) done (slot_put-unasked state slot value (asks rules signature) done is)
 slot_own rules state NextEpoch done is =
     let turn = timed-ok (advanced state.clock) _ done is in
     IfOk-at_ok (EvictsOwn rules.number) turn.2 tt

@@ -8,9 +8,9 @@ use Rattle.stamp_order.specs.Merged.{of_verifier}
 use Rattle.verifier_cache.specs.declared.entry.Entry.{Entry}
 use Rattle.verifier_cache.specs.Cache.{entry_of, AreDistinct}
 use Rattle.verifier_commands.specs.Change.{Change}
-use Rattle.verifier_commands.specs.VerifierState.{AnyCache, by_path, by_slot, VerifierState, first_state}
+use Rattle.verifier_commands.specs.VerifierState.{AnyCache, by_path, by_slot, VerifierState}
 use Rattle.soundness.specs.History.{Event}
-use Rattle.soundness.specs.StateHistory.{Machinery, machinery_of}
+use Rattle.soundness.specs.StateHistory.{Machinery, machinery_of, first_numbered}
 use Rattle.soundness.specs.Certified.{event_moment}
 use Rattle.soundness.specs.Showing.{Shown}
 use Rattle.soundness.specs.SlotHistory.{standing_in}
@@ -49,8 +49,8 @@ state_after machinery state (command ∷ commands) (suc count) =
 -- the state of a verifier of logs behind these events of all verifiers
 abbrev pub state_behind : Scheme → Header → List (List LogCommand) → List Event → ℕ → VerifierState
 state_behind scheme header logs front v =
-    state_after (machinery_of scheme header v) (first_state v header) (get_or logs v [])
-    (length (of_verifier event_moment v front))
+    (state_after (machinery_of scheme header v) (first_numbered v header) (get_or logs v [])
+    (length (of_verifier event_moment v front))).state
 
 -- No path stands twice in any cache behind these events, and each cache shows just what is at these spots.
 abbrev pub CachesShow : Scheme → Header → List (List LogCommand) → List Event → Spots → Type 0

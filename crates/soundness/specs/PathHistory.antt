@@ -4,16 +4,19 @@ use Rattle.std.specs.Prelude.{ℕ, suc, List, [], ◌∷◌, Option}
 use Rattle.lamport_clocks.specs.declared.header.Header.{Header}
 use Rattle.record_text.specs.declared.refusal.Refusal.{Refusal}
 use Rattle.log_codec.specs.declared.command.Command.{Command}
+use Rattle.log_codec.specs.declared.log_command.LogCommand.TheVariants.{ByPath}
 use Rattle.merkle_records.specs.Scheme.{Scheme}
 use Rattle.verifier_commands.specs.declared.state.State.{State}
 use Rattle.verifier_commands.specs.State.{opening}
 use Rattle.verifier_commands.specs.Transition.{Rules, transition}
+use Rattle.verifier_commands.specs.VerifierState.{signer_in}
 use Rattle.soundness.specs.History.{Event}
 use Rattle.soundness.specs.StateHistory.{Machinery, events_from, refusal_from, rules_under}
 
 -- the machinery of a verifier whose commands name paths: their table, and its state's clock
 abbrev pub path_machinery_under : Rules → Machinery State Command
-path_machinery_under rules = record { step = transition rules; clock = λ state. state.clock.at }
+path_machinery_under rules =
+    record { step = transition rules; clock = λ state. state.clock.at; signer = λ command. signer_in (ByPath command) }
 
 -- the machinery of the verifier of this number under a header
 abbrev pub path_machinery_of : Scheme → Header → ℕ → Machinery State Command

@@ -1,5 +1,5 @@
 -- Commands whose values are of their paths' kinds. Whatever is read from a log is so.
-use Rattle.std.specs.Prelude.{ℕ, Bool, List}
+use Rattle.std.specs.Prelude.{ℕ, Bool, false, List}
 use Rattle.std.specs.List.{AllByRecursion}
 use Rattle.record_text.specs.Value.{IsOf, IsBlob}
 use Rattle.log_codec.specs.declared.command.Command.{Command}
@@ -21,6 +21,8 @@ IsPathTyped longest (paths.Get path value) = Unit {0}
 IsPathTyped longest (paths.Put path value) = IsOf longest path value
 IsPathTyped longest paths.NextEpoch = Unit {0}
 IsPathTyped longest (paths.Absent path parent) = Unit {0}
+IsPathTyped longest (paths.SignedGet path value signature) = Unit {0}
+IsPathTyped longest (paths.SignedPut path value signature) = IsOf longest path value
 
 -- the value that a command which names slots brings in is of its path's kind
 abbrev pub IsSlotTyped : ℕ → SlotCommand → Type 0
@@ -33,6 +35,8 @@ IsSlotTyped longest (slots.Get slot value) = Unit {0}
 IsSlotTyped longest (slots.Put slot value) = IsBlob longest value
 IsSlotTyped longest slots.NextEpoch = Unit {0}
 IsSlotTyped longest (slots.Absent path parent) = Unit {0}
+IsSlotTyped longest (slots.SignedGet slot value signature) = Unit {0}
+IsSlotTyped longest (slots.SignedPut slot value signature) = IsBlob longest value
 
 -- the value that a command brings in is of its path's kind
 abbrev pub IsTyped : ℕ → LogCommand → Type 0
@@ -46,9 +50,9 @@ AreTyped longest logs = AllByRecursion (AllByRecursion (IsTyped longest)) logs
 abbrev pub ArePathsTyped : ℕ → List (List Command) → Type 0
 ArePathsTyped longest logs = AllByRecursion (AllByRecursion (IsPathTyped longest)) logs
 
--- a typed command that names paths of this tree alone
+-- a typed command that names paths of this tree alone, and is not signed
 abbrev pub IsPathTypedIn : Bool → ℕ → Command → Type 0
-IsPathTypedIn wide longest command = IsCommandIn wide command × IsPathTyped longest command
+IsPathTypedIn wide longest command = IsCommandIn false wide command × IsPathTyped longest command
 
 -- the commands of each log are so
 abbrev pub ArePathsTypedIn : Bool → ℕ → List (List Command) → Type 0

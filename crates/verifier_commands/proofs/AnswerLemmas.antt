@@ -14,6 +14,7 @@ use Rattle.verifier_commands.specs.declared.effect.Effect.{Effect}
 use Rattle.verifier_commands.specs.declared.sums.Sums.{Sums}
 use Rattle.verifier_commands.specs.Outcome.{Outcome, AddM, EvictM, AddB, EvictB, EvictBM, Get, Put, NextEpoch, outcome_of, told}
 use Rattle.verifier_commands.specs.VerifierState.{VerifierState, VerifierStep, signer_in, perform}
+use Rattle.verifier_commands.specs.Transition.{rules_by}
 use Rattle.verifier_commands.specs.Machine.{Machine, effect_of, numbers_after, machine_after, concluded, stepped, rules_for}
 use Rattle.verifier_commands.specs.Answer.{answer_of, answered, sums_by, effect_by}
 
@@ -77,13 +78,15 @@ stepped_err : (scheme : Scheme) (machine : Machine) (command : LogCommand) (refu
 stepped_err scheme machine command refusal is = concluded_err scheme machine (signer_in command) (perform (rules_for scheme machine) machine.state command) refusal is
 
 -- what a state's step handed up where it refused, as the verifier's step
-pub refused_step : (functions : DigestFunctions) (whole machine : Machine) (command : LogCommand) (result : Result Answer Refusal) (refusal : Refusal) (new : VerifierState)
-    → machine ≡ whole → result ≡ Err refusal
-    → Follows result machine.state new (answered functions.lanes (perform (rules_for (scheme_of functions machine.header) machine) machine.state command))
+pub refused_step : (functions : DigestFunctions) (whole machine : Machine) (command : LogCommand) (result : Result Answer Refusal) (refusal : Refusal) (new : VerifierState) (last : List ℕ)
+    → machine ≡ whole → result ≡ Err refusal → last ≡ machine.numbers
+    → Follows result machine.state new (answered functions.lanes (perform (rules_by (scheme_of functions machine.header) machine.header machine.number last) machine.state command))
     → (stepped (scheme_of functions whole.header) whole command ≡ Err refusal) × (record machine { state = new } ≡ whole)
-refused_step functions whole machine command result refusal new view is follows =
+refused_step functions whole machine command result refusal new last view is kept follows =
+    let own : Follows result machine.state new (answered functions.lanes (perform (rules_for (scheme_of functions machine.header) machine) machine.state command)) =
+    subst (λ (n : List ℕ). Follows result machine.state new (answered functions.lanes (perform (rules_by (scheme_of functions machine.header) machine.header machine.number n) machine.state command))) kept follows in
     let both : (answered functions.lanes (perform (rules_for (scheme_of functions machine.header) machine) machine.state command) ≡ Err refusal) × (new ≡ machine.state) =
-    subst (λ (r : Result Answer Refusal). Follows r machine.state new (answered functions.lanes (perform (rules_for (scheme_of functions machine.header) machine) machine.state command))) is follows in (
+    subst (λ (r : Result Answer Refusal). Follows r machine.state new (answered functions.lanes (perform (rules_for (scheme_of functions machine.header) machine) machine.state command))) is own in (
       subst (λ (m : Machine). stepped (scheme_of functions m.header) m command ≡ Err refusal) view (stepped_err (scheme_of functions machine.header) machine command refusal both.0),
       ap (with_state machine) both.1 ∙ view,
     )
@@ -93,29 +96,31 @@ refused_step functions whole machine command result refusal new view is follows 
 
 -- and where it was taken
 pub taken_step : (functions : DigestFunctions) (whole machine : Machine) (command : LogCommand) (result : Result Answer Refusal) (answer : Answer) (new : VerifierState)
-    (before now : Reading) (at : Stamp) (effect : Effect) (sums : Sums) (signer : Option Signer) (numbers : List ℕ)
-    → machine ≡ whole → result ≡ Ok answer
-    → Follows result machine.state new (answered functions.lanes (perform (rules_for (scheme_of functions machine.header) machine) machine.state command))
+    (before now : Reading) (at : Stamp) (effect : Effect) (sums : Sums) (signer : Option Signer) (last numbers : List ℕ)
+    → machine ≡ whole → result ≡ Ok answer → last ≡ machine.numbers
+    → Follows result machine.state new (answered functions.lanes (perform (rules_by (scheme_of functions machine.header) machine.header machine.number last) machine.state command))
     → now ≡ new.clock → at ≡ now.at → signer ≡ signer_in command → effect ≡ effect_by machine signer at answer
     → before ≡ machine.state.clock → sums ≡ sums_by before.at.epoch machine.sums answer → numbers ≡ numbers_after machine.header.verifiers machine.numbers signer
     → stepped (scheme_of functions whole.header) whole command
         ≡ Ok (effect, record machine { state = new; sums = sums; numbers = numbers; accepted = machine.accepted + 1 })
-taken_step functions whole machine command result answer new before now at effect sums signer numbers view is follows clock stamp signed answers earlier summed noted =
+taken_step functions whole machine command result answer new before now at effect sums signer last numbers view is kept follows clock stamp signed answers earlier summed noted =
+    let own : Follows result machine.state new (answered functions.lanes (perform (rules_for (scheme_of functions machine.header) machine) machine.state command)) =
+    subst (λ (n : List ℕ). Follows result machine.state new (answered functions.lanes (perform (rules_by (scheme_of functions machine.header) machine.header machine.number n) machine.state command))) kept follows in
     let taken : answered functions.lanes (perform (rules_for (scheme_of functions machine.header) machine) machine.state command) ≡ Ok (answer, new) =
-    subst (λ (r : Result Answer Refusal). Follows r machine.state new (answered functions.lanes (perform (rules_for (scheme_of functions machine.header) machine) machine.state command))) is follows in
+    subst (λ (r : Result Answer Refusal). Follows r machine.state new (answered functions.lanes (perform (rules_for (scheme_of functions machine.header) machine) machine.state command))) is own in
     let effects : effect_by machine (signer_in command) new.clock.at answer ≡ effect =
     sym (answers
     ∙ (ap (λ (o : Option Signer). effect_by machine o at answer) signed
     ∙ ap (λ (t : Stamp). effect_by machine (signer_in command) t answer) (stamp ∙ ap (λ (c : Reading). c.at) clock))) in
     let sum : sums_by machine.state.clock.at.epoch machine.sums answer ≡ sums =
     sym (summed ∙ ap (λ (c : Reading). sums_by c.at.epoch machine.sums answer) earlier) in
-    let last : numbers_after machine.header.verifiers machine.numbers (signer_in command) ≡ numbers =
+    let noted_last : numbers_after machine.header.verifiers machine.numbers (signer_in command) ≡ numbers =
     sym (noted ∙ ap (λ (o : Option Signer). numbers_after machine.header.verifiers machine.numbers o) signed) in
     subst (λ (m : Machine). stepped (scheme_of functions m.header) m command ≡ Ok (effect, behind machine sums numbers)) view
     (stepped_ok (scheme_of functions machine.header) machine command answer new taken
     ∙ (ap (λ (e : Effect). let step : Result (Effect × Machine) Refusal = Ok (e, machine_by machine (signer_in command) answer new) in step) effects
     ∙ (ap (λ (t : Sums). let step : Result (Effect × Machine) Refusal = Ok (effect, behind machine t (numbers_after machine.header.verifiers machine.numbers (signer_in command))) in step) sum
-    ∙ ap (λ (n : List ℕ). let step : Result (Effect × Machine) Refusal = Ok (effect, behind machine sums n) in step) last)))
+    ∙ ap (λ (n : List ℕ). let step : Result (Effect × Machine) Refusal = Ok (effect, behind machine sums n) in step) noted_last)))
   where
     behind : Machine → Sums → List ℕ → Machine
     behind machine sums numbers = record machine { state = new; sums = sums; numbers = numbers; accepted = machine.accepted + 1 }

@@ -11,6 +11,7 @@ mod ResumeLemmas
 mod AnswerLemmas
 pub mod BoundLaws
 pub mod InvertLaws
+pub mod AskLaws
 pub mod TickLaws
 pub mod TraceLaws
 pub mod SignedLaws

@@ -1,5 +1,5 @@
 -- Of requests that must be signed: the command of each operation carries its client's tag, and the numbers of a client rise.
-use Rattle.std.proofs.Common.{◌≡◌, ◌≢◌, ℕ, zero, suc, ◌+◌, ◌/◌, ◌%◌, ◌==◌, ◌<◌, ◌≤◌, ◌&&◌, nat_le, Bool, true, false, not, is_some, List, [], ◌∷◌, ◌++◌, length, slice_get, get_or, replicate, Option, Some, None, Result, Ok, Err, if◌then◌else◌, refl, sym, ◌∙◌, ap, subst, arith, length-set}
+use Rattle.std.proofs.Common.{◌≡◌, ◌≢◌, ℕ, zero, suc, ◌+◌, ◌/◌, ◌%◌, ◌==◌, ◌<◌, ◌≤◌, ◌&&◌, nat_le, Bool, true, false, not, is_some, List, [], ◌∷◌, ◌++◌, length, slice_get, get_or, replicate, Option, Some, None, Result, Ok, Err, if◌then◌else◌, refl, sym, ◌∙◌, ap, subst, arith, length-set, length-append}
 use Rattle.std.specs.List.{AllByRecursion}
 use Rattle.std.specs.Option.{option_map}
 use Rattle.std.proofs.lemmas.Bool.{not-false, eqb-true, eqb-false, false≢true}
@@ -43,7 +43,7 @@ use Rattle.verifier_commands.specs.Change.{Change}
 use Rattle.verifier_commands.specs.Changes.{add_under, evict_under, defer_under, absent_under, is_by_stamp}
 use Rattle.verifier_commands.specs.Outcome.{blob_of}
 use Rattle.verifier_commands.specs.Event.{Event, operation_at, operations_by}
-use Rattle.verifier_commands.specs.Transition.{Rules, rules_by, clients_of, Ask, asked, asks, is_root, is_full, transition}
+use Rattle.verifier_commands.specs.Transition.{Rules, rules_by, signing_clients, clients_of, Ask, asked, asks, is_root, is_full, transition}
 use Rattle.verifier_commands.specs.SlotTransition.{slot_transition}
 use Rattle.verifier_commands.specs.VerifierState.{AnyCache, by_path, by_slot, VerifierState, VerifierStep, is_unsigned_path, is_unsigned_slot, is_unsigned, path_signature, slot_signature, signature_in, signer_in, perform_on, perform}
 use Rattle.verifier_commands.specs.Machine.{Machine, opening_machine, numbers_after, rules_for}
@@ -83,14 +83,18 @@ module _ (scheme : Scheme) (header : Header) (number : ℕ) (numbers : List ℕ)
     subst (IsNextBy header number numbers) (sym none) tt,
   )
 
+  -- all clients can sign requests
+  all_sign : is_signed header ≡ true → signing_clients header ≡ header.clients
+  all_sign version = ap (λ (b : Bool). if b then header.clients else 0) version
+
   -- a signature that was permitted
   right : (wide : Bool) (request : Request) (signature : Signature) (done : Unit {0}) → permit scheme.client_tag (clients_of header number numbers) wide request signature ≡ Ok done
       → IsRight scheme.client_tag (clients_of header number numbers) wide request signature
   right wide request signature done is = right_if_permitted scheme.client_tag (clients_of header number numbers) wide request signature is
 
-  next : (wide : Bool) (request : Request) (signature : Signature) → IsRight scheme.client_tag (clients_of header number numbers) wide request signature
+  next : (wide : Bool) (request : Request) (signature : Signature) → is_signed header ≡ true → IsRight scheme.client_tag (clients_of header number numbers) wide request signature
       → IsNext header number numbers (signer_of signature)
-  next wide request signature is = record { there = is.there; own = is.own; later = is.later }
+  next wide request signature version is = record { there = omega (arith, is.there, all_sign version); own = is.own; later = is.later }
 
   -- the tag of an operation on an entry, whose path is this one and whose data value is this one
   carries : (command : LogCommand) (put : Bool) (path : List Bool) (entry : Entry) (value : Option (List ℕ)) (signature : Signature) (event : Event)
@@ -111,48 +115,48 @@ module _ (scheme : Scheme) (header : Header) (number : ℕ) (numbers : List ℕ)
 
   -- ---- a command that names paths
 
-  path_signed : (state : State) (command : Command) (done : Change × State) → is_unsigned_path command ≡ false
+  path_signed : (state : State) (command : Command) (done : Change × State) → is_signed header ≡ true → is_unsigned_path command ≡ false
       → transition (rules_by scheme header number numbers) state command ≡ Ok done → SignedSo (ByPath command) done.0
-  path_signed state (paths.AddM path value parent) done signed is = quiet _ done.0 refl
+  path_signed state (paths.AddM path value parent) done version signed is = quiet _ done.0 refl
       (subst (Leaves (LeavesQuiet state)) is
       (test-leaves (LeavesQuiet state) (is_root path) _ _
       (test-leaves (LeavesQuiet state) (is_some (entry_of path state.cache.entries)) _ _
       (test-leaves (LeavesQuiet state) (is_full state) _ _
       (need-leaves (LeavesQuiet state) (entry_of parent state.cache.entries) _ _ (λ holder.
       and_then-leaves (LeavesQuiet state) (add_under scheme.digest holder path value) _ (λ family event. refl)))))))
-  path_signed state (paths.EvictM path parent) done signed is = quiet _ done.0 refl
+  path_signed state (paths.EvictM path parent) done version signed is = quiet _ done.0 refl
       (subst (Leaves (LeavesQuiet state)) is
       (test-leaves (LeavesQuiet state) (is_root path) _ _
       (need-leaves (LeavesQuiet state) (entry_of path state.cache.entries) _ _ (λ child.
       need-leaves (LeavesQuiet state) (entry_of parent state.cache.entries) _ _ (λ holder.
       and_then-leaves (LeavesQuiet state) (evict_under scheme.digest holder child) _ (λ after event. refl))))))
-  path_signed state (paths.AddB path value stamp verifier) done signed is = quiet _ done.0 refl
+  path_signed state (paths.AddB path value stamp verifier) done version signed is = quiet _ done.0 refl
       (subst (Leaves (LeavesQuiet state)) is
       (test-leaves (LeavesQuiet state) (is_root path) _ _
       (test-leaves (LeavesQuiet state) (is_some (entry_of path state.cache.entries)) _ _
       (test-leaves (LeavesQuiet state) (is_full state) _ _
       (test-leaves (LeavesQuiet state) (nat_le header.verifiers verifier) _ _
       (timed-leaves (LeavesQuiet state) (received state.clock stamp) _ (λ clock event. refl)))))))
-  path_signed state (paths.EvictB path stamp) done signed is = quiet _ done.0 refl
+  path_signed state (paths.EvictB path stamp) done version signed is = quiet _ done.0 refl
       (subst (Leaves (LeavesQuiet state)) is
       (test-leaves (LeavesQuiet state) (is_root path) _ _
       (need-leaves (LeavesQuiet state) (entry_of path state.cache.entries) _ _ (λ child.
       test-leaves (LeavesQuiet state) (has_kid child) _ _
       (test-leaves (LeavesQuiet state) (not (is_by_stamp child.hold)) _ _
       (timed-leaves (LeavesQuiet state) (sent state.clock stamp) _ (λ clock event. refl)))))))
-  path_signed state (paths.EvictBM path parent stamp) done signed is = quiet _ done.0 refl
+  path_signed state (paths.EvictBM path parent stamp) done version signed is = quiet _ done.0 refl
       (subst (Leaves (LeavesQuiet state)) is
       (test-leaves (LeavesQuiet state) (is_root path) _ _
       (need-leaves (LeavesQuiet state) (entry_of path state.cache.entries) _ _ (λ child.
       need-leaves (LeavesQuiet state) (entry_of parent state.cache.entries) _ _ (λ holder.
       and_then-leaves (LeavesQuiet state) (defer_under holder child) _ (λ after.
       timed-leaves (LeavesQuiet state) (sent state.clock stamp) _ (λ clock event. refl)))))))
-  path_signed state (paths.Get path value) done signed is = absurd (false≢true (sym signed))
-  path_signed state (paths.Put path value) done signed is = absurd (false≢true (sym signed))
-  path_signed state paths.NextEpoch done signed is = quiet _ done.0 refl
+  path_signed state (paths.Get path value) done version signed is = absurd (false≢true (sym signed))
+  path_signed state (paths.Put path value) done version signed is = absurd (false≢true (sym signed))
+  path_signed state paths.NextEpoch done version signed is = quiet _ done.0 refl
       (subst (Leaves (LeavesQuiet state)) is (timed-leaves (LeavesQuiet state) (advanced state.clock) _ (λ turn event. refl)))
-  path_signed state (paths.Absent path parent) done signed is = absurd (false≢true (sym signed))
-  path_signed state (paths.SignedGet path value signature) done signed is =
+  path_signed state (paths.Absent path parent) done version signed is = absurd (false≢true (sym signed))
+  path_signed state (paths.SignedGet path value signature) done version signed is =
       let rules : Rules = rules_by scheme header number numbers in
       let request : Request = record { put = false; key = key_of path; value = blob_of value } in
       let entry = need-ok (entry_of path state.cache.entries) _ _ done is in
@@ -165,9 +169,9 @@ module _ (scheme : Scheme) (header : Header) (number : ℕ) (numbers : List ℕ)
       (
         λ event told. subst (λ (d : Result (Change × State) Refusal). Leaves (λ (one : Change × State). AllByRecursion (CarriesTag scheme (ByPath (paths.SignedGet path value signature))) (operations_by event one.0)) d) same.1
             (carries (ByPath (paths.SignedGet path value signature)) false path entry.0 (blob_of value) signature event refl told there holds permitted, tt),
-        next (tree_of path) request signature permitted,
+        next (tree_of path) request signature version permitted,
       )
-  path_signed state (paths.SignedPut path value signature) done signed is =
+  path_signed state (paths.SignedPut path value signature) done version signed is =
       let rules : Rules = rules_by scheme header number numbers in
       let request : Request = record { put = true; key = key_of path; value = blob_of value } in
       let entry = need-ok (entry_of path state.cache.entries) _ _ done is in
@@ -178,53 +182,53 @@ module _ (scheme : Scheme) (header : Header) (number : ℕ) (numbers : List ℕ)
       (
         λ event told. subst (λ (d : Result (Change × State) Refusal). Leaves (λ (one : Change × State). AllByRecursion (CarriesTag scheme (ByPath (paths.SignedPut path value signature))) (operations_by event one.0)) d) asking.2
             (carries (ByPath (paths.SignedPut path value signature)) true path (record entry.0 { value = value }) (blob_of value) signature event refl told there refl permitted, tt),
-        next (tree_of path) request signature permitted,
+        next (tree_of path) request signature version permitted,
       )
 
   -- ---- a command that names slots
 
-  slot_signed : (state : SlotState) (command : SlotCommand) (done : Change × SlotState) → is_unsigned_slot command ≡ false
+  slot_signed : (state : SlotState) (command : SlotCommand) (done : Change × SlotState) → is_signed header ≡ true → is_unsigned_slot command ≡ false
       → slot_transition (rules_by scheme header number numbers) state command ≡ Ok done → SignedSo (BySlot command) done.0
-  slot_signed state (slots.AddM slot path value parent) done signed is = quiet _ done.0 refl
+  slot_signed state (slots.AddM slot path value parent) done version signed is = quiet _ done.0 refl
       (subst (Leaves (LeavesQuietSlots state)) is
       (test-leaves (LeavesQuietSlots state) (is_root path) _ _
       (test-leaves (LeavesQuietSlots state) (not (is_slot state.slots slot)) _ _
       (test-leaves (LeavesQuietSlots state) (is_some (entry_at state.slots slot)) _ _
       (need-leaves (LeavesQuietSlots state) (entry_at state.slots parent) _ _ (λ holder.
       and_then-leaves (LeavesQuietSlots state) (add_under scheme.digest holder path value) _ (λ family event. refl)))))))
-  slot_signed state (slots.EvictM slot parent) done signed is = quiet _ done.0 refl
+  slot_signed state (slots.EvictM slot parent) done version signed is = quiet _ done.0 refl
       (subst (Leaves (LeavesQuietSlots state)) is
       (need-leaves (LeavesQuietSlots state) (entry_at state.slots slot) _ _ (λ child.
       test-leaves (LeavesQuietSlots state) (is_root child.path) _ _
       (need-leaves (LeavesQuietSlots state) (entry_at state.slots parent) _ _ (λ holder.
       and_then-leaves (LeavesQuietSlots state) (evict_under scheme.digest holder child) _ (λ after event. refl))))))
-  slot_signed state (slots.AddB slot path value stamp verifier) done signed is = quiet _ done.0 refl
+  slot_signed state (slots.AddB slot path value stamp verifier) done version signed is = quiet _ done.0 refl
       (subst (Leaves (LeavesQuietSlots state)) is
       (test-leaves (LeavesQuietSlots state) (is_root path) _ _
       (test-leaves (LeavesQuietSlots state) (not (is_slot state.slots slot)) _ _
       (test-leaves (LeavesQuietSlots state) (is_some (entry_at state.slots slot)) _ _
       (test-leaves (LeavesQuietSlots state) (nat_le header.verifiers verifier) _ _
       (timed-leaves (LeavesQuietSlots state) (received state.clock stamp) _ (λ clock event. refl)))))))
-  slot_signed state (slots.EvictB slot stamp) done signed is = quiet _ done.0 refl
+  slot_signed state (slots.EvictB slot stamp) done version signed is = quiet _ done.0 refl
       (subst (Leaves (LeavesQuietSlots state)) is
       (need-leaves (LeavesQuietSlots state) (entry_at state.slots slot) _ _ (λ child.
       test-leaves (LeavesQuietSlots state) (is_root child.path) _ _
       (test-leaves (LeavesQuietSlots state) (has_kid child) _ _
       (test-leaves (LeavesQuietSlots state) (not (is_by_stamp child.hold)) _ _
       (timed-leaves (LeavesQuietSlots state) (sent state.clock stamp) _ (λ clock event. refl)))))))
-  slot_signed state (slots.EvictBM slot parent stamp) done signed is = quiet _ done.0 refl
+  slot_signed state (slots.EvictBM slot parent stamp) done version signed is = quiet _ done.0 refl
       (subst (Leaves (LeavesQuietSlots state)) is
       (need-leaves (LeavesQuietSlots state) (entry_at state.slots slot) _ _ (λ child.
       test-leaves (LeavesQuietSlots state) (is_root child.path) _ _
       (need-leaves (LeavesQuietSlots state) (entry_at state.slots parent) _ _ (λ holder.
       and_then-leaves (LeavesQuietSlots state) (defer_under holder child) _ (λ after.
       timed-leaves (LeavesQuietSlots state) (sent state.clock stamp) _ (λ clock event. refl)))))))
-  slot_signed state (slots.Get slot value) done signed is = absurd (false≢true (sym signed))
-  slot_signed state (slots.Put slot value) done signed is = absurd (false≢true (sym signed))
-  slot_signed state slots.NextEpoch done signed is = quiet _ done.0 refl
+  slot_signed state (slots.Get slot value) done version signed is = absurd (false≢true (sym signed))
+  slot_signed state (slots.Put slot value) done version signed is = absurd (false≢true (sym signed))
+  slot_signed state slots.NextEpoch done version signed is = quiet _ done.0 refl
       (subst (Leaves (LeavesQuietSlots state)) is (timed-leaves (LeavesQuietSlots state) (advanced state.clock) _ (λ turn event. refl)))
-  slot_signed state (slots.Absent path parent) done signed is = absurd (false≢true (sym signed))
-  slot_signed state (slots.SignedGet slot value signature) done signed is =
+  slot_signed state (slots.Absent path parent) done version signed is = absurd (false≢true (sym signed))
+  slot_signed state (slots.SignedGet slot value signature) done version signed is =
       let rules : Rules = rules_by scheme header number numbers in
       let entry = need-ok (entry_at state.slots slot) _ _ done is in
       let request : Request = record { put = false; key = key_of entry.0.path; value = value } in
@@ -236,9 +240,9 @@ module _ (scheme : Scheme) (header : Header) (number : ℕ) (numbers : List ℕ)
       (
         λ event told. subst (λ (d : Result (Change × SlotState) Refusal). Leaves (λ (one : Change × SlotState). AllByRecursion (CarriesTag scheme (BySlot (slots.SignedGet slot value signature))) (operations_by event one.0)) d) same.1
             (carries (BySlot (slots.SignedGet slot value signature)) false entry.0.path entry.0 value signature event refl told refl holds permitted, tt),
-        next (tree_of entry.0.path) request signature permitted,
+        next (tree_of entry.0.path) request signature version permitted,
       )
-  slot_signed state (slots.SignedPut slot value signature) done signed is =
+  slot_signed state (slots.SignedPut slot value signature) done version signed is =
       let rules : Rules = rules_by scheme header number numbers in
       let entry = need-ok (entry_at state.slots slot) _ _ done is in
       let request : Request = record { put = true; key = key_of entry.0.path; value = value } in
@@ -248,23 +252,23 @@ module _ (scheme : Scheme) (header : Header) (number : ℕ) (numbers : List ℕ)
       (
         λ event told. subst (λ (d : Result (Change × SlotState) Refusal). Leaves (λ (one : Change × SlotState). AllByRecursion (CarriesTag scheme (BySlot (slots.SignedPut slot value signature))) (operations_by event one.0)) d) asking.2
             (carries (BySlot (slots.SignedPut slot value signature)) true entry.0.path (with_value entry.0 (values.Blob value)) value signature event refl told refl refl permitted, tt),
-        next (tree_of entry.0.path) request signature permitted,
+        next (tree_of entry.0.path) request signature version permitted,
       )
 
   -- ---- a command of either kind
 
-  on_signed : (cache : AnyCache) (clock : Reading) (command : LogCommand) (done : Change × VerifierState) → is_unsigned command ≡ false
+  on_signed : (cache : AnyCache) (clock : Reading) (command : LogCommand) (done : Change × VerifierState) → is_signed header ≡ true → is_unsigned command ≡ false
       → perform_on (rules_by scheme header number numbers) cache clock command ≡ Ok done → SignedSo command done.0
-  on_signed (by_path held) clock (ByPath command) done signed is =
+  on_signed (by_path held) clock (ByPath command) done version signed is =
       let state : State = record { cache = held; clock = clock } in
       let own = path_step-ok (transition (rules_by scheme header number numbers) state command) done is in
-      subst (λ (d : Change × VerifierState). SignedSo (ByPath command) d.0) (sym own.2) (path_signed state command own.0 signed own.1)
-  on_signed (by_path held) clock (BySlot command) done signed is = absurd (cc)
-  on_signed (by_slot kept) clock (ByPath command) done signed is = absurd (cc)
-  on_signed (by_slot kept) clock (BySlot command) done signed is =
+      subst (λ (d : Change × VerifierState). SignedSo (ByPath command) d.0) (sym own.2) (path_signed state command own.0 version signed own.1)
+  on_signed (by_path held) clock (BySlot command) done version signed is = absurd (cc)
+  on_signed (by_slot kept) clock (ByPath command) done version signed is = absurd (cc)
+  on_signed (by_slot kept) clock (BySlot command) done version signed is =
       let state : SlotState = record { slots = kept; clock = clock } in
       let own = slot_step-ok (slot_transition (rules_by scheme header number numbers) state command) done is in
-      subst (λ (d : Change × VerifierState). SignedSo (BySlot command) d.0) (sym own.2) (slot_signed state command own.0 signed own.1)
+      subst (λ (d : Change × VerifierState). SignedSo (BySlot command) d.0) (sym own.2) (slot_signed state command own.0 version signed own.1)
 
   -- Where requests must be signed, what was accepted is signed so.
   pub signed_so : (state : VerifierState) (command : LogCommand) (done : Change × VerifierState) → is_signed header ≡ true
@@ -272,7 +276,7 @@ module _ (scheme : Scheme) (header : Header) (number : ℕ) (numbers : List ℕ)
   signed_so state command done version is =
       let tested = test-ok (is_signed header && is_unsigned command) _ _ done is in
       let signed : is_unsigned command ≡ false = sym (ap (λ (b : Bool). b && is_unsigned command) version) ∙ tested.0 in
-      on_signed state.cache state.clock command done signed tested.1
+      on_signed state.cache state.clock command done version signed tested.1
 
 -- ---- the numbers of a client
 
@@ -341,7 +345,7 @@ numbers-rise scheme machine (command ∷ commands) client version has own =
     (λ after. numbers-rise scheme after commands client)
 
 -- before the first request the last number of each client is 0
-none_used : (count place : ℕ) → get_or (replicate count 0) place 0 ≡ 0
+none_used : (count place : ℕ) → (let none : ℕ = 0 in get_or (replicate count none) place none ≡ none)
 none_used zero place = refl
 none_used (suc count) zero = refl
 none_used (suc count) (suc place) = none_used count place
@@ -396,8 +400,7 @@ regroup [] command commands = refl
 regroup (first ∷ front) command commands = ap (λ (log : List LogCommand). first ∷ log) (regroup front command commands)
 
 one_longer : (front : List LogCommand) (command : LogCommand) → length (front ++ command ∷ []) ≡ length front + 1
-one_longer [] command = refl
-one_longer (first ∷ front) command = ap suc (one_longer front command)
+one_longer front command = omega (arith, length-append front (command ∷ []))
 
 authorized-behind : (scheme : Scheme) (front : List LogCommand) (machine : Machine) (command : LogCommand) (commands : List LogCommand) (step : VerifierStep)
     → perform (rules_for scheme machine) machine.state command ≡ step → is_signed machine.header ≡ true → length front ≡ machine.accepted

@@ -1,5 +1,5 @@
 -- An accepted command leaves the kind and the size of the cache, and the bounds of the clock.
-use Rattle.std.proofs.Common.{◌≡◌, ℕ, ◌&&◌, ◌≤◌, length, Result, Ok, not, nat_le, is_some, refl, sym, ap, subst}
+use Rattle.std.proofs.Common.{◌≡◌, ℕ, ◌&&◌, true, false, ◌≤◌, length, Result, Ok, not, nat_le, is_some, refl, sym, ap, subst}
 use Rattle.tree_keys.specs.Path.{is_data}
 use Rattle.lamport_clocks.specs.declared.header.Header.{Header}
 use Rattle.lamport_clocks.specs.Reading.{Reading, SameBounds}

@@ -1,5 +1,5 @@
 -- How the clock moves with what a command did, which of two readings is later, and that the clock never falls.
-use Rattle.std.proofs.Common.{◌≡◌, ◌&&◌, ◌<◌, ◌≤◌, ◌⊎◌, inl, inr, not, nat_le, is_some, Ok, Err, refl, sym, ◌∙◌, ap, subst, arith}
+use Rattle.std.proofs.Common.{◌≡◌, ◌&&◌, true, false, ◌<◌, ◌≤◌, ◌⊎◌, inl, inr, not, nat_le, is_some, Ok, Err, refl, sym, ◌∙◌, ap, subst, arith}
 use Rattle.std.proofs.lemmas.Result.{IfOk-at_ok}
 use Rattle.tree_keys.specs.Path.{is_data}
 use Rattle.lamport_clocks.specs.declared.stamp.Stamp.{Stamp}

@@ -1,7 +1,7 @@
 -- The transition of a verifier whose commands name slots: what each command does, or the first refusal. What it does to
 -- entries is what a command that names paths does; only how they are looked up is another. The tests stand in the one
 -- order in which they are made.
-use Rattle.std.specs.Prelude.{ℕ, ◌-◌, ◌==◌, nat_le, Bool, not, List, ◌∷◌, is_some, Some, None, Option, Result, Ok, if◌then◌else◌}
+use Rattle.std.specs.Prelude.{ℕ, ◌-◌, ◌==◌, nat_le, Bool, true, false, not, List, ◌∷◌, is_some, Some, None, Option, Result, Ok, if◌then◌else◌}
 use Rattle.tree_keys.specs.Path.{is_data}
 use Rattle.lamport_clocks.specs.declared.header.Header.{Header}
 use Rattle.lamport_clocks.specs.declared.stamp.Stamp.{Stamp}

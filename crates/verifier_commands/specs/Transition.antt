@@ -1,6 +1,6 @@
 -- The transition of one verifier: what each command does, or the first refusal. The tests stand in the one
 -- order in which they are made.
-use Rattle.std.specs.Prelude.{ℕ, nat_le, Bool, true, false, not, List, [], ◌∷◌, ◌++◌, length, is_some, Option, Some, None, Result, Ok, Err}
+use Rattle.std.specs.Prelude.{ℕ, nat_le, Bool, true, false, not, List, [], ◌∷◌, ◌++◌, length, is_some, Option, Some, None, Result, Ok, Err, if◌then◌else◌}
 use Rattle.tree_keys.specs.Path.{is_data, tree_of, key_of}
 use Rattle.lamport_clocks.specs.declared.header.Header.{Header}
 use Rattle.lamport_clocks.specs.Header.{is_signed}
@@ -175,9 +175,9 @@ pub record RequestRules : Type 0 where
   pub signed : Bool
   pub permit : Bool → Request → Signature → Result (Unit {0}) Refusal
 
--- no request must be signed, and no signature is tested
+-- no request must be signed, and nobody can sign one
 abbrev pub unsigned : RequestRules
-unsigned = record { signed = false; permit = λ wide request signature. Ok tt }
+unsigned = record { signed = false; permit = λ wide request signature. Err refusals.NoSuchClient }
 
 -- What the transition of a verifier stands on: the scheme of its bundle, the verifier's number, how many
 -- verifiers there are, and what is asked of requests.
@@ -187,9 +187,14 @@ pub record Rules : Type 0 where
   pub verifiers : ℕ
   pub requests : RequestRules
 
+-- how many clients can sign requests: none where these are not signed
+abbrev pub signing_clients : Header → ℕ
+signing_clients header = if is_signed header then header.clients else 0
+
 -- the clients of a bundle as the verifier of this number knows them, with the last number of each of its own
 abbrev pub clients_of : Header → ℕ → List ℕ → Clients
-clients_of header number numbers = record { number = number; verifiers = header.verifiers; count = header.clients; last = numbers }
+clients_of header number numbers =
+    record { number = number; verifiers = header.verifiers; count = signing_clients header; last = numbers }
 
 -- what that verifier asks of requests
 abbrev pub request_rules : Scheme → Header → ℕ → List ℕ → RequestRules

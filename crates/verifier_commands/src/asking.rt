@@ -17,7 +17,12 @@ pub(crate) fn clients_of<'a>(header: &Header, number: u16, numbers: &'a [u64]) -
     requires verifiers { 1 ≤ header.now.verifiers }
     ensures value { result ≡ clients_of header.now number numbers.now }
 {
-    Clients::new(number, header.verifiers, header.clients, numbers)
+    let count = if header.is_signed() {
+        header.clients
+    } else {
+        0
+    };
+    Clients::new(number, header.verifiers, count, numbers)
 }
 
 /// Tests the signature of a get or a put of a key. Nothing is asked of one without a signature.
@@ -30,7 +35,7 @@ pub(crate) fn permit<D: Digests>(
     key: u128,
     value: &BlobRef,
 ) -> Result<(), Refusal>
-    ensures value { result ≡ asked_by (D.functions d.now).client_tag clients.now (option_map (λ s. s.now) signature)
+    ensures value { result ≡ asked_by (D.functions d.now).client_tag clients.now (option_map (λ s. s.now) signature.entry)
         wide (record { put = put; key = key; value = value.now }) }
 {
     match signature {
@@ -102,9 +107,9 @@ pub(crate) fn signer_by_slot(command: &SlotCommand) -> Option<Signer>
 }
 
 /// Notes the number of a command that was signed so, if it was, as the last of its client.
-pub(crate) fn note_signer(numbers: &mut [u64], verifiers: u16, signer: Option<Signer>)
+pub(crate) fn note_signer(numbers: &mut Vec<u64>, verifiers: u16, signer: Option<Signer>)
     requires verifiers { 1 ≤ verifiers }
-    ensures numbers { numbers.new ≡ numbers_after verifiers numbers.old signer }
+    ensures numbers { numbers.new.items ≡ numbers_after verifiers numbers.old.items signer }
 {
     if let Some(signer) = &signer {
         note_number(numbers, verifiers, signer);

@@ -30,7 +30,7 @@ impl SlotState {
         signature: Option<&Signature>,
     ) -> Result<Answer<'a>, Refusal>
         ensures follows { (lanes : List ℕ → List ℕ) → Follows result self.old self.new
-            (answered lanes (get self.old slot value.now (asked_by (D.functions d.now).client_tag clients.now (option_map (λ s. s.now) signature)))) }
+            (answered lanes (get self.old slot value.now (asked_by (D.functions d.now).client_tag clients.now (option_map (λ s. s.now) signature.entry)))) }
         ensures clock { IfOk result (ClockMoves self.old.clock self.new.clock) }
     {
         let Some(entry) = self.slots.at(slot) else {
@@ -59,7 +59,7 @@ impl SlotState {
         signature: Option<&Signature>,
     ) -> Result<Answer<'a>, Refusal>
         ensures follows { (lanes : List ℕ → List ℕ) → Follows result self.old self.new
-            (answered lanes (put self.old slot value.now (asked_by (D.functions d.now).client_tag clients.now (option_map (λ s. s.now) signature)))) }
+            (answered lanes (put self.old slot value.now (asked_by (D.functions d.now).client_tag clients.now (option_map (λ s. s.now) signature.entry)))) }
         ensures clock { IfOk result (ClockMoves self.old.clock self.new.clock) }
     {
         let Some(entry) = self.slots.at(slot) else {
