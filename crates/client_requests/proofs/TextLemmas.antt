@@ -14,7 +14,7 @@ use Rattle.record_text.proofs.ValueTextLaws.{blob_again}
 use Rattle.record_text.proofs.WideWordLaws.{wide_word}
 use Rattle.record_text.proofs.FieldLaws.{Ok-is, wide32, wide64}
 use Rattle.receipts.specs.Receipts.{kind_tag}
-use Rattle.client_requests.specs.Texts.{put_value, request_text, IsAsked}
+use Rattle.client_requests.specs.Texts.{put_value, request_text, IsAsked, AskTheSame}
 
 client-of : (wide : Bool) (client number : ℕ) (request : Request) → client < 2 ^ 32 → from_be_bytes w32 (take 4 (drop 1 (request_text wide client number request))) ≡ client
 unfolding request_text
@@ -67,18 +67,10 @@ kinds-one false false same = refl
 kinds-one true false same = cc
 kinds-one false true same = cc
 
--- a request of these fields
-abbrev asking : Bool → ℕ → Option (List ℕ) → Request
-asking put key value = record { put = put; key = key; value = value }
-
-requests-one : (one other : Request) → one.put ≡ other.put → one.key ≡ other.key → one.value ≡ other.value → one ≡ other
-requests-one one other puts keys values =
-    ap (λ (p : Bool). asking p one.key one.value) puts ∙ ap (λ (k : ℕ). asking other.put k one.value) keys ∙ ap (λ (v : Option (List ℕ)). asking other.put other.key v) values
-
 pub texts-one : (wide : Bool) (client number other_client other_number : ℕ) (one other : Request)
     → IsAsked wide client number one → IsAsked wide other_client other_number other
     → request_text wide client number one ≡ request_text wide other_client other_number other
-    → (client ≡ other_client) × (number ≡ other_number) × (one ≡ other)
+    → (client ≡ other_client) × (number ≡ other_number) × AskTheSame one other
 texts-one wide client number other_client other_number one other is is_other same =
     let clients : client ≡ other_client = sym (client-of wide client number one is.client_fits)
     ∙ ap (λ (t : List ℕ). from_be_bytes w32 (take 4 (drop 1 t))) same ∙ client-of wide other_client other_number other is_other.client_fits in
@@ -92,4 +84,4 @@ texts-one wide client number other_client other_number one other is is_other sam
     ∙ ap (λ (t : List ℕ). drop (byte_len (word_width wide)) (drop 14 t)) same ∙ value-of wide other_client other_number other in
     let values : one.value ≡ other.value = blobs-one one.value other.value is.value is_other.value
     (ap blob_text (sym (puts-value one.put one.value is.get)) ∙ texts ∙ ap blob_text (puts-value other.put other.value is_other.get)) in
-    (clients, numbers, requests-one one other (kinds-one one.put other.put kinds) keys values)
+    (clients, numbers, record { put = kinds-one one.put other.put kinds; key = keys; value = values })

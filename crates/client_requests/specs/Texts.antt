@@ -32,3 +32,9 @@ pub record IsAsked (wide : Bool) (client number : ℕ) (request : Request) : Typ
   pub key : request.key < 2 ^ key_bits wide
   pub value : IsBlob longest_blob request.value
   pub get : request.put ≡ false → request.value ≡ None
+
+-- both ask for the same, whatever is put to them
+pub record AskTheSame (one other : Request) : Type 0 where
+  pub put : one.put ≡ other.put
+  pub key : one.key ≡ other.key
+  pub value : one.value ≡ other.value

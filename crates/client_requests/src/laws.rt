@@ -3,16 +3,16 @@ ghost use Rattle.std.specs.Prelude.{◌≡◌, ◌≢◌, ℕ, ◌/◌, ◌%◌,
 ghost use Rattle.record_text.specs.declared.request.Request.{Request};
 ghost use Rattle.record_text.specs.declared.signature.Signature.{Signature};
 ghost use Rattle.record_text.specs.declared.signature.Signer.{Signer};
-ghost use Rattle.client_requests.specs.Texts.{request_text, IsAsked};
+ghost use Rattle.client_requests.specs.Texts.{request_text, IsAsked, AskTheSame};
 ghost use Rattle.client_requests.specs.Signing.{Clients, last_number, with_number, own_clients, permit, IsRight};
 
-/// No two requests for one tree have one text, nor has one request of two clients or numbers: so a tag that a client makes for one
-/// request is made for nothing else.
+/// No two things that are asked of one tree have one text, nor has one request of two clients or numbers: so a tag that a client makes
+/// for one request is made for nothing else.
 pub fn texts_tell_what_is_asked()
     ensures asked { (wide : Bool) (client number other_client other_number : ℕ) (one other : Request)
         → IsAsked wide client number one → IsAsked wide other_client other_number other
         → request_text wide client number one ≡ request_text wide other_client other_number other
-        → (client ≡ other_client) × (number ≡ other_number) × (one ≡ other) }
+        → (client ≡ other_client) × (number ≡ other_number) × AskTheSame one other }
 {}
 
 /// A signed request is permitted just where its signature is right.

@@ -1,5 +1,5 @@
 //! The clients of a bundle as a verifier knows them, and its tests of their signatures.
-ghost use Rattle.std.specs.Prelude.{◌≡◌, ◌≤◌, ◌<◌, ◌/◌, IfOk};
+ghost use Rattle.std.specs.Prelude.{◌≡◌, ◌≤◌, ◌<◌, ◌/◌, None, IfOk};
 ghost use Rattle.record_text.specs.Same.{same_bytes};
 ghost use Rattle.client_requests.specs.Signing.{is_own_client, last_number, with_number, own_clients, opening_numbers, permit};
 
@@ -71,7 +71,7 @@ impl<'a> Clients<'a> {
         value: &BlobRef,
         signature: &Signature,
     ) -> Result<(), Refusal>
-        ensures value { result ≡ permit (D.functions d.now).client_tag self.now wide (record { put = put; key = key; value = value.now }) signature.now }
+        ensures value { result ≡ permit (D.functions d.now).client_tag self.now wide (record { put = put; key = key; value = value.now; signature = None }) signature.now }
     {
         let client = signature.client;
         if !self.is_own(client) {

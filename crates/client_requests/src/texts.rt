@@ -1,5 +1,5 @@
 //! The text of a request, and its tag.
-ghost use Rattle.std.specs.Prelude.{◌≡◌};
+ghost use Rattle.std.specs.Prelude.{◌≡◌, None};
 ghost use Rattle.client_requests.specs.Texts.{put_value, request_text, request_tag};
 
 use arrayvec::ArrayVec;
@@ -36,7 +36,7 @@ pub(crate) fn spelled(
     key: u128,
     value: &BlobRef,
 ) -> ArrayVec<u8, LONGEST_REQUEST_TEXT>
-    ensures text { result.items ≡ request_text wide client number (record { put = put; key = key; value = value.now }) }
+    ensures text { result.items ≡ request_text wide client number (record { put = put; key = key; value = value.now; signature = None }) }
 {
     let mut text = ArrayVec::new();
     text.push(REQUEST);

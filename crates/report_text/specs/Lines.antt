@@ -5,6 +5,7 @@ use Rattle.hex.specs.Hex.{encode_lower}
 use Rattle.lamport_clocks.specs.declared.stamp.Stamp.{Stamp}
 use Rattle.record_hash.specs.Functions.{DigestFunctions}
 use Rattle.record_text.specs.declared.operation.Operation.{Operation}
+use Rattle.record_text.specs.declared.signature.Signer.{Signer}
 use Rattle.receipts.specs.Receipts.{receipt_text, certificate_text, tagged}
 
 -- the end of a line
@@ -30,9 +31,14 @@ abbrev pub command_words : Bool → List ℕ
 command_words false = codes " get "
 command_words true = codes " put "
 
--- when, by which verifier, what was done, to which key, with which value
+-- who signed the request, where requests are signed: the client, and the number that it gave the request
+abbrev pub signer_words : Option Signer → List ℕ
+signer_words None = []
+signer_words (Some signer) = codes " client " ++ decimal signer.client ++ codes " number " ++ decimal signer.number
+
+-- when, by which verifier, what was done, to which key, with which value, and who signed it
 abbrev pub operation_line : Operation → List ℕ
-operation_line op = stamp_words op.stamp ++ codes " v" ++ decimal op.verifier ++ command_words op.put ++ decimal op.key ++ codes " " ++ blob_words op.value ++ line_end
+operation_line op = stamp_words op.stamp ++ codes " v" ++ decimal op.verifier ++ command_words op.put ++ decimal op.key ++ codes " " ++ blob_words op.value ++ signer_words op.signer ++ line_end
 
 -- the receipt of an operation: its text and the text's tag, as lower-case digits
 abbrev pub receipt_line : DigestFunctions → Operation → List ℕ

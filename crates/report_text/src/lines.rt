@@ -3,7 +3,7 @@ ghost use Rattle.std.specs.Prelude.{◌≡◌, ◌+◌, ◌*◌, ◌≤◌, ◌+
 ghost use Rattle.fv_outside.specs.Faults.{Counts};
 ghost use Rattle.fv_outside.specs.Written.{Grows, GrowsByFront};
 ghost use Rattle.arrayvec.specs.ArrayVec.{array_vec_len};
-ghost use Rattle.report_text.specs.Lines.{blob_words, stamp_words, command_words};
+ghost use Rattle.report_text.specs.Lines.{blob_words, stamp_words, command_words, signer_words};
 ghost use Rattle.report_text.specs.Lines as words;
 ghost use Rattle.report_text.specs.Status as statuses;
 
@@ -14,10 +14,10 @@ use fv_outside::{Failed, Sink, write_all};
 use lamport_clocks::Stamp;
 use receipts::{certificate, issue};
 use record_hash::Digests;
-use record_text::{BlobRef, LONGEST_BLOB, OperationRef};
+use record_text::{BlobRef, LONGEST_BLOB, OperationRef, Signer};
 
 /// Room for the longest line but that of a receipt, and a little more.
-pub const LONGEST_LINE: usize = 640;
+pub const LONGEST_LINE: usize = 704;
 
 /// Room for the line of the longest receipt, and a little more.
 pub const RECEIPT_LINE_ROOM: usize = 664;
@@ -47,6 +47,7 @@ pub fn operation_line(op: &OperationRef) -> ArrayVec<u8, LONGEST_LINE>
     push_key(&mut line, op.key());
     push_text(&mut line, b" ");
     push_blob(&mut line, op.value());
+    push_signer(&mut line, op.signer());
     push_text(&mut line, b"\n");
     line
 }
@@ -111,6 +112,20 @@ fn push_blob<const ROOM: usize>(line: &mut ArrayVec<u8, ROOM>, blob: &BlobRef)
         None => push_text(line, b"none"),
         Some([]) => push_text(line, b"."),
         Some(bytes) => push_hex(line, bytes),
+    }
+}
+
+// Adds who signed a request, where requests are signed.
+fn push_signer<const ROOM: usize>(line: &mut ArrayVec<u8, ROOM>, signer: Option<Signer>)
+    requires room { array_vec_len line.old + 56 ≤ ROOM }
+    ensures appended { line.new.items ≡ line.old.items ++ signer_words signer }
+    ensures short { array_vec_len line.new ≤ array_vec_len line.old + 56 }
+{
+    if let Some(signer) = signer {
+        push_text(line, b" client ");
+        push_decimal(line, u64::from(signer.client));
+        push_text(line, b" number ");
+        push_decimal(line, signer.number);
     }
 }
 

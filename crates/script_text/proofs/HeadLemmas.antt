@@ -22,7 +22,7 @@ value_in_front bytes more begin None within = refl
 value_in_front bytes more begin (Some n) within = ap (λ (value : List ℕ). Some value) (slice_in_front bytes more begin (begin + n) (omega arith) within)
 
 abbrev with_value : Head → Option (List ℕ) → Task
-with_value head value = record { worker = head.worker; request = record { put = head.put; key = head.key; value = value } }
+with_value head value = record { worker = head.worker; request = record { put = head.put; key = head.key; value = value; signature = head.signature } }
 
 task_in_front : (bytes more : List ℕ) (head : Head) → IsWithin bytes head → task_of (bytes ++ more) head ≡ task_of bytes head
 task_in_front bytes more head within = ap (with_value head) (value_in_front bytes more head.begin head.len within)

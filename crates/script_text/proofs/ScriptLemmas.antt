@@ -5,34 +5,65 @@ use Rattle.std.proofs.lemmas.Bool.{eqb-true}
 use Rattle.std.proofs.lemmas.Bool.Decides.{nat_tests}
 use Rattle.std.proofs.lemmas.List.{append-nil}
 use Rattle.base_words.specs.Steps.{need, and_then}
-use Rattle.lamport_clocks.specs.declared.header.Header.{Header}
+use Rattle.record_hash.specs.Functions.{DigestFunctions}
 use Rattle.record_text.specs.declared.cause.Cause.{Cause}
-use Rattle.record_text.specs.declared.cause.Cause.TheVariants.{Shape, Key, Hex}
+use Rattle.record_text.specs.declared.cause.Cause.TheVariants.{Key, Hex}
 use Rattle.record_text.specs.declared.request.Request.{Request}
-use Rattle.record_text.specs.Longest.{longest_of}
 use Rattle.script_text.specs.declared.task.Task.{Task}
 use Rattle.script_text.specs.declared.task.Line.{Line}
 use Rattle.script_text.specs.declared.task.Line.TheVariants as said
 use Rattle.script_text.specs.Lines.{lines_of, words_of, words_behind}
 use Rattle.script_text.specs.Words.{key_in}
-use Rattle.script_text.specs.Script.{BadLine, Asked, asked_by, request_then, task_in, longest_line, at_line, line_says, lines_say, words_say, with_line, phases_of, script_of, then_line}
+use Rattle.script_text.specs.declared.grammar.Form.TheVariants.{Workers, Clients, Signing}
+use Rattle.script_text.specs.declared.grammar.Grammar.{Grammar}
+use Rattle.script_text.specs.Grammar.{opening}
+use Rattle.script_text.specs.Script.{BadLine, Asked, Front, asked_by, front_in, request_then, at_line, line_says, lines_say, numbers_behind, with_line, phases_of, phases_in, then_line}
 use Rattle.script_text.proofs.SplittingLaws.{words_of-some}
 
 -- ---- a line
 
--- a line that is not too long says what its words do
-pub line_says-short : (header : Header) (line : List ℕ) → length line ≤ longest_line header → line_says header line ≡ words_say header (words_of line)
-unfolding line_says
-line_says-short header line short = grind (arith, nat_tests)
-
--- behind a worker's word stands what is asked
-pub words_say-asked : (header : Header) (worker behind : List ℕ)
-    → words_say header (worker ∷ words_of behind) ≡ need (asked_by (longest_of header) (words_of behind)) Shape (task_in header worker)
-unfolding words_say
-words_say-asked header worker behind =
+-- the words of a line that has these in front of others
+pub front-one : (count : ℕ) (line who behind : List ℕ) → words_of line ≡ who ∷ words_of behind
+    → front_in (Workers count) (words_of line) ≡ Some (record { who = who; number = []; digits = []; behind = words_of behind })
+front-one count line who behind is =
     let some = words_of-some behind in
-    ap (λ words. words_say header (worker ∷ words)) some.2
-    ∙ sym (ap (λ words. need (asked_by (longest_of header) words) Shape (task_in header worker)) some.2)
+    ap (front_in (Workers count)) (is ∙ ap (λ words. who ∷ words) some.2)
+    ∙ ap (λ (words : List (List ℕ)). Some (record { who = who; number = []; digits = []; behind = words })) (sym some.2)
+
+pub front-number : (client : ℕ) (line number behind : List ℕ) → words_of line ≡ number ∷ words_of behind
+    → front_in (Signing client) (words_of line) ≡ Some (record { who = []; number = number; digits = []; behind = words_of behind })
+front-number client line number behind is =
+    let some = words_of-some behind in
+    ap (front_in (Signing client)) (is ∙ ap (λ words. number ∷ words) some.2)
+    ∙ ap (λ (words : List (List ℕ)). Some (record { who = []; number = number; digits = []; behind = words })) (sym some.2)
+
+pub front-three : (count workers : ℕ) (line who line1 number line2 digits behind : List ℕ)
+    → words_of line ≡ who ∷ words_of line1 → words_of line1 ≡ number ∷ words_of line2 → words_of line2 ≡ digits ∷ words_of behind
+    → front_in (Clients count workers) (words_of line) ≡ Some (record { who = who; number = number; digits = digits; behind = words_of behind })
+front-three count workers line who line1 number line2 digits behind first second third =
+    let some = words_of-some behind in
+    ap (front_in (Clients count workers)) (first ∙ ap (λ words. who ∷ words) (second ∙ ap (λ words. number ∷ words) (third ∙ ap (λ words. digits ∷ words) some.2)))
+    ∙ ap (λ (words : List (List ℕ)). Some (record { who = who; number = number; digits = digits; behind = words })) (sym some.2)
+
+-- words that are too few
+pub few-one : (count : ℕ) (line who : List ℕ) → words_of line ≡ who ∷ [] → front_in (Workers count) (words_of line) ≡ None
+few-one count line who is = ap (front_in (Workers count)) is
+
+pub few-number : (client : ℕ) (line number : List ℕ) → words_of line ≡ number ∷ [] → front_in (Signing client) (words_of line) ≡ None
+few-number client line number is = ap (front_in (Signing client)) is
+
+pub few-three-one : (count workers : ℕ) (line who : List ℕ) → words_of line ≡ who ∷ [] → front_in (Clients count workers) (words_of line) ≡ None
+few-three-one count workers line who is = ap (front_in (Clients count workers)) is
+
+pub few-three-two : (count workers : ℕ) (line who line1 number : List ℕ) → words_of line ≡ who ∷ words_of line1 → words_of line1 ≡ number ∷ []
+    → front_in (Clients count workers) (words_of line) ≡ None
+few-three-two count workers line who line1 number first second = ap (front_in (Clients count workers)) (first ∙ ap (λ words. who ∷ words) second)
+
+pub few-three-three : (count workers : ℕ) (line who line1 number line2 digits : List ℕ)
+    → words_of line ≡ who ∷ words_of line1 → words_of line1 ≡ number ∷ words_of line2 → words_of line2 ≡ digits ∷ []
+    → front_in (Clients count workers) (words_of line) ≡ None
+few-three-three count workers line who line1 number line2 digits first second third =
+    ap (front_in (Clients count workers)) (first ∙ ap (λ words. who ∷ words) (second ∙ ap (λ words. number ∷ words) third))
 
 -- four words and more are none of the forms
 pub asked_by-more : (longest : ℕ) (a b c : List ℕ) (behind : Option (List ℕ)) → is_some behind ≡ true
@@ -65,8 +96,8 @@ pub request_then-made : {A : Type 0} (wide : Bool) (asked : Asked) (made : Reque
     → request_then wide asked made ≡ and_then (request_then wide asked Ok) made
 request_then-made wide asked made = go (key_in wide asked.key) asked.value where
   go : (k : Option ℕ) (v : Option (Option (List ℕ)))
-      → need k Key (λ key. need v Hex (λ value. made (record { put = asked.put; key = key; value = value })))
-      ≡ and_then (need k Key (λ key. need v Hex (λ value. Ok (record { put = asked.put; key = key; value = value })))) made
+      → need k Key (λ key. need v Hex (λ value. made (record { put = asked.put; key = key; value = value; signature = None })))
+      ≡ and_then (need k Key (λ key. need v Hex (λ value. Ok (record { put = asked.put; key = key; value = value; signature = None })))) made
   go None v = refl
   go (Some k) None = refl
   go (Some k) (Some v) = refl
@@ -112,56 +143,59 @@ phases_of-then (line ∷ lines) last =
 
 -- ---- reading
 
--- So many lines were read, and these phases are of them; what is left of the bytes says the rest.
-pub record HasRead (header : Header) (bytes : List ℕ) (phases : List (List Task)) (number : ℕ) (rest : List ℕ) : Type 0 where
+-- So many lines were read, and these phases are of them; behind them these are the clients' last numbers, and what is left of the
+-- bytes says the rest.
+pub record HasRead (functions : DigestFunctions) (grammar : Grammar) (bytes : List ℕ) (phases : List (List Task)) (number : ℕ) (last : List ℕ) (rest : List ℕ) : Type 0 where
   pub lines : List Line
   pub are : phases ≡ phases_of lines
-  pub left : lines_say header 1 (lines_of bytes) ≡ and_then (lines_say header (number + 1) (lines_of rest)) (λ more. Ok (lines ++ more))
+  pub left : lines_say functions grammar (opening grammar.form) 1 (lines_of bytes)
+      ≡ and_then (lines_say functions grammar last (number + 1) (lines_of rest)) (λ more. Ok (lines ++ more))
 
--- before the first line
-pub read-nothing : (header : Header) (bytes : List ℕ) → HasRead header bytes ([] ∷ []) 0 bytes
-unfolding phases_of
-read-nothing header bytes = record { lines = []; are = refl; left = go (lines_say header 1 (lines_of bytes)) } where
-  go : (said : Result (List Line) BadLine) → said ≡ and_then said (λ more. Ok ([] ++ more))
-  go (Ok lines) = refl
-  go (Err bad) = refl
+module _ (functions : DigestFunctions) (grammar : Grammar) (bytes : List ℕ) where
+  -- before the first line
+  pub read-nothing : HasRead functions grammar bytes ([] ∷ []) 0 (opening grammar.form) bytes
+  unfolding phases_of
+  read-nothing = record { lines = []; are = refl; left = go (lines_say functions grammar (opening grammar.form) 1 (lines_of bytes)) } where
+    go : (said : Result (List Line) BadLine) → said ≡ and_then said (λ more. Ok ([] ++ more))
+    go (Ok lines) = refl
+    go (Err bad) = refl
 
--- one more line
-pub read-line : (header : Header) (bytes : List ℕ) (phases : List (List Task)) (number : ℕ) (rest line behind : List ℕ) (last : Line)
-    → HasRead header bytes phases number rest → lines_of rest ≡ line ∷ lines_of behind → line_says header line ≡ Ok last
-    → HasRead header bytes (then_line phases last) (number + 1) behind
-unfolding lines_say
-read-line header bytes phases number rest line behind last before is says =
-    record {
-      lines = before.lines ++ last ∷ [];
-      are = ap (λ ps. then_line ps last) before.are ∙ sym (phases_of-then before.lines last);
-      left = before.left
-          ∙ ap (λ lines. and_then (lines_say header (number + 1) lines) (λ more. Ok (before.lines ++ more))) is
-          ∙ ap (λ first. and_then (and_then (at_line (number + 1) first) (λ said. and_then (lines_say header (number + 1 + 1) (lines_of behind)) (λ more. Ok (said ∷ more)))) (λ more. Ok (before.lines ++ more))) says
-          ∙ go (lines_say header (number + 1 + 1) (lines_of behind));
-    } where
-      go : (said : Result (List Line) BadLine)
-          → and_then (and_then said (λ more. Ok (last ∷ more))) (λ more. Ok (before.lines ++ more)) ≡ and_then said (λ more. Ok ((before.lines ++ last ∷ []) ++ more))
-      go (Ok more) = ap Ok (sym (append_assoc before.lines (last ∷ []) more))
-      go (Err bad) = refl
+  -- one more line
+  pub read-line : (phases : List (List Task)) (number : ℕ) (last rest line behind : List ℕ) (next : Line)
+      → HasRead functions grammar bytes phases number last rest → lines_of rest ≡ line ∷ lines_of behind → line_says functions grammar last line ≡ Ok next
+      → HasRead functions grammar bytes (then_line phases next) (number + 1) (numbers_behind grammar.form last next) behind
+  unfolding lines_say
+  read-line phases number last rest line behind next before is says =
+      record {
+        lines = before.lines ++ next ∷ [];
+        are = ap (λ ps. then_line ps next) before.are ∙ sym (phases_of-then before.lines next);
+        left = before.left
+            ∙ ap (λ lines. and_then (lines_say functions grammar last (number + 1) lines) (λ more. Ok (before.lines ++ more))) is
+            ∙ ap (λ first. and_then (and_then (at_line (number + 1) first) (λ said. and_then (lines_say functions grammar (numbers_behind grammar.form last said) (number + 1 + 1) (lines_of behind)) (λ more. Ok (said ∷ more)))) (λ more. Ok (before.lines ++ more))) says
+            ∙ go (lines_say functions grammar (numbers_behind grammar.form last next) (number + 1 + 1) (lines_of behind));
+      } where
+        go : (said : Result (List Line) BadLine)
+            → and_then (and_then said (λ more. Ok (next ∷ more))) (λ more. Ok (before.lines ++ more)) ≡ and_then said (λ more. Ok ((before.lines ++ next ∷ []) ++ more))
+        go (Ok more) = ap Ok (sym (append_assoc before.lines (next ∷ []) more))
+        go (Err bad) = refl
 
--- a line that is refused
-pub read-refused : (header : Header) (bytes : List ℕ) (phases : List (List Task)) (number : ℕ) (rest line behind : List ℕ) (cause : Cause)
-    → HasRead header bytes phases number rest → lines_of rest ≡ line ∷ lines_of behind → line_says header line ≡ Err cause
-    → script_of header bytes ≡ Err (record { line = number + 1; cause = cause })
-unfolding lines_say
-read-refused header bytes phases number rest line behind cause before is says =
-    ap (λ said. and_then said (λ lines. Ok (phases_of lines)))
-    (before.left
-    ∙ ap (λ lines. and_then (lines_say header (number + 1) lines) (λ more. Ok (before.lines ++ more))) is
-    ∙ ap (λ first. and_then (and_then (at_line (number + 1) first) (λ said. and_then (lines_say header (number + 1 + 1) (lines_of behind)) (λ more. Ok (said ∷ more)))) (λ more. Ok (before.lines ++ more))) says)
+  -- a line that is refused
+  pub read-refused : (phases : List (List Task)) (number : ℕ) (last rest line behind : List ℕ) (cause : Cause)
+      → HasRead functions grammar bytes phases number last rest → lines_of rest ≡ line ∷ lines_of behind → line_says functions grammar last line ≡ Err cause
+      → phases_in functions grammar bytes ≡ Err (record { line = number + 1; cause = cause })
+  unfolding lines_say
+  read-refused phases number last rest line behind cause before is says =
+      ap (λ said. and_then said (λ lines. Ok (phases_of lines)))
+      (before.left
+      ∙ ap (λ lines. and_then (lines_say functions grammar last (number + 1) lines) (λ more. Ok (before.lines ++ more))) is
+      ∙ ap (λ first. and_then (and_then (at_line (number + 1) first) (λ said. and_then (lines_say functions grammar (numbers_behind grammar.form last said) (number + 1 + 1) (lines_of behind)) (λ more. Ok (said ∷ more)))) (λ more. Ok (before.lines ++ more))) says)
 
--- all lines
-pub read-all : (header : Header) (bytes : List ℕ) (phases : List (List Task)) (number : ℕ) (rest : List ℕ) → (length rest == 0) ≡ true
-    → HasRead header bytes phases number rest → script_of header bytes ≡ Ok phases
-unfolding lines_say lines_of
-read-all header bytes phases number (byte ∷ rest) none before = absurd (omega (arith, eqb-true (length (byte ∷ rest)) 0 none))
-read-all header bytes phases number [] none before =
-    ap (λ said. and_then said (λ lines. Ok (phases_of lines))) before.left
-    ∙ ap (λ lines. Ok (phases_of lines)) (append-nil before.lines)
-    ∙ ap Ok (sym before.are)
+  -- all lines
+  pub read-all : (phases : List (List Task)) (number : ℕ) (last rest : List ℕ) → (length rest == 0) ≡ true
+      → HasRead functions grammar bytes phases number last rest → phases_in functions grammar bytes ≡ Ok phases
+  unfolding lines_say lines_of
+  read-all phases number last (byte ∷ rest) none before = absurd (omega (arith, eqb-true (length (byte ∷ rest)) 0 none))
+  read-all phases number last [] none before =
+      ap (λ said. and_then said (λ lines. Ok (phases_of lines))) before.left
+      ∙ ap (λ lines. Ok (phases_of lines)) (append-nil before.lines)
+      ∙ ap Ok (sym before.are)

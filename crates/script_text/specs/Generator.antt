@@ -26,9 +26,9 @@ key_for shape worker draw = (draw / 2 ^ 33 % shape.keys * shape.verifiers + work
 -- what is asked of a key, by the top four bits of a draw: a get, a put of the draw's eight bytes, or a put of none
 unfoldable pub request_for : ℕ → ℕ → Request
 request_for key draw =
-    if nat_lt (draw / 2 ^ 60) 8 then record { put = false; key = key; value = None }
-    else if nat_lt (draw / 2 ^ 60) 15 then record { put = true; key = key; value = Some (to_be_bytes w64 draw) }
-    else record { put = true; key = key; value = None }
+    if nat_lt (draw / 2 ^ 60) 8 then record { put = false; key = key; value = None; signature = None }
+    else if nat_lt (draw / 2 ^ 60) 15 then record { put = true; key = key; value = Some (to_be_bytes w64 draw); signature = None }
+    else record { put = true; key = key; value = None; signature = None }
 
 -- the task of the request of this number, by its two draws: the workers are asked in turn
 unfoldable pub task_for : Shape → ℕ → ℕ → ℕ → Task

@@ -9,7 +9,7 @@ use Rattle.script_text.specs.declared.task.Task.{Task}
 abbrev pub task_of : List ℕ → Head → Task
 task_of bytes head = record {
   worker = head.worker;
-  request = record { put = head.put; key = head.key; value = option_map (λ len. slice_range bytes head.begin (head.begin + len)) head.len };
+  request = record { put = head.put; key = head.key; value = option_map (λ len. slice_range bytes head.begin (head.begin + len)) head.len; signature = head.signature };
 }
 
 -- how many bytes a data value of this length has: none of no value
@@ -29,6 +29,7 @@ head_of begin task = record {
   worker = task.worker;
   put = task.request.put;
   len = option_map (λ bytes. length bytes) task.request.value;
+  signature = task.request.signature;
 }
 
 -- the bytes of a data value: none of no value

@@ -1,6 +1,7 @@
 -- What the clauses on scripts cite, in reading order.
 pub mod Lines
 pub mod Words
+pub mod Grammar
 pub mod Script
 pub mod Text
 pub mod Signing

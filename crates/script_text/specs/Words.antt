@@ -26,6 +26,19 @@ below limit (Some number) = if nat_lt number limit then Some number else None
 abbrev pub worker_in : ℕ → List ℕ → Option ℕ
 worker_in verifiers word = below verifiers (number_in word)
 
+-- one of so many clients
+abbrev pub client_in : ℕ → List ℕ → Option ℕ
+client_in clients word = below clients (number_in word)
+
+-- a number that is above another
+abbrev pub above : ℕ → Option ℕ → Option ℕ
+above last None = None
+above last (Some number) = if nat_lt last number then Some number else None
+
+-- the number of a request behind one of this number: of 64 bits, and above it
+abbrev pub number_behind : ℕ → List ℕ → Option ℕ
+number_behind last word = above last (below (2 ^ 64) (number_in word))
+
 -- a key of this tree: a number of as many bits
 abbrev pub key_in : Bool → List ℕ → Option ℕ
 key_in wide word = below (2 ^ key_bits wide) (number_in word)

@@ -77,7 +77,7 @@ pub(crate) fn read_request(asked: &AskedWords, wide: bool) -> Result<Request, Ca
         return Err(Cause::Key);
     };
     match &asked.value {
-        Some(value) => Ok(Request::new(asked.put, key, value.copy())),
+        Some(value) => Ok(Request::new(asked.put, key, value.copy(), None)),
         None => Err(Cause::Hex),
     }
 }

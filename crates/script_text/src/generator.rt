@@ -86,7 +86,7 @@ fn request_for(key: u64, draw: u64) -> Request
         8..=14 => (true, Blob::of_bytes(&draw.to_be_bytes()).unwrap()),
         _ => (true, Blob::none()),
     };
-    Request::new(put, u128::from(key), value)
+    Request::new(put, u128::from(key), value, None)
 }
 
 // Adds the task of this number, and the close of an epoch if one is due behind it.

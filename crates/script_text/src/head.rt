@@ -4,9 +4,9 @@ ghost use Rattle.std.specs.Option.{option_map};
 ghost use Rattle.script_text.specs.Heads.{head_of, bytes_in};
 
 use crate::task::Task;
-use record_text::Blob;
+use record_text::{Blob, Signature};
 
-/// A task without its data value's bytes, which stand in a list with those of others: 32 bytes.
+/// A task without its data value's bytes, which stand in a list with those of others: 96 bytes.
 #[derive(Clone, Copy, Debug)]
 pub(crate) struct Head {
     pub key: u128,
@@ -16,6 +16,7 @@ pub(crate) struct Head {
     pub put: bool,
     // how many they are, if it has a data value
     pub len: Option<u8>,
+    pub signature: Option<Signature>,
 }
 
 impl Head {
@@ -29,6 +30,7 @@ impl Head {
             worker: task.worker,
             put: task.request.put,
             len: len_of(&task.request.value),
+            signature: task.request.signature,
         }
     }
 }

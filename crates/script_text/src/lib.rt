@@ -11,7 +11,9 @@
 mod asked;
 mod extent;
 mod fault;
+mod front;
 mod generator;
+mod grammar;
 mod head;
 mod laws;
 mod line;
@@ -32,7 +34,7 @@ pub use laws::{keys_are_of_one_worker, scripts_are_read_back};
 pub use phase::Phase;
 pub use requests::Requests;
 pub use shape::Shape;
-pub use signing::{Numbered, sign_lines};
+pub use signing::sign_lines;
 pub use task::{Line, Task};
 pub use task_ref::TaskRef;
 pub use writing::write_script;

@@ -1,54 +1,67 @@
-//! Reads a line of a script.
+//! Reads a line.
 ghost use Rattle.std.specs.Prelude.{◌≡◌};
-ghost use Rattle.script_text.specs.Script.{longest_line, task_in, line_says};
+ghost use Rattle.script_text.specs.Grammar.{HaveWorkers};
+ghost use Rattle.script_text.specs.Script.{task_in, line_says};
 
 use crate::asked::{AskedWords, read_asked, read_request};
-use crate::splitting::split_word;
+use crate::front::{FrontWords, asked_bytes, has_tag, read_who, sign, split_front};
+use crate::grammar::Grammar;
 use crate::task::{Line, Task};
-use crate::words;
-use lamport_clocks::Header;
-use record_text::{Cause, longest_of, wide_of};
+use record_hash::Digests;
+use record_text::Cause;
 
-/// What a line says in a script for this header, or the first cause for which it is refused.
+/// What a line says behind lines of which the clients' last numbers are these, or the first cause for which it is refused.
 #[tactic(auto, unfolding(crate::specs::Script::line_says, crate::specs::Script::words_say))]
-pub(crate) fn read_line(line: &[u8], header: &Header) -> Result<Line, Cause>
-    ensures value { result ≡ line_says header.now line.now }
+pub(crate) fn read_line<D: Digests>(
+    d: &D,
+    grammar: &Grammar,
+    last: &[u64],
+    line: &[u8],
+) -> Result<Line, Cause>
+    requires workers { HaveWorkers grammar.now.form }
+    ensures value { result ≡ line_says (D.functions d.now) grammar.now last.now line.now }
 {
-    if line.len() > longest_line(header) {
+    if line.len() > grammar.longest_line {
         return Err(Cause::Shape);
     }
-    let (worker, behind) = split_word(line);
-    let Some(behind) = behind else {
-        return if worker == b"epoch".as_slice() {
-            Ok(Line::Epoch)
-        } else {
-            Err(Cause::Shape)
-        };
+    if grammar.form.closes() && line == b"epoch".as_slice() {
+        return Ok(Line::Epoch);
+    }
+    let Some(front) = split_front(&grammar.form, line) else {
+        return Err(Cause::Shape);
     };
-    match read_asked(behind, longest_of(header)) {
-        Some(asked) => read_task(header, worker, &asked),
+    match read_asked(asked_bytes(&front), grammar.longest) {
+        Some(asked) => read_task(d, grammar, last, &front, &asked),
         None => Err(Cause::Shape),
     }
 }
 
-// The most bytes of a line, without its end.
-fn longest_line(header: &Header) -> usize
-    ensures value { result ≡ longest_line header.now }
-{
-    if header.version < 3 { 256 } else { 640 }
-}
-
-// The task of a worker, by its word and what is asked.
+// The task of who asks, by the words in front and what is asked.
 #[tactic(auto, unfolding(crate::specs::Script::task_in))]
-fn read_task(header: &Header, worker: &[u8], asked: &AskedWords) -> Result<Line, Cause>
-    ensures value { result ≡ task_in header.now worker.now asked.now }
+fn read_task<D: Digests>(
+    d: &D,
+    grammar: &Grammar,
+    last: &[u64],
+    front: &FrontWords,
+    asked: &AskedWords,
+) -> Result<Line, Cause>
+    requires workers { HaveWorkers grammar.now.form }
+    ensures value { result ≡ task_in (D.functions d.now) grammar.now last.now front.now asked.now }
 {
-    let Some(worker) = words::worker(worker, header.verifiers) else {
-        return Err(Cause::Worker);
+    let who = match read_who(&grammar.form, last, front) {
+        Ok(who) => who,
+        Err(cause) => return Err(cause),
     };
-    let request = match read_request(asked, wide_of(header)) {
+    let request = match read_request(asked, grammar.wide) {
         Ok(request) => request,
         Err(cause) => return Err(cause),
     };
-    Ok(Line::Task(Task { worker, request }))
+    let request = sign(d, grammar.wide, request, who.signer);
+    if !has_tag(&grammar.form, front, &request.signature) {
+        return Err(Cause::Tag);
+    }
+    Ok(Line::Task(Task {
+        worker: who.worker,
+        request,
+    }))
 }

@@ -1,10 +1,14 @@
 //! What the workers of a host are asked, phase by phase.
-ghost use Rattle.std.specs.Prelude.{◌≡◌, ◌<◌, ◌∷◌, [], length, IfOk, IfErr, OnOk, OnErr};
+ghost use Rattle.std.specs.Prelude.{◌≡◌, ◌<◌, true, ◌∷◌, [], length, IfOk, IfErr, OnOk, OnErr};
 ghost use Rattle.std.specs.List.{slice_index_or};
-ghost use Rattle.script_text.specs.Script.{script_of, then_line, IsFaultOf};
+ghost use Rattle.lamport_clocks.specs.Header.{is_signed};
+ghost use Rattle.script_text.specs.Grammar.{HaveWorkers};
+ghost use Rattle.script_text.specs.Script.{phases_in, script_of, then_line, IsFaultOf};
 
 use crate::extent::Extent;
 use crate::fault::ScriptFault;
+use crate::front::note;
+use crate::grammar::Grammar;
 use crate::line::read_line;
 use crate::phase::Phase;
 use crate::splitting::split_line;
@@ -12,13 +16,14 @@ use crate::task::Line;
 use crate::task_list::TaskList;
 use base_words::Memory;
 use lamport_clocks::Header;
+use record_hash::Digests;
 use std::alloc::Global;
 use std::marker::Model;
 
 /// What workers are asked: phases, at least one, each a list of tasks. Between two phases an epoch closes.
 /// Contracts see the list of the phases.
 ///
-/// A task takes 32 bytes beside those of its data value, and a phase 16.
+/// A task takes 96 bytes beside those of its data value, and a phase 16.
 #[derive(Debug, Drop)]
 pub struct Requests {
     // The tasks of all phases, one phase behind another.
@@ -54,20 +59,44 @@ impl Requests {
     }
 
     /// What a script for this header asks, or the first line of it that is outside the grammar.
-    pub fn read(alloc: Global, bytes: &[u8], header: &Header) -> Result<Self, ScriptFault>
+    pub fn read<D: Digests>(
+        alloc: Global,
+        d: &D,
+        bytes: &[u8],
+        header: &Header,
+    ) -> Result<Self, ScriptFault>
+        requires workers { is_signed header.now ≡ true → 0 < header.now.verifiers }
         // What is read is what the bytes mean.
-        ensures script { IfOk result (λ phases. script_of header.now bytes.now ≡ Ok phases) }
+        ensures script { IfOk result (λ phases. script_of (D.functions d.now) header.now bytes.now ≡ Ok phases) }
         // A line that is named is the first outside the grammar, and its cause the first that it has.
-        ensures refused { IfErr result (λ fault. IsFaultOf (script_of header.now bytes.now) fault) }
+        ensures refused { IfErr result (λ fault. IsFaultOf (script_of (D.functions d.now) header.now bytes.now) fault) }
+    {
+        Requests::read_lines(alloc, d, bytes, &Grammar::of_header(header))
+    }
+
+    /// What bytes say in these lines, or the first of them that is outside the grammar.
+    pub(crate) fn read_lines<D: Digests>(
+        alloc: Global,
+        d: &D,
+        bytes: &[u8],
+        grammar: &Grammar,
+    ) -> Result<Self, ScriptFault>
+        requires workers { HaveWorkers grammar.now.form }
+        ensures script { IfOk result (λ phases. phases_in (D.functions d.now) grammar.now bytes.now ≡ Ok phases) }
+        ensures refused { IfErr result (λ fault. IsFaultOf (phases_in (D.functions d.now) grammar.now bytes.now) fault) }
     {
         let mut requests = Requests::new(alloc);
+        let mut last = grammar.form.opening(alloc)?;
         let mut rest = bytes;
         let mut number = 0;
         while !rest.is_empty() {
             let (line, behind) = split_line(rest);
             number += 1;
-            match read_line(line, header) {
-                Ok(line) => requests.push(line)?,
+            match read_line(d, grammar, &last, line) {
+                Ok(line) => {
+                    note(&grammar.form, &mut last, &line);
+                    requests.push(line)?;
+                }
                 Err(cause) => {
                     return Err(ScriptFault::BadScript {
                         line: number,

@@ -3,7 +3,7 @@ ghost use Rattle.std.specs.Prelude.{◌≡◌};
 ghost use Rattle.script_text.specs.Heads.{task_of, IsWithin};
 
 use crate::head::Head;
-use record_text::{BlobRef, Request};
+use record_text::{BlobRef, Request, Signature};
 use std::marker::Model;
 
 /// A task as it stands among others. Contracts see it as the `Task`.
@@ -67,10 +67,22 @@ impl<'a> TaskRef<'a> {
         }
     }
 
+    /// What its client put to it, where requests are signed.
+    pub fn signature(&self) -> Option<Signature>
+        ensures value { result ≡ self.now.request.signature }
+    {
+        self.head.signature
+    }
+
     /// Its request, with a data value of its own: a copy of at most 255 bytes.
     pub fn request(&self) -> Request
         ensures value { result ≡ self.now.request }
     {
-        Request::new(self.is_put(), self.key(), self.value().to_blob())
+        Request::new(
+            self.is_put(),
+            self.key(),
+            self.value().to_blob(),
+            self.signature(),
+        )
     }
 }

@@ -1,11 +1,10 @@
-//! Reads the words of a line: workers, keys and data values.
+//! Reads the words of a line: workers, clients, numbers of requests, keys and data values.
 ghost use Rattle.std.specs.Prelude.{◌≡◌, ◌^◌, ◌*◌, ◌/◌, ◌≤◌, length, Some};
 ghost use Rattle.std.specs.List.{list_all};
 ghost use Rattle.std.specs.Option.{option_map};
 ghost use Rattle.std.specs.Result.{result_ok};
 ghost use Rattle.hex.specs.Hex.{decode_of};
-ghost use Rattle.script_text.specs.Words.{begins_well, number_in, below, worker_in, key_in, is_lower_digit, is_value, value_in};
-ghost use Rattle.script_text.specs.Signing.{number_behind};
+ghost use Rattle.script_text.specs.Words.{begins_well, number_in, below, worker_in, client_in, number_behind, key_in, is_lower_digit, is_value, value_in};
 
 use record_text::{Blob, LONGEST_BLOB};
 
@@ -18,6 +17,16 @@ pub(crate) fn worker(word: &[u8], verifiers: u16) -> Option<u16>
 {
     match number(word) {
         Some(worker) if worker < u128::from(verifiers) => Some(worker as u16),
+        _ => None,
+    }
+}
+
+/// The number of a client, one of so many.
+pub(crate) fn client(word: &[u8], clients: u32) -> Option<u32>
+    ensures value { result ≡ client_in clients word.now }
+{
+    match number(word) {
+        Some(client) if client < u128::from(clients) => Some(client as u32),
         _ => None,
     }
 }

@@ -2,13 +2,13 @@
 ghost use Rattle.std.specs.Prelude.{◌≡◌, ◌++◌, ◌*◌, ◌≤◌, length, IfOk, OnOk};
 ghost use Rattle.std.specs.Fmt.{decimal};
 ghost use Rattle.hex.specs.Hex.{encode_lower};
-ghost use Rattle.script_text.specs.Text.{value_word, request_words, task_text, phase_text, script_text};
+ghost use Rattle.script_text.specs.Text.{value_word, request_words, front_words, task_text, phase_text, script_text};
 
 use crate::phase::Phase;
 use crate::requests::Requests;
 use crate::task_ref::TaskRef;
 use base_words::Memory;
-use record_text::{BlobRef, LONGEST_BLOB};
+use record_text::{BlobRef, LONGEST_BLOB, Signature};
 use std::alloc::Global;
 
 /// The script of these phases. It is read as them.
@@ -40,14 +40,32 @@ fn write_phase(phase: Phase, text: &mut Vec<u8>) -> Result<(), Memory>
 fn write_task(task: &TaskRef, text: &mut Vec<u8>) -> Result<(), Memory>
     ensures appended { OnOk result (text.new.items ≡ text.old.items ++ task_text task.now) }
 {
-    write_decimal(u128::from(task.worker()), text)?;
+    write_front(task.worker(), task.signature(), text)?;
     write_request(task.is_put(), task.key(), &task.value(), text)?;
     text.push(b'\n')?;
     Ok(())
 }
 
-/// Adds the words of a request, behind those that say who asks it.
-pub(crate) fn write_request(
+// Adds the words in front of what is asked.
+fn write_front(
+    worker: u16,
+    signature: Option<Signature>,
+    text: &mut Vec<u8>,
+) -> Result<(), Memory>
+    ensures appended { OnOk result (text.new.items ≡ text.old.items ++ front_words worker signature) }
+{
+    let Some(signature) = signature else {
+        return write_decimal(u128::from(worker), text);
+    };
+    write_decimal(u128::from(signature.client), text)?;
+    text.push(b' ')?;
+    write_decimal(u128::from(signature.number), text)?;
+    text.push(b' ')?;
+    write_digits(&signature.tag, text)
+}
+
+// Adds the words of a request, behind those that say who asks it.
+fn write_request(
     put: bool,
     key: u128,
     value: &BlobRef,
@@ -69,8 +87,8 @@ pub(crate) fn write_request(
     write_value(bytes, text)
 }
 
-/// Adds a number in decimal.
-pub(crate) fn write_decimal(number: u128, text: &mut Vec<u8>) -> Result<(), Memory>
+// Adds a number in decimal.
+fn write_decimal(number: u128, text: &mut Vec<u8>) -> Result<(), Memory>
     ensures appended { OnOk result (text.new.items ≡ text.old.items ++ decimal number) }
 {
     let mut buffer = itoa::Buffer::new();
@@ -90,8 +108,8 @@ fn write_value(bytes: &[u8], text: &mut Vec<u8>) -> Result<(), Memory>
     write_digits(bytes, text)
 }
 
-/// Adds two digits for each of these bytes.
-pub(crate) fn write_digits(bytes: &[u8], text: &mut Vec<u8>) -> Result<(), Memory>
+// Adds two digits for each of these bytes.
+fn write_digits(bytes: &[u8], text: &mut Vec<u8>) -> Result<(), Memory>
     requires few { length bytes.now ≤ LONGEST_BLOB }
     ensures appended { OnOk result (text.new.items ≡ text.old.items ++ encode_lower bytes.now) }
 {
@@ -101,8 +119,8 @@ pub(crate) fn write_digits(bytes: &[u8], text: &mut Vec<u8>) -> Result<(), Memor
     Ok(())
 }
 
-// The digits of these bytes, in room for them.
-fn encode<'a>(bytes: &[u8], room: &'a mut [u8]) -> &'a [u8]
+/// The digits of these bytes, in room for them.
+pub(crate) fn encode<'a>(bytes: &[u8], room: &'a mut [u8]) -> &'a [u8]
     requires few { 2 * length bytes.now ≤ length room.old }
     ensures encoded { result.now ≡ encode_lower bytes.now }
 {
