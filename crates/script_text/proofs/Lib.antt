@@ -3,7 +3,6 @@ pub mod SplittingLaws
 mod WordLemmas
 mod DecimalLemmas
 mod ScriptLemmas
-mod SigningLemmas
 mod GeneratorLemmas
 mod KeysLemmas
 mod TextLemmas

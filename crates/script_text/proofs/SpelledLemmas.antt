@@ -1,196 +1,313 @@
--- A script that is read is spelled in its one way, but for the end of its last line.
-use Rattle.std.proofs.Common.{◌≡◌, ℕ, ◌+◌, ◌<◌, ◌≤◌, ◌^◌, ◌==◌, ◌⊎◌, Bool, true, false, List, [], ◌∷◌, ◌++◌, length, Option, Some, None, Result, Ok, Err, append_assoc, length-append, codes, if◌then◌else◌, nat_lt, inl, inr, refl, ap, sym, subst, ◌∙◌, arith}
+-- A script that is read is spelled in its one way, but for the end of its last line, and what it asks can be asked.
+use Rattle.std.proofs.Common.{◌≡◌, ℕ, ◌+◌, ◌*◌, ◌%◌, ◌<◌, ◌≤◌, ◌^◌, ◌==◌, ◌&&◌, ◌⊎◌, not, Bool, true, false, List, [], ◌∷◌, ◌++◌, length, get_or, Option, Some, None, Result, Ok, Err, append_assoc, length-append, codes, if◌then◌else◌, nat_lt, inl, inr, refl, ap, sym, subst, ◌∙◌, arith}
 use Rattle.std.specs.Prelude.{decimal}
 use Rattle.std.specs.List.{flat_map, AllByRecursion, join_with_byte, onto_first}
 use Rattle.std.specs.Option.{ForSome, option_map}
 use Rattle.std.specs.Str.{bytes_eq}
-use Rattle.std.proofs.lemmas.Bool.{eqb-true}
+use Rattle.std.proofs.Math.Nat.{mod-lt}
+use Rattle.std.proofs.lemmas.Bool.{eqb-true, and_parts}
+use Rattle.std.proofs.lemmas.Bool.Decides.{nat_tests}
 use Rattle.std.proofs.lemmas.List.Splits.{join_with_byte-slice_split}
 use Rattle.std.proofs.lemmas.Slice.Eq.{bytes_eq-Decides}
-use Rattle.hex.specs.Hex.{IsBytes}
-use Rattle.base_words.specs.Steps.{need, and_then}
+use Rattle.hex.specs.Hex.{IsBytes, encode_lower}
+use Rattle.base_words.specs.Steps.{need, test, and_then}
 use Rattle.tree_keys.specs.Path.{key_bits}
+use Rattle.lamport_clocks.specs.Header.{is_signed}
 use Rattle.lamport_clocks.specs.declared.header.Header.{Header}
+use Rattle.record_hash.specs.Functions.{DigestFunctions}
 use Rattle.record_text.specs.Longest.{longest_of}
 use Rattle.record_text.specs.Tree.{wide_of}
 use Rattle.record_text.specs.declared.cause.Cause.{Cause}
-use Rattle.record_text.specs.declared.cause.Cause.TheVariants.{Shape, Worker, Key, Hex}
+use Rattle.record_text.specs.declared.cause.Cause.TheVariants.{Shape, Worker, Client, Number, Key, Hex, Tag}
+use Rattle.record_text.specs.declared.request.Request.{Request}
+use Rattle.record_text.specs.declared.signature.Signature.{Signature}
+use Rattle.client_requests.specs.Texts.{request_text, request_tag}
+use Rattle.script_text.specs.declared.front.Who.{Who}
+use Rattle.script_text.specs.declared.grammar.Form.{Form}
+use Rattle.script_text.specs.declared.grammar.Form.TheVariants.{Workers, Clients, Signing}
+use Rattle.script_text.specs.declared.grammar.Grammar.{Grammar}
 use Rattle.script_text.specs.declared.task.Task.{Task}
 use Rattle.script_text.specs.declared.task.Line.{Line}
 use Rattle.script_text.specs.declared.task.Line.TheVariants as said
+use Rattle.script_text.specs.Grammar.{form_of, longest_line, grammar_of, closes, opening, place}
 use Rattle.script_text.specs.Lines.{line_feed, blank, lines_of, words_of}
-use Rattle.script_text.specs.Words.{worker_in, key_in, value_in}
-use Rattle.script_text.specs.Script.{BadLine, longest_line, asking, asked_by, task_in, words_say, line_says, at_line, lines_say, phases_of, script_of}
-use Rattle.script_text.specs.Text.{value_word, request_words, task_line, task_text, phase_text, behind_text, script_text, IsTask, AreTasks, IsScriptOf}
+use Rattle.script_text.specs.Words.{worker_in, client_in, above, below, number_behind, number_in, key_in, value_in}
+use Rattle.script_text.specs.Script.{BadLine, Asked, Front, asking, asked_by, front_in, who_in, request_then, signature_by, signed_by, has_tag, tagged_task, task_in, words_say, line_says, numbers_behind, at_line, lines_say, phases_of, phases_in, script_of}
+use Rattle.script_text.specs.Text.{value_word, request_words, front_words, task_line, task_text, phase_text, behind_text, script_text, IsAskedBy, IsTask, AreTasks, IsSized, IsSignedRight, AreSigned, ArePhasesSigned, IsScriptOf}
 use Rattle.script_text.proofs.ScriptLemmas.{some_phase}
 use Rattle.script_text.proofs.DecimalLemmas.{key-fits}
 use Rattle.script_text.proofs.SpelledWordLemmas.{below-spelled, number_in-spelled, value_in-spelled}
+use Rattle.script_text.proofs.WrittenLemmas.{AreFew, CanAsk, lines_with, spaced, header-few}
 
--- ---- a line
+-- what is found twice is the same
+some-is : (x y : Front) → Some x ≡ Some y → x ≡ y
+some-is x y same = cc
 
--- the words of a task are these, and say so much
-pub record Tells (header : Header) (first third : List ℕ) (is_put : Bool) (found : Option (Option (List ℕ))) (line : Line) : Type 0 where
-  pub task : Task
-  pub is : line ≡ said.Task task
-  pub worker : first ≡ decimal task.worker
-  pub one : task.worker < header.verifiers
-  pub key : third ≡ decimal task.request.key
-  pub fits : task.request.key < 2 ^ key_bits (wide_of header)
-  pub put : task.request.put ≡ is_put
-  pub value : found ≡ Some task.request.value
+asked-is : (x y : Asked) → Some x ≡ Some y → x ≡ y
+asked-is x y same = cc
 
-task_in-tells : (header : Header) (worker key : List ℕ) (put : Bool) (value : Option (Option (List ℕ))) (line : Line) → header.verifiers < 2 ^ 16
-    → task_in header worker (asking put key value) ≡ Ok line → Tells header worker key put value line
-unfolding task_in
-task_in-tells header worker key put value line few is = go (worker_in header.verifiers worker) refl (key_in (wide_of header) key) refl value refl is where
-  go : (w : Option ℕ) → worker_in header.verifiers worker ≡ w → (k : Option ℕ) → key_in (wide_of header) key ≡ k → (v : Option (Option (List ℕ))) → value ≡ v
-      → need w Worker (λ one. need k Key (λ two. need v Hex (λ three.
-      Ok (said.Task (record { worker = one; request = record { put = put; key = two; value = three } }))))) ≡ Ok line
-      → Tells header worker key put value line
-  go None is_w k is_k v is_v same = cc
-  go (Some w) is_w None is_k v is_v same = cc
-  go (Some w) is_w (Some k) is_k None is_v same = cc
-  go (Some w) is_w (Some k) is_k (Some v) is_v same =
-      let one = below-spelled header.verifiers w _ is_w in
-      let two = below-spelled (2 ^ key_bits (wide_of header)) k _ is_k in
-      record {
-        task = record { worker = w; request = record { put = put; key = k; value = v } };
-        is = cc;
-        worker = number_in-spelled w worker one.0 (omega arith);
-        one = one.1;
-        key = number_in-spelled k key two.0 (key-fits (wide_of header) k two.1);
-        fits = two.1;
-        put = refl;
-        value = is_v;
-      }
+read_or : {A : Type 0} → A → Result A Cause → A
+read_or other (Ok value) = value
+read_or other (Err cause) = other
 
--- a line that is read is spelled so, and asks what can be asked
-IsSpelled : Header → List ℕ → Line → Type 0
-IsSpelled header line said.Epoch = line ≡ codes "epoch"
-IsSpelled header line (said.Task task) = (line ≡ task_line task) × IsTask header task
+who-is : (x y : Who) → Ok {E = Cause} x ≡ Ok y → x ≡ y
+who-is x y same = ap (read_or x) same
 
--- a task with its words, spelled
-spelled-task : (header : Header) (line : List ℕ) (worker key : List ℕ) (put : Bool) (value : Option (Option (List ℕ))) (read : Line)
-    → (told : Tells header worker key put value read)
-    → line ≡ decimal told.task.worker ++ request_words told.task.request.put told.task.request.key told.task.request.value
-    → ForSome told.task.request.value (λ bytes. length bytes ≤ longest_of header) → ForSome told.task.request.value IsBytes
-    → (told.task.request.put ≡ false → told.task.request.value ≡ None)
-    → IsSpelled header line read
-unfolding IsSpelled task_line
-spelled-task header line worker key put value read told is size bytes get =
-    let P : Line → Type 0 = IsSpelled header line in
-    subst P (sym told.is) (is, record { worker = told.one; key = told.fits; size = size; bytes = bytes; get = get })
+line-is : (x y : Line) → Ok {E = Cause} x ≡ Ok y → x ≡ y
+line-is x y same = ap (read_or x) same
 
--- the words behind a worker's number, one by one
-words-three : (put is_put : Bool) (verb : List ℕ) (key : ℕ) (value : Option (List ℕ)) → is_put ≡ put → value ≡ None → verb ≡ (if put then codes "del" else codes "get")
-    → request_words is_put key value ≡ blank ∷ (verb ++ blank ∷ decimal key)
-words-three true is_put verb key value same empty is_verb =
-    ap (λ p. request_words p key value) same ∙ ap (request_words true key) empty ∙ ap (λ v. blank ∷ (v ++ blank ∷ decimal key)) (sym is_verb)
-words-three false is_put verb key value same empty is_verb =
-    ap (λ p. request_words p key value) same ∙ ap (λ v. blank ∷ (v ++ blank ∷ decimal key)) (sym is_verb)
+-- ---- the words in front
 
-words-four : (is_put : Bool) (verb : List ℕ) (key : ℕ) (value : Option (List ℕ)) (bytes : List ℕ) → is_put ≡ true → value ≡ Some bytes → verb ≡ codes "put"
-    → request_words is_put key value ≡ blank ∷ (verb ++ blank ∷ (decimal key ++ blank ∷ value_word bytes))
-words-four is_put verb key value bytes same is is_verb =
-    ap (λ p. request_words p key value) same ∙ ap (request_words true key) is
-    ∙ ap (λ text. codes " put " ++ text) (append_assoc (decimal key) (codes " ") (value_word bytes))
-    ∙ ap (λ v. blank ∷ (v ++ blank ∷ (decimal key ++ blank ∷ value_word bytes))) (sym is_verb)
+-- the words in front, joined
+abbrev front_bytes : Form → Front → List ℕ
+front_bytes (Workers count) front = front.who
+front_bytes (Clients count workers) front = front.who ++ codes " " ++ front.number ++ codes " " ++ front.digits
+front_bytes (Signing client) front = front.number
+
+front-spelled : (form : Form) (words : List (List ℕ)) (front : Front) → front_in form words ≡ Some front
+    → join_with_byte blank words ≡ front_bytes form front ++ blank ∷ join_with_byte blank front.behind
+front-spelled (Workers count) [] front is = cc
+front-spelled (Workers count) (a ∷ []) front is = cc
+front-spelled (Workers count) (a ∷ b ∷ words) front is = own front (sym (some-is _ front is)) where
+  own : (front : Front) → front ≡ record { who = a; number = []; digits = []; behind = b ∷ words }
+      → join_with_byte blank (a ∷ b ∷ words) ≡ front_bytes (Workers count) front ++ blank ∷ join_with_byte blank front.behind
+  own front same = ap (λ (f : Front). front_bytes (Workers count) f ++ blank ∷ join_with_byte blank f.behind) (sym same)
+front-spelled (Clients count workers) [] front is = cc
+front-spelled (Clients count workers) (a ∷ []) front is = cc
+front-spelled (Clients count workers) (a ∷ b ∷ []) front is = cc
+front-spelled (Clients count workers) (a ∷ b ∷ c ∷ []) front is = cc
+front-spelled (Clients count workers) (a ∷ b ∷ c ∷ d ∷ words) front is = own front (sym (some-is _ front is)) where
+  own : (front : Front) → front ≡ record { who = a; number = b; digits = c; behind = d ∷ words }
+      → join_with_byte blank (a ∷ b ∷ c ∷ d ∷ words) ≡ front_bytes (Clients count workers) front ++ blank ∷ join_with_byte blank front.behind
+  own front same =
+      sym (spaced a b c (join_with_byte blank (d ∷ words)))
+      ∙ ap (λ (f : Front). front_bytes (Clients count workers) f ++ blank ∷ join_with_byte blank f.behind) (sym same)
+front-spelled (Signing client) [] front is = cc
+front-spelled (Signing client) (a ∷ []) front is = cc
+front-spelled (Signing client) (a ∷ b ∷ words) front is = own front (sym (some-is _ front is)) where
+  own : (front : Front) → front ≡ record { who = []; number = a; digits = []; behind = b ∷ words }
+      → join_with_byte blank (a ∷ b ∷ words) ≡ front_bytes (Signing client) front ++ blank ∷ join_with_byte blank front.behind
+  own front same = ap (λ (f : Front). front_bytes (Signing client) f ++ blank ∷ join_with_byte blank f.behind) (sym same)
+
+-- ---- what is asked
+
+-- the words of what is asked, spelled
+AskedSpelled : ℕ → List (List ℕ) → Asked → Type 0
+AskedSpelled longest words asked = (key : ℕ) (value : Option (List ℕ)) → asked.key ≡ decimal key → asked.value ≡ Some value
+    → (blank ∷ join_with_byte blank words ≡ request_words asked.put key value)
+    × ForSome value (λ bytes. length bytes ≤ longest) × ForSome value IsBytes × (asked.put ≡ false → value ≡ None)
+
+nothing : (P : List ℕ → Type 0) (value : Option (List ℕ)) → value ≡ None → ForSome value P
+nothing P value none_there bytes same = cc
 
 -- a get, or a put of none
-says-three : (header : Header) (worker verb key : List ℕ) (read : Line) → header.verifiers < 2 ^ 16
-    → need (asked_by (longest_of header) (verb ∷ key ∷ [])) Shape (task_in header worker) ≡ Ok read
-    → IsSpelled header (worker ++ blank ∷ (verb ++ blank ∷ key)) read
-says-three header worker verb key read few is = get (bytes_eq verb (codes "get")) refl (bytes_eq verb (codes "del")) refl is where
-  none_of : (value : Option (List ℕ)) → Some None ≡ Some value → value ≡ None
-  none_of value same = cc
-
-  nothing : (P : List ℕ → Type 0) (value : Option (List ℕ)) → value ≡ None → ForSome value P
-  nothing P value none_there bytes same = cc
-
-  spelled : (put : Bool) → Tells header worker key put (Some None) read
-      → verb ≡ (if put then codes "del" else codes "get") → IsSpelled header (worker ++ blank ∷ (verb ++ blank ∷ key)) read
-  spelled put told is_verb =
-      let task = told.task in
-      let value = none_of task.request.value told.value in
-      let words : request_words task.request.put task.request.key task.request.value ≡ blank ∷ (verb ++ blank ∷ decimal task.request.key) = words-three put task.request.put verb task.request.key task.request.value told.put value is_verb in
-      spelled-task header _ worker key put (Some None) read told
-      (ap (λ w. w ++ blank ∷ (verb ++ blank ∷ key)) told.worker ∙ ap (λ k. decimal task.worker ++ blank ∷ (verb ++ blank ∷ k)) told.key ∙ ap (λ text. decimal task.worker ++ text) (sym words))
-      (nothing (λ bytes. length bytes ≤ longest_of header) task.request.value value) (nothing IsBytes task.request.value value) (λ _. value)
-
-  del : (test : Bool) → bytes_eq verb (codes "del") ≡ test
-      → need (if test then Some (asking true key (Some None)) else None) Shape (task_in header worker) ≡ Ok read
-      → IsSpelled header (worker ++ blank ∷ (verb ++ blank ∷ key)) read
-  del true tested same = spelled true (task_in-tells header worker key true (Some None) read few same) ((bytes_eq-Decides verb (codes "del")).0 tested)
-  del false tested same = cc
-
-  get : (test : Bool) → bytes_eq verb (codes "get") ≡ test → (more : Bool) → bytes_eq verb (codes "del") ≡ more
-      → need (if test then Some (asking false key (Some None)) else if more then Some (asking true key (Some None)) else None) Shape (task_in header worker) ≡ Ok read
-      → IsSpelled header (worker ++ blank ∷ (verb ++ blank ∷ key)) read
-  get true tested more is_more same = spelled false (task_in-tells header worker key false (Some None) read few same) ((bytes_eq-Decides verb (codes "get")).0 tested)
-  get false tested more is_more same = del more is_more same
+short-spelled : (longest : ℕ) (verb word : List ℕ) (put : Bool) → verb ≡ (if put then codes "del" else codes "get") → AskedSpelled longest (verb ∷ word ∷ []) (asking put word (Some None))
+unfolding AskedSpelled
+short-spelled longest verb word put is key value is_key is_value =
+    let none : value ≡ None = cc in
+    (ap (λ v. blank ∷ (v ++ blank ∷ word)) is ∙ ap (λ k. blank ∷ ((if put then codes "del" else codes "get") ++ blank ∷ k)) is_key
+    ∙ words put ∙ ap (request_words put key) (sym none),
+    nothing (λ bytes. length bytes ≤ longest) value none, nothing IsBytes value none, λ _. none)
+  where
+    words : (put : Bool) → blank ∷ ((if put then codes "del" else codes "get") ++ blank ∷ decimal key) ≡ request_words put key None
+    words true = refl
+    words false = refl
 
 -- a put
-says-four : (header : Header) (worker verb key value : List ℕ) (read : Line) → header.verifiers < 2 ^ 16
-    → need (asked_by (longest_of header) (verb ∷ key ∷ value ∷ [])) Shape (task_in header worker) ≡ Ok read
-    → IsSpelled header (worker ++ blank ∷ (verb ++ blank ∷ (key ++ blank ∷ value))) read
-says-four header worker verb key value read few is = put (bytes_eq verb (codes "put")) refl is where
-  found : (may : Option (List ℕ)) (task_value : Option (List ℕ)) → option_map Some may ≡ Some task_value → (bytes : List ℕ) × (may ≡ Some bytes) × (task_value ≡ Some bytes)
-  found None task_value same = cc
-  found (Some bytes) task_value same = (bytes, refl, cc)
+put-spelled : (longest : ℕ) (verb word digits : List ℕ) → verb ≡ codes "put" → AskedSpelled longest (verb ∷ word ∷ digits ∷ []) (asking true word (option_map Some (value_in longest digits)))
+unfolding AskedSpelled
+put-spelled longest verb word digits is key value is_key is_value = go (value_in longest digits) refl is_value where
+  go : (found : Option (List ℕ)) → value_in longest digits ≡ found → option_map Some found ≡ Some value
+      → (blank ∷ join_with_byte blank (verb ∷ word ∷ digits ∷ []) ≡ request_words true key value)
+      × ForSome value (λ bytes. length bytes ≤ longest) × ForSome value IsBytes × (true ≡ false → value ≡ None)
+  go None found same = cc
+  go (Some bytes) found same =
+      let facts = value_in-spelled longest digits bytes found in
+      let some : value ≡ Some bytes = cc in
+      (ap (λ v. blank ∷ (v ++ blank ∷ (word ++ blank ∷ digits))) is ∙ ap (λ k. codes " put " ++ (k ++ blank ∷ digits)) is_key
+      ∙ ap (λ d. codes " put " ++ (decimal key ++ blank ∷ d)) facts.0
+      ∙ ap (λ text. codes " put " ++ text) (sym (append_assoc (decimal key) (codes " ") (value_word bytes)))
+      ∙ ap (request_words true key) (sym some),
+      (λ b same_b. let e : b ≡ bytes = cc in let P : List ℕ → Type 0 = λ x. length x ≤ longest in subst P (sym e) facts.1),
+      (λ b same_b. let e : b ≡ bytes = cc in subst IsBytes (sym e) facts.2),
+      λ no_put. cc)
 
-  spelled : Tells header worker key true (option_map Some (value_in (longest_of header) value)) read → verb ≡ codes "put"
-      → IsSpelled header (worker ++ blank ∷ (verb ++ blank ∷ (key ++ blank ∷ value))) read
-  spelled told is_verb =
-      let task = told.task in
-      let some = found (value_in (longest_of header) value) task.request.value told.value in
-      let facts = value_in-spelled (longest_of header) value some.0 some.1 in
-      let words : request_words task.request.put task.request.key task.request.value ≡ blank ∷ (verb ++ blank ∷ (decimal task.request.key ++ blank ∷ value_word some.0)) =
-      words-four task.request.put verb task.request.key task.request.value some.0 told.put some.2 is_verb in
-      spelled-task header _ worker key true (option_map Some (value_in (longest_of header) value)) read told
-      (ap (λ w. w ++ blank ∷ (verb ++ blank ∷ (key ++ blank ∷ value))) told.worker
-      ∙ ap (λ k. decimal task.worker ++ blank ∷ (verb ++ blank ∷ (k ++ blank ∷ value))) told.key
-      ∙ ap (λ v. decimal task.worker ++ blank ∷ (verb ++ blank ∷ (decimal task.request.key ++ blank ∷ v))) facts.0
-      ∙ ap (λ text. decimal task.worker ++ text) (sym words))
-      (λ bytes same. let e : bytes ≡ some.0 = cc in let P : List ℕ → Type 0 = λ b. length b ≤ longest_of header in subst P (sym e) facts.1)
-      (λ bytes same. let e : bytes ≡ some.0 = cc in subst IsBytes (sym e) facts.2)
-      (λ is_get. let e : true ≡ false = sym told.put ∙ is_get in cc)
+asked-spelled : (longest : ℕ) (words : List (List ℕ)) (asked : Asked) → asked_by longest words ≡ Some asked → AskedSpelled longest words asked
+asked-spelled longest [] asked is = cc
+asked-spelled longest (a ∷ []) asked is = cc
+asked-spelled longest (verb ∷ word ∷ []) asked is = get (bytes_eq verb (codes "get")) refl (bytes_eq verb (codes "del")) refl is where
+  Goal : Asked → Type 0
+  Goal = AskedSpelled longest (verb ∷ word ∷ [])
+
+  get : (test : Bool) → bytes_eq verb (codes "get") ≡ test → (more : Bool) → bytes_eq verb (codes "del") ≡ more
+      → (if test then Some (asking false word (Some None)) else if more then Some (asking true word (Some None)) else None) ≡ Some asked → Goal asked
+  get true tested more is_more same = subst Goal (asked-is _ asked same) (short-spelled longest verb word false ((bytes_eq-Decides verb (codes "get")).0 tested))
+  get false tested true is_more same = subst Goal (asked-is _ asked same) (short-spelled longest verb word true ((bytes_eq-Decides verb (codes "del")).0 is_more))
+  get false tested false is_more same = cc
+asked-spelled longest (verb ∷ word ∷ digits ∷ []) asked is = put (bytes_eq verb (codes "put")) refl is where
+  Goal : Asked → Type 0
+  Goal = AskedSpelled longest (verb ∷ word ∷ digits ∷ [])
 
   put : (test : Bool) → bytes_eq verb (codes "put") ≡ test
-      → need (if test then Some (asking true key (option_map Some (value_in (longest_of header) value))) else None) Shape (task_in header worker) ≡ Ok read
-      → IsSpelled header (worker ++ blank ∷ (verb ++ blank ∷ (key ++ blank ∷ value))) read
-  put true tested same = spelled (task_in-tells header worker key true (option_map Some (value_in (longest_of header) value)) read few same) ((bytes_eq-Decides verb (codes "put")).0 tested)
+      → (if test then Some (asking true word (option_map Some (value_in longest digits))) else None) ≡ Some asked → Goal asked
+  put true tested same = subst Goal (asked-is _ asked same) (put-spelled longest verb word digits ((bytes_eq-Decides verb (codes "put")).0 tested))
   put false tested same = cc
+asked-spelled longest (a ∷ b ∷ c ∷ d ∷ words) asked is = cc
 
--- the close of an epoch
-says-one : (header : Header) (word : List ℕ) (read : Line) → (if bytes_eq word (codes "epoch") then Ok said.Epoch else Err Shape) ≡ Ok read → IsSpelled header word read
-unfolding IsSpelled
-says-one header word read is = go (bytes_eq word (codes "epoch")) refl is where
-  go : (test : Bool) → bytes_eq word (codes "epoch") ≡ test → (if test then Ok said.Epoch else Err Shape) ≡ Ok read → IsSpelled header word read
-  go true tested same =
-      let epoch : said.Epoch ≡ read = cc in
-      let P : Line → Type 0 = IsSpelled header word in
-      subst P epoch ((bytes_eq-Decides word (codes "epoch")).0 tested)
-  go false tested same = cc
+-- ---- who asks
 
--- the words of a line
-says-words : (header : Header) (words : List (List ℕ)) (read : Line) → header.verifiers < 2 ^ 16 → words_say header words ≡ Ok read → IsSpelled header (join_with_byte blank words) read
-unfolding words_say
-says-words header [] read few is = cc
-says-words header (a ∷ []) read few is = says-one header a read is
-says-words header (a ∷ b ∷ []) read few is = cc
-says-words header (a ∷ b ∷ c ∷ []) read few is = says-three header a b c read few is
-says-words header (a ∷ b ∷ c ∷ d ∷ []) read few is = says-four header a b c d read few is
-says-words header (a ∷ b ∷ c ∷ d ∷ e ∷ words) read few is = cc
+-- a number behind another
+number-spelled : (last number : ℕ) (word : List ℕ) → number_behind last word ≡ Some number → (word ≡ decimal number) × (last < number) × (number < 2 ^ 64)
+number-spelled last number word is = go (below (2 ^ 64) (number_in word)) refl is where
+  later : (n : ℕ) (test : Bool) → nat_lt last n ≡ test → (if test then Some n else None) ≡ Some number → (n ≡ number) × (last < n)
+  later n true tested same = (cc, grind (arith, nat_tests))
+  later n false tested same = cc
 
--- a line
-says-spelled : (header : Header) (line : List ℕ) (read : Line) → header.verifiers < 2 ^ 16 → line_says header line ≡ Ok read → IsSpelled header line read
-unfolding line_says words_of
-says-spelled header line read few is = go (nat_lt (longest_line header) (length line)) is where
-  go : (test : Bool) → (if test then Err Shape else words_say header (words_of line)) ≡ Ok read → IsSpelled header line read
-  go true same = cc
-  go false same =
-      let P : List ℕ → Type 0 = λ bytes. IsSpelled header bytes read in
-      subst P (join_with_byte-slice_split blank line) (says-words header (words_of line) read few same)
+  go : (found : Option ℕ) → below (2 ^ 64) (number_in word) ≡ found → above last found ≡ Some number → (word ≡ decimal number) × (last < number) × (number < 2 ^ 64)
+  go None found same = cc
+  go (Some n) found same =
+      let facts = later n (nat_lt last n) refl same in
+      let small = below-spelled (2 ^ 64) n (number_in word) found in
+      (number_in-spelled n word small.0 (omega (arith, small.1)) ∙ ap decimal facts.0, omega (arith, facts.0, facts.1), omega (arith, facts.0, small.1))
+
+module _ (functions : DigestFunctions) (longest_line longest : ℕ) (wide : Bool) where
+  -- the words in front of a request are those of who asks, who can ask, and whose signature is right
+  WhoSpelled : Form → List ℕ → Front → ℕ → Request → Type 0
+  WhoSpelled form last front worker request = (front_bytes form front ≡ front_words worker request.signature) × IsAskedBy form worker request.signature
+      × ForSome request.signature (IsSignedRight functions (lines_with form longest_line longest wide) last request)
+
+  who-spelled : (form : Form) (last : List ℕ) (front : Front) (who : Who) (request : Request) → AreFew form → who_in form last front ≡ Ok who
+      → has_tag form front.digits (signed_by functions wide request who.signer).signature ≡ true
+      → WhoSpelled form last front who.worker (signed_by functions wide request who.signer)
+  unfolding WhoSpelled
+  who-spelled (Workers count) last front who request few is tagged = go (worker_in count front.who) refl is where
+    Goal : Who → Type 0
+    Goal w = WhoSpelled (Workers count) last front w.worker (signed_by functions wide request w.signer)
+
+    go : (found : Option ℕ) → worker_in count front.who ≡ found → need found Worker (λ worker. Ok (record { worker = worker; signer = None })) ≡ Ok who → Goal who
+    unfolding WhoSpelled
+    go None found same = cc
+    go (Some worker) found same =
+        let one = below-spelled count worker (number_in front.who) found in
+        subst Goal (who-is (record { worker = worker; signer = None }) who same)
+        (number_in-spelled worker front.who one.0 (omega (arith, one.1)), (one.1, refl), λ s none. cc)
+  who-spelled (Clients count workers) last front who request few is tagged = client (client_in count front.who) refl is where
+    Goal : Who → Type 0
+    Goal w = has_tag (Clients count workers) front.digits (signed_by functions wide request w.signer).signature ≡ true
+        → WhoSpelled (Clients count workers) last front w.worker (signed_by functions wide request w.signer)
+
+    own : (c n : ℕ) → client_in count front.who ≡ Some c → number_behind (get_or last c 0) front.number ≡ Some n → Goal (record { worker = c % workers; signer = Some (record { client = c; number = n }) })
+    unfolding request_text WhoSpelled
+    own c n is_c is_n tag =
+        let one = below-spelled count c (number_in front.who) is_c in
+        let two = number-spelled (get_or last c 0) n front.number is_n in
+        let word = number_in-spelled c front.who one.0 (omega (arith, one.1)) in
+        let digits = (bytes_eq-Decides front.digits (encode_lower (request_tag functions wide c n request))).0 tag in
+        (ap (λ w. w ++ codes " " ++ front.number ++ codes " " ++ front.digits) word ∙ ap (λ w. decimal c ++ codes " " ++ w ++ codes " " ++ front.digits) two.0
+        ∙ ap (λ w. decimal c ++ codes " " ++ decimal n ++ codes " " ++ w) digits,
+        (one.1, refl),
+        λ s some.
+        let e : record { client = c; number = n; tag = request_tag functions wide c n request } ≡ s = cc in
+        let P : Signature → Type 0 = IsSignedRight functions (lines_with (Clients count workers) longest_line longest wide) last (signed_by functions wide request (Some (record { client = c; number = n }))) in
+        subst P e (record { tag = refl; later = two.1; fits = two.2 }))
+
+    number : (c : ℕ) → client_in count front.who ≡ Some c → (found : Option ℕ) → number_behind (get_or last c 0) front.number ≡ found
+        → need found Number (λ n. Ok (record { worker = c % workers; signer = Some (record { client = c; number = n }) })) ≡ Ok who
+        → WhoSpelled (Clients count workers) last front who.worker (signed_by functions wide request who.signer)
+    number c is_c None is_n same = cc
+    number c is_c (Some n) is_n same =
+        subst Goal (who-is (record { worker = c % workers; signer = Some (record { client = c; number = n }) }) who same) (own c n is_c is_n) tagged
+
+    client : (found : Option ℕ) → client_in count front.who ≡ found
+        → need found Client (λ c. need (number_behind (get_or last c 0) front.number) Number (λ n. Ok (record { worker = c % workers; signer = Some (record { client = c; number = n }) }))) ≡ Ok who
+        → WhoSpelled (Clients count workers) last front who.worker (signed_by functions wide request who.signer)
+    client None is_c same = cc
+    client (Some c) is_c same = number c is_c (number_behind (get_or last c 0) front.number) refl same
+  who-spelled (Signing client) last front who request few is tagged = absurd few
+
+  -- ---- a line
+
+  -- a line that is read is spelled so, and asks what can be asked
+  IsSpelled : Form → List ℕ → List ℕ → Line → Type 0
+  IsSpelled form last line said.Epoch = line ≡ codes "epoch"
+  IsSpelled form last line (said.Task task) = (line ≡ task_line task) × CanAsk form longest wide task
+      × ForSome task.request.signature (IsSignedRight functions (lines_with form longest_line longest wide) last task.request)
+
+  task-spelled : (form : Form) (last : List ℕ) (front : Front) (asked : Asked) (words : List (List ℕ)) (read : Line) → AreFew form
+      → join_with_byte blank words ≡ front_bytes form front ++ blank ∷ join_with_byte blank front.behind → AskedSpelled longest front.behind asked
+      → task_in functions (lines_with form longest_line longest wide) last front asked ≡ Ok read → IsSpelled form last (join_with_byte blank words) read
+  unfolding task_in IsSpelled AskedSpelled WhoSpelled task_line
+  task-spelled form last front asked words read few joined spelled is = who (who_in form last front) refl is where
+    tagged : (w : Who) (k : ℕ) (v : Option (List ℕ)) → who_in form last front ≡ Ok w → key_in wide asked.key ≡ Some k → asked.value ≡ Some v
+        → (b : Bool) → has_tag form front.digits (signed_by functions wide (record { put = asked.put; key = k; value = v; signature = None }) w.signer).signature ≡ b
+        → test (not b) Tag (Ok (said.Task (record { worker = w.worker; request = signed_by functions wide (record { put = asked.put; key = k; value = v; signature = None }) w.signer }))) ≡ Ok read
+        → IsSpelled form last (join_with_byte blank words) read
+    unfolding IsSpelled AskedSpelled WhoSpelled task_line
+    tagged w k v is_w is_k is_v false is_b same = cc
+    tagged w k v is_w is_k is_v true is_b same =
+        let request : Request = record { put = asked.put; key = k; value = v; signature = None } in
+        let signed = signed_by functions wide request w.signer in
+        let two = below-spelled (2 ^ key_bits wide) k (number_in asked.key) is_k in
+        let key = number_in-spelled k asked.key two.0 (key-fits wide k two.1) in
+        let facts = spelled k v key is_v in
+        let own = who-spelled form last front w request few is_w is_b in
+        let P : Line → Type 0 = IsSpelled form last (join_with_byte blank words) in
+        subst P (line-is (said.Task (record { worker = w.worker; request = signed })) read same)
+        (joined ∙ ap (λ f. f ++ blank ∷ join_with_byte blank front.behind) own.0 ∙ ap (λ text. front_words w.worker signed.signature ++ text) facts.0,
+        record { key = two.1; size = facts.1; bytes = facts.2; get = facts.3; by = own.1 },
+        own.2)
+
+    value : (w : Who) (k : ℕ) → who_in form last front ≡ Ok w → key_in wide asked.key ≡ Some k → (v : Option (Option (List ℕ))) → asked.value ≡ v
+        → need v Hex (λ value. tagged_task form front.digits w.worker (signed_by functions wide (record { put = asked.put; key = k; value = value; signature = None }) w.signer)) ≡ Ok read
+        → IsSpelled form last (join_with_byte blank words) read
+    value w k is_w is_k None is_v same = cc
+    value w k is_w is_k (Some v) is_v same = tagged w k v is_w is_k is_v (has_tag form front.digits (signed_by functions wide (record { put = asked.put; key = k; value = v; signature = None }) w.signer).signature) refl same
+
+    key : (w : Who) → who_in form last front ≡ Ok w → (k : Option ℕ) → key_in wide asked.key ≡ k
+        → need k Key (λ key. need asked.value Hex (λ value. tagged_task form front.digits w.worker (signed_by functions wide (record { put = asked.put; key = key; value = value; signature = None }) w.signer))) ≡ Ok read
+        → IsSpelled form last (join_with_byte blank words) read
+    key w is_w None is_k same = cc
+    key w is_w (Some k) is_k same = value w k is_w is_k asked.value refl same
+
+    who : (w : Result Who Cause) → who_in form last front ≡ w
+        → and_then w (λ who. request_then wide asked (λ request. tagged_task form front.digits who.worker (signed_by functions wide request who.signer))) ≡ Ok read
+        → IsSpelled form last (join_with_byte blank words) read
+    who (Err cause) is_w same = cc
+    who (Ok w) is_w same = key w is_w (key_in wide asked.key) refl same
+
+  words-spelled : (form : Form) (last : List ℕ) (words : List (List ℕ)) (read : Line) → AreFew form
+      → words_say functions (lines_with form longest_line longest wide) last words ≡ Ok read → IsSpelled form last (join_with_byte blank words) read
+  unfolding words_say
+  words-spelled form last words read few is = front (front_in form words) refl is where
+    asked : (f : Front) → front_in form words ≡ Some f → (a : Option Asked) → asked_by longest f.behind ≡ a
+        → need a Shape (task_in functions (lines_with form longest_line longest wide) last f) ≡ Ok read → IsSpelled form last (join_with_byte blank words) read
+    asked f is_f None is_a same = cc
+    asked f is_f (Some a) is_a same =
+        task-spelled form last f a words read few (front-spelled form words f is_f) (asked-spelled longest f.behind a is_a) same
+
+    front : (f : Option Front) → front_in form words ≡ f
+        → need f Shape (λ front. need (asked_by longest front.behind) Shape (task_in functions (lines_with form longest_line longest wide) last front)) ≡ Ok read
+        → IsSpelled form last (join_with_byte blank words) read
+    front None is_f same = cc
+    front (Some f) is_f same = asked f is_f (asked_by longest f.behind) refl same
+
+  line-spelled : (form : Form) (last line : List ℕ) (read : Line) → AreFew form
+      → line_says functions (lines_with form longest_line longest wide) last line ≡ Ok read → IsSpelled form last line read
+  unfolding line_says words_of IsSpelled
+  line-spelled form last line read few is = go (nat_lt longest_line (length line)) (closes form && bytes_eq line (codes "epoch")) refl is where
+    Goal : List ℕ → Type 0
+    Goal bytes = IsSpelled form last bytes read
+
+    go : (long epoch : Bool) → (closes form && bytes_eq line (codes "epoch")) ≡ epoch
+        → (if long then Err Shape else if epoch then Ok said.Epoch else words_say functions (lines_with form longest_line longest wide) last (words_of line)) ≡ Ok read
+        → IsSpelled form last line read
+    unfolding IsSpelled words_of
+    go true epoch tested same = cc
+    go false true tested same =
+        let parts = and_parts (closes form) (bytes_eq line (codes "epoch")) tested in
+        let P : Line → Type 0 = IsSpelled form last line in
+        subst P (line-is said.Epoch read same) ((bytes_eq-Decides line (codes "epoch")).0 parts.1)
+    go false false tested same = subst Goal (join_with_byte-slice_split blank line) (words-spelled form last (words_of line) read few same)
 
 -- ---- all lines
 
@@ -229,37 +346,59 @@ line_text (said.Task task) = task_line task
 abbrev said_text : List Line → List ℕ
 said_text lines = flat_map (λ line. line_text line ++ line_feed ∷ []) lines
 
+-- ---- all lines of a form
+
 -- a line asks what can be asked
-IsAsked : Header → Line → Type 0
-IsAsked header said.Epoch = Unit {0}
-IsAsked header (said.Task task) = IsTask header task
+IsAsked : Form → ℕ → Bool → Line → Type 0
+IsAsked form longest wide said.Epoch = Unit {0}
+IsAsked form longest wide (said.Task task) = CanAsk form longest wide task
 
-spelled-text : (header : Header) (line : List ℕ) (read : Line) → IsSpelled header line read → (line ≡ line_text read) × IsAsked header read
-unfolding IsSpelled line_text IsAsked
-spelled-text header line said.Epoch is = (is, tt)
-spelled-text header line (said.Task task) is = is
+-- the tasks of lines
+tasks_of : List Line → List Task
+tasks_of [] = []
+tasks_of (said.Epoch ∷ lines) = tasks_of lines
+tasks_of (said.Task task ∷ lines) = task ∷ tasks_of lines
 
--- lines that are read are written so
-lines-said : (header : Header) (number : ℕ) (lines : List (List ℕ)) (read : List Line) → header.verifiers < 2 ^ 16 → lines_say header number lines ≡ Ok read
-    → (ended lines ≡ said_text read) × AllByRecursion (IsAsked header) read
-unfolding lines_say
-lines-said header number [] read few is =
-    let none : read ≡ [] = cc in
-    rw none (refl, tt)
-lines-said header number (line ∷ lines) read few is =
-    go (line_says header line) refl (lines_say header (number + 1) lines) (λ more same. lines-said header (number + 1) lines more few same) is
-  where
-    go : (first : Result Line Cause) → line_says header line ≡ first → (others : Result (List Line) BadLine)
-        → ((more : List Line) → others ≡ Ok more → (ended lines ≡ said_text more) × AllByRecursion (IsAsked header) more)
-        → and_then (at_line number first) (λ one. and_then others (λ more. Ok (one ∷ more))) ≡ Ok read
-        → (ended (line ∷ lines) ≡ said_text read) × AllByRecursion (IsAsked header) read
-    go (Err cause) says others behind same = cc
-    go (Ok one) says (Err bad) behind same = cc
-    go (Ok one) says (Ok more) behind same =
-        let all : read ≡ one ∷ more = cc in
-        let first = spelled-text header line one (says-spelled header line one few says) in
-        let rest = behind more refl in
-        rw all (ap (λ text. (text ++ line_feed ∷ []) ++ ended lines) first.0 ∙ ap (λ text. (line_text one ++ line_feed ∷ []) ++ text) rest.0, (first.1, rest.1))
+module _ (functions : DigestFunctions) (form : Form) (longest_line longest : ℕ) (wide : Bool) (few : AreFew form) where
+  -- what was read of lines
+  Read : List ℕ → List (List ℕ) → List Line → Type 0
+  Read last lines read = (ended lines ≡ said_text read) × AllByRecursion (IsAsked form longest wide) read
+      × AreSigned functions (lines_with form longest_line longest wide) last (tasks_of read)
+
+  read-one : (last line : List ℕ) (lines : List (List ℕ)) (one : Line) (more : List Line) → IsSpelled functions longest_line longest wide form last line one
+      → Read (numbers_behind form last one) lines more → Read last (line ∷ lines) (one ∷ more)
+  unfolding IsSpelled Read IsAsked tasks_of line_text
+  read-one last line lines said.Epoch more is rest =
+      (ap (λ text. (text ++ line_feed ∷ []) ++ ended lines) is ∙ ap (λ text. (codes "epoch" ++ line_feed ∷ []) ++ text) rest.0, (tt, rest.1), rest.2)
+  read-one last line lines (said.Task task) more is rest =
+      (ap (λ text. (text ++ line_feed ∷ []) ++ ended lines) is.0 ∙ ap (λ text. (task_line task ++ line_feed ∷ []) ++ text) rest.0, (is.1, rest.1), (is.2, rest.2))
+
+  lines-said : (last : List ℕ) (number : ℕ) (lines : List (List ℕ)) (read : List Line)
+      → lines_say functions (lines_with form longest_line longest wide) last number lines ≡ Ok read → Read last lines read
+  unfolding lines_say Read tasks_of
+  lines-said last number [] read is =
+      let none : read ≡ [] = cc in
+      rw none (refl, tt, tt)
+  lines-said last number (line ∷ lines) read is =
+      go (line_says functions (lines_with form longest_line longest wide) last line) refl
+      (λ one more same. lines-said (numbers_behind form last one) (number + 1) lines more same) is
+    where
+      next : (one : Line) → line_says functions (lines_with form longest_line longest wide) last line ≡ Ok one → (others : Result (List Line) BadLine)
+          → ((more : List Line) → others ≡ Ok more → Read (numbers_behind form last one) lines more)
+          → and_then others (λ more. Ok (one ∷ more)) ≡ Ok read → Read last (line ∷ lines) read
+      next one says (Err bad) behind same = cc
+      next one says (Ok more) behind same =
+          let all : read ≡ one ∷ more = cc in
+          let P : List Line → Type 0 = Read last (line ∷ lines) in
+          subst P (sym all) (read-one last line lines one more (line-spelled functions longest_line longest wide form last line one few says) (behind more refl))
+
+      go : (first : Result Line Cause) → line_says functions (lines_with form longest_line longest wide) last line ≡ first
+          → ((one : Line) (more : List Line) → lines_say functions (lines_with form longest_line longest wide) (numbers_behind form last one) (number + 1) lines ≡ Ok more
+              → Read (numbers_behind form last one) lines more)
+          → and_then (at_line number first) (λ one. and_then (lines_say functions (lines_with form longest_line longest wide) (numbers_behind form last one) (number + 1) lines) (λ more. Ok (one ∷ more))) ≡ Ok read
+          → Read last (line ∷ lines) read
+      go (Err cause) says behind same = cc
+      go (Ok one) says behind same = next one says (lines_say functions (lines_with form longest_line longest wide) (numbers_behind form last one) (number + 1) lines) (behind one) same
 
 -- the phases of lines are written as these
 phases-text : (lines : List Line) → script_text (phases_of lines) ≡ said_text lines
@@ -278,31 +417,62 @@ phases-text (said.Task task ∷ lines) =
     ∙ ap (λ phases. task_text task ++ script_text phases) (sym some.2)
     ∙ ap (λ text. task_text task ++ text) (phases-text lines)
 
--- and ask what can be asked
-phases-asked : (header : Header) (lines : List Line) → AllByRecursion (IsAsked header) lines → AreTasks header (phases_of lines)
+-- the tasks of the phases are those of the lines
+phases-flat : (lines : List Line) → flat_map (λ (phase : List Task). phase) (phases_of lines) ≡ tasks_of lines
+unfolding phases_of tasks_of
+phases-flat [] = refl
+phases-flat (said.Epoch ∷ lines) = phases-flat lines
+phases-flat (said.Task task ∷ lines) =
+    let some = some_phase lines in
+    ap (λ phases. flat_map (λ (phase : List Task). phase) (onto_first task phases)) some.2
+    ∙ ap (λ phases. task ∷ flat_map (λ (phase : List Task). phase) phases) (sym some.2)
+    ∙ ap (λ tasks. task ∷ tasks) (phases-flat lines)
+
+-- what can be asked in a script for a header
+header-task : (header : Header) (task : Task) → IsSized header → CanAsk (form_of header) (longest_of header) (wide_of header) task → IsTask header task
+header-task header task sized can =
+    record { worker = worker (is_signed header) refl task.request.signature can.by; key = can.key; size = can.size; bytes = can.bytes; get = can.get; by = can.by }
+  where
+    worker : (signed : Bool) → is_signed header ≡ signed → (signature : Option Signature)
+        → IsAskedBy (if signed then Clients header.clients header.verifiers else Workers header.verifiers) task.worker signature → task.worker < header.verifiers
+    worker false is signature by = by.0
+    worker true is None by = absurd by
+    worker true is (Some s) by =
+        let P : ℕ → Type 0 = λ w. w < header.verifiers in
+        subst P (sym by.1) (mod-lt s.client header.verifiers (sized.served is))
+
+phases-asked : (header : Header) (lines : List Line) → IsSized header → AllByRecursion (IsAsked (form_of header) (longest_of header) (wide_of header)) lines → AreTasks header (phases_of lines)
 unfolding phases_of IsAsked
-phases-asked header [] are = (tt, tt)
-phases-asked header (said.Epoch ∷ lines) are = (tt, phases-asked header lines are.1)
-phases-asked header (said.Task task ∷ lines) are = go (phases_of lines) (phases-asked header lines are.1) where
+phases-asked header [] sized are = (tt, tt)
+phases-asked header (said.Epoch ∷ lines) sized are = (tt, phases-asked header lines sized are.1)
+phases-asked header (said.Task task ∷ lines) sized are = go (phases_of lines) (phases-asked header lines sized are.1) where
+  first : IsTask header task
+  first = header-task header task sized are.0
+
   go : (phases : List (List Task)) → AreTasks header phases → AreTasks header (onto_first task phases)
-  go [] others = ((are.0, tt), tt)
-  go (phase ∷ phases) others = ((are.0, others.0), others.1)
+  go [] others = ((first, tt), tt)
+  go (phase ∷ phases) others = ((first, others.0), others.1)
 
 -- a script that is read
-pub script-spelled : (header : Header) (bytes : List ℕ) (phases : List (List Task)) → header.verifiers < 2 ^ 16 → script_of header bytes ≡ Ok phases
-    → IsScriptOf phases bytes × AreTasks header phases
+pub script-spelled : (functions : DigestFunctions) (header : Header) (bytes : List ℕ) (phases : List (List Task)) → IsSized header → script_of functions header bytes ≡ Ok phases
+    → IsScriptOf phases bytes × AreTasks header phases × ArePhasesSigned functions header phases
 unfolding Ends
-script-spelled header bytes phases few is = go (lines_say header 1 (lines_of bytes)) refl is where
-  go : (read : Result (List Line) BadLine) → lines_say header 1 (lines_of bytes) ≡ read → and_then read (λ lines. Ok (phases_of lines)) ≡ Ok phases
-      → IsScriptOf phases bytes × AreTasks header phases
+script-spelled functions header bytes phases sized is = go (lines_say functions (grammar_of header) (opening (form_of header)) 1 (lines_of bytes)) refl is where
+  go : (read : Result (List Line) BadLine) → lines_say functions (grammar_of header) (opening (form_of header)) 1 (lines_of bytes) ≡ read
+      → and_then read (λ lines. Ok (phases_of lines)) ≡ Ok phases
+      → IsScriptOf phases bytes × AreTasks header phases × ArePhasesSigned functions header phases
+  unfolding Read
   go (Err bad) says same = cc
   go (Ok lines) says same =
       let all : phases_of lines ≡ phases = cc in
-      let facts = lines-said header 1 (lines_of bytes) lines few says in
+      let facts = lines-said functions (form_of header) (longest_line header) (longest_of header) (wide_of header) (header-few header sized) (opening (form_of header)) 1 (lines_of bytes) lines says in
       let text : ended (lines_of bytes) ≡ script_text phases = facts.0 ∙ sym (phases-text lines) ∙ ap script_text all in
       let Asked : List (List Task) → Type 0 = AreTasks header in
-      (ends (lines-end bytes) text, subst Asked all (phases-asked header lines facts.1))
+      let Right : List Task → Type 0 = AreSigned functions (grammar_of header) (opening (form_of header)) in
+      let Signed : List (List Task) → Type 0 = ArePhasesSigned functions header in
+      (ends (lines-end bytes) text, subst Asked all (phases-asked header lines sized facts.1), subst Signed all (subst Right (sym (phases-flat lines)) facts.2))
     where
       ends : Ends bytes (lines_of bytes) → ended (lines_of bytes) ≡ script_text phases → IsScriptOf phases bytes
+      unfolding Ends
       ends (inl whole) text = inl (whole ∙ text)
       ends (inr cut) text = inr (cut ∙ text)
