@@ -14,6 +14,7 @@ const REQUEST: u8 = 5;
 pub const LONGEST_REQUEST_TEXT: usize = 320;
 
 /// The text of a request that this client gives this number, in a bundle whose keys have 128 bits or 64.
+#[tactic(auto, unfolding(crate::specs::Texts::request_text))]
 pub fn request_text(
     wide: bool,
     client: u32,

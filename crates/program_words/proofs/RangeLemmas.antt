@@ -4,11 +4,12 @@ use Rattle.std.specs.Prelude.{codes}
 use Rattle.std.specs.List.{list_any}
 use Rattle.std.specs.Option.{option_map}
 use Rattle.std.specs.Str.Parse.{digits_value}
+use Rattle.std.proofs.lemmas.Bool.{cases_lt}
 use Rattle.std.proofs.lemmas.Bool.Decides.{nat_tests}
 use Rattle.clap.specs.Walk.{Row, Text, first_of}
 use Rattle.program_words.specs.Found.{flag_in}
 use Rattle.program_words.specs.Numbers.{is_numeral, in_range, number_between, needed_in, optional_in, given}
-use Rattle.program_words.specs.HostWords.{most_verifiers, most_touches, hot_where, hot_in, greatest_end, first_version, last_version, is_shard_count, shards_in, are_key_bits, key_bits_or, key_bits_in, numbers_in, IsPower, AreHostNumbers}
+use Rattle.program_words.specs.HostWords.{most_clients, usual_version, version_where, version_in, absent_in, sized_version, most_verifiers, most_touches, hot_where, hot_in, greatest_end, first_version, last_version, is_shard_count, shards_in, are_key_bits, key_bits_or, key_bits_in, numbers_in, IsPower, AreHostNumbers}
 use Rattle.program_words.specs.LoadWords.{most_ops, most_keys, usual_keys, most_every, usual_every, load_in, AreLoadNumbers}
 use Rattle.program_words.specs.SignWords.{greatest_client, sign_numbers_in, AreSignNumbers}
 use Rattle.program_words.specs.declared.host_words.HostNumbers.{HostNumbers}
@@ -110,24 +111,68 @@ hot_range rolling found word is =
 
 -- ---- the bits of a key
 
-tested_bits : (version bits : ℕ) → are_key_bits version bits ≡ true → (bits ≡ 64) ⊎ ((version ≡ last_version) × (bits ≡ 128))
+tested_bits : (version bits : ℕ) → are_key_bits version bits ≡ true → (bits ≡ 64) ⊎ ((sized_version ≤ version) × (bits ≡ 128))
 tested_bits version bits test = go (bits == 64) refl
   where
-    go : (short : Bool) → (bits == 64) ≡ short → (bits ≡ 64) ⊎ ((version ≡ last_version) × (bits ≡ 128))
+    go : (short : Bool) → (bits == 64) ≡ short → (bits ≡ 64) ⊎ ((sized_version ≤ version) × (bits ≡ 128))
     go true is = inl (same_number bits 64 is)
     go false is = inr (grind (arith, nat_tests, test, is), grind (arith, nat_tests, test, is))
 
 bits_or_range : (version : ℕ) (given_bits : Option ℕ) (found : ℕ) → key_bits_or version given_bits ≡ Some found
-    → (found ≡ 64) ⊎ ((version ≡ last_version) × (found ≡ 128))
+    → (found ≡ 64) ⊎ ((sized_version ≤ version) × (found ≡ 128))
 bits_or_range version None found is = let same : 64 ≡ found = cc in inl (sym same)
 bits_or_range version (Some bits) found is =
     let c = counted (are_key_bits version bits) bits found is in
-    subst (λ (n : ℕ). (n ≡ 64) ⊎ ((version ≡ last_version) × (n ≡ 128))) c.1 (tested_bits version bits c.0)
+    subst (λ (n : ℕ). (n ≡ 64) ⊎ ((sized_version ≤ version) × (n ≡ 128))) c.1 (tested_bits version bits c.0)
 
-bits_range : (version found : ℕ) (word : Option Text) → key_bits_in version word ≡ Some found → (found ≡ 64) ⊎ ((version ≡ last_version) × (found ≡ 128))
+bits_range : (version found : ℕ) (word : Option Text) → key_bits_in version word ≡ Some found → (found ≡ 64) ⊎ ((sized_version ≤ version) × (found ≡ 128))
 bits_range version found word is =
     let m = and_then_found (optional_in 64 128 word) (key_bits_or version) found is in
     bits_or_range version m.0 found m.1.1
+
+-- ---- clients, and what goes with them
+
+version_at : (clients : Option ℕ) (version found : ℕ) → version_where clients version ≡ Some found
+    → (version ≡ found) × IfSome clients (λ _. found ≡ last_version) × (clients ≡ None → found ≡ last_version → ⊥)
+version_at None version found is = go (version == last_version) refl is where
+  go : (test : Bool) → (version == last_version) ≡ test → (if test then None else Some version) ≡ Some found
+      → (version ≡ found) × Unit {0} × (None ≡ None → found ≡ last_version → ⊥)
+  go true tested same = absurd (cc)
+  go false tested same =
+      let e : version ≡ found = cc in
+      (e, tt, λ _ last. grind (arith, nat_tests, tested, e, last))
+version_at (Some clients) version found is =
+    let c = counted (version == last_version) version found is in
+    (c.1, sym c.1 ∙ same_number version last_version c.0, λ none. let other : Some clients ≡ None = none in cc)
+
+version_range : (clients : Option ℕ) (found : ℕ) (word : Option Text) → version_in clients word ≡ Some found
+    → (first_version ≤ found) × (found ≤ last_version) × IfSome clients (λ _. found ≡ last_version) × (clients ≡ None → found ≡ last_version → ⊥)
+version_range clients found word is =
+    let m = and_then_found (optional_in first_version last_version word) (λ version. version_where clients (unwrap_or version (usual_version clients))) found is in
+    let at = version_at clients (unwrap_or m.0 (usual_version clients)) found m.1.1 in
+    let usual = usual_range clients in
+    let range = or_range first_version last_version (usual_version clients) m.0 (optional_range first_version last_version m.0 word m.1.0) usual.0 usual.1 in
+    (omega (arith, at.0, range.0), omega (arith, at.0, range.1), at.1, at.2)
+  where
+    usual_range : (clients : Option ℕ) → (first_version ≤ usual_version clients) × (usual_version clients ≤ last_version)
+    usual_range None = (omega arith, omega arith)
+    usual_range (Some clients) = (omega arith, omega arith)
+
+clients_range : (clients : Option ℕ) (version : ℕ) → IfSome clients (λ number. (1 ≤ number) × (number ≤ most_clients)) → version ≤ last_version
+    → IfSome clients (λ _. version ≡ last_version) → (clients ≡ None → version ≡ last_version → ⊥)
+    → ((version < last_version) × (unwrap_or clients 0 ≡ 0)) ⊎ ((version ≡ last_version) × (1 ≤ unwrap_or clients 0) × (unwrap_or clients 0 ≤ most_clients))
+clients_range None version range most last other = go (cases_lt version last_version) where
+  go : (version < last_version) ⊎ (last_version ≤ version)
+      → ((version < last_version) × (0 ≡ 0)) ⊎ ((version ≡ last_version) × (1 ≤ 0) × (0 ≤ most_clients))
+  go (inl before) = inl (before, refl)
+  go (inr behind) = absurd (other refl (omega arith))
+clients_range (Some clients) version range most last other = inr (last, range.0, range.1)
+
+recorded_range : (clients : Option ℕ) (version : ℕ) (flag found : Bool) → absent_in clients flag ≡ Some found → (clients ≡ None → version ≡ last_version → ⊥)
+    → version ≡ last_version → found ≡ false
+recorded_range None version flag found is other last = absurd (other refl last)
+recorded_range (Some clients) version false found is other last = let same : false ≡ found = cc in sym same
+recorded_range (Some clients) version true found is other last = absurd (cc)
 
 -- ---- the numbers of a host
 
@@ -138,25 +183,27 @@ numbers_range rows numbers is =
     let h = then_found (hot_in (flag_in (codes "rolling") rows) (first_of (codes "hot") rows)) _ numbers b.1.1 in
     let f = then_found (optional_in 0 (2 ^ 32 - 1) (first_of (codes "first") rows)) _ numbers h.1.1 in
     let e = then_found (optional_in 1 greatest_end (first_of (codes "counter") rows)) _ numbers f.1.1 in
-    let v = then_found (optional_in first_version last_version (first_of (codes "format") rows)) _ numbers e.1.1 in
-    let b' = then_found (key_bits_in (unwrap_or v.0 first_version) (first_of (codes "bits") rows)) _ numbers v.1.1 in
+    let n = then_found (optional_in 1 most_clients (first_of (codes "clients") rows)) _ numbers e.1.1 in
+    let v = then_found (version_in n.0 (first_of (codes "format") rows)) _ numbers n.1.1 in
+    let b' = then_found (key_bits_in v.0 (first_of (codes "bits") rows)) _ numbers v.1.1 in
+    let r = then_found (absent_in n.0 (flag_in (codes "absent") rows)) _ numbers b'.1.1 in
     let made : HostNumbers = record {
       verifiers = a.0;
       shards = b.0;
       hot = h.0;
       first = unwrap_or f.0 0;
       counter = unwrap_or e.0 greatest_end;
-      version = unwrap_or v.0 first_version;
+      version = v.0;
       bits = b'.0;
-      absent = flag_in (codes "absent") rows;
+      absent = r.0;
       rolling = flag_in (codes "rolling") rows;
+      clients = unwrap_or n.0 0;
     } in
-    let same : made ≡ numbers = (let inside : Some made ≡ Some numbers = b'.1.1 in cc) in
+    let same : made ≡ numbers = (let inside : Some made ≡ Some numbers = r.1.1 in cc) in
     let verifiers = needed_range 1 most_verifiers a.0 (first_of (codes "verifiers") rows) a.1.0 in
     let first = or_range 0 (2 ^ 32 - 1) 0 f.0 (optional_range 0 (2 ^ 32 - 1) f.0 (first_of (codes "first") rows) f.1.0) (omega arith) (omega arith) in
     let end = or_range 1 greatest_end greatest_end e.0 (optional_range 1 greatest_end e.0 (first_of (codes "counter") rows) e.1.0) (omega arith) (omega arith) in
-    let version = or_range first_version last_version first_version v.0
-    (optional_range first_version last_version v.0 (first_of (codes "format") rows) v.1.0) (omega arith) (omega arith) in
+    let version = version_range n.0 v.0 (first_of (codes "format") rows) v.1.0 in
     let hot = hot_range (flag_in (codes "rolling") rows) h.0 (first_of (codes "hot") rows) h.1.0 in
     subst AreHostNumbers same (record {
       some_verifiers = verifiers.0;
@@ -169,35 +216,36 @@ numbers_range rows numbers is =
       end = end.1;
       some_version = version.0;
       version = version.1;
-      bits = bits_range (unwrap_or v.0 first_version) b'.0 (first_of (codes "bits") rows) b'.1.0;
+      bits = bits_range v.0 b'.0 (first_of (codes "bits") rows) b'.1.0;
+      clients = clients_range n.0 v.0 (optional_range 1 most_clients n.0 (first_of (codes "clients") rows) n.1.0) version.1 version.2 version.3;
+      recorded = recorded_range n.0 v.0 (flag_in (codes "absent") rows) r.0 r.1.0 version.3;
     })
 
 -- those that are found one by one are the numbers of the host
-module _ (rows : List Row) (verifiers shards : ℕ) (hot first counter version : Option ℕ)
+module _ (rows : List Row) (verifiers shards version bits : ℕ) (hot first counter clients : Option ℕ) (absent : Bool)
     (some_verifiers : Some verifiers ≡ needed_in 1 most_verifiers (first_of (codes "verifiers") rows))
     (some_shards : Some shards ≡ shards_in (first_of (codes "shards") rows))
     (some_hot : Some hot ≡ hot_in (flag_in (codes "rolling") rows) (first_of (codes "hot") rows))
     (some_first : Some first ≡ optional_in 0 (2 ^ 32 - 1) (first_of (codes "first") rows))
     (some_counter : Some counter ≡ optional_in 1 greatest_end (first_of (codes "counter") rows))
-    (some_version : Some version ≡ optional_in first_version last_version (first_of (codes "format") rows)) where
-  pub numbers_found : (bits : ℕ) → Some bits ≡ key_bits_in (unwrap_or version first_version) (first_of (codes "bits") rows)
-      → Some (record {
+    (some_clients : Some clients ≡ optional_in 1 most_clients (first_of (codes "clients") rows))
+    (some_version : Some version ≡ version_in clients (first_of (codes "format") rows))
+    (some_bits : Some bits ≡ key_bits_in version (first_of (codes "bits") rows))
+    (some_absent : Some absent ≡ absent_in clients (flag_in (codes "absent") rows)) where
+  pub numbers_found : Some (record {
         verifiers = verifiers;
         shards = shards;
         hot = hot;
         first = unwrap_or first 0;
         counter = unwrap_or counter greatest_end;
-        version = unwrap_or version first_version;
+        version = version;
         bits = bits;
-        absent = flag_in (codes "absent") rows;
+        absent = absent;
         rolling = flag_in (codes "rolling") rows;
+        clients = unwrap_or clients 0;
       }) ≡ numbers_in rows
-  numbers_found bits some_bits =
-      rw (sym some_verifiers, sym some_shards, sym some_hot, sym some_first, sym some_counter, sym some_version, sym some_bits) refl
-
-  pub no_numbers : None ≡ key_bits_in (unwrap_or version first_version) (first_of (codes "bits") rows) → None ≡ numbers_in rows
-  no_numbers no_bits =
-      rw (sym some_verifiers, sym some_shards, sym some_hot, sym some_first, sym some_counter, sym some_version, sym no_bits) refl
+  numbers_found =
+      rw (sym some_verifiers, sym some_shards, sym some_hot, sym some_first, sym some_counter, sym some_clients, sym some_version, sym some_bits, sym some_absent) refl
 
 -- ---- the numbers of a load
 
@@ -224,7 +272,7 @@ load_range rows load is =
 
 -- ---- the numbers of a client that signs
 
-last_bits : (bits : ℕ) → (bits ≡ 64) ⊎ ((last_version ≡ last_version) × (bits ≡ 128)) → (bits ≡ 64) ⊎ (bits ≡ 128)
+last_bits : (bits : ℕ) → (bits ≡ 64) ⊎ ((sized_version ≤ last_version) × (bits ≡ 128)) → (bits ≡ 64) ⊎ (bits ≡ 128)
 last_bits bits (inl short) = inl short
 last_bits bits (inr long) = inr long.1
 

@@ -37,13 +37,14 @@ with_host_options app =
     let logged = with_option (with_option needed (codes "hot") false) (codes "logs") false in
     with_option (with_option logged (codes "first") false) (codes "counter") false
 
--- the command `run`, with the options of a host, one for the version of its bundle and one for the bits of its keys, and its
--- flags for absence, for rolling epochs and for receipts
+-- the command `run`, with the options of a host, one for the version of its bundle, one for the bits of its keys and one for its
+-- clients, and its flags for absence, for rolling epochs and for receipts
 abbrev pub run_app : App
 run_app =
     let formatted = with_option (with_host_options (command_with_key (codes "run"))) (codes "format") false in
     let sized = with_option formatted (codes "bits") false in
-    with_flag (with_flag (with_flag sized (codes "absent")) (codes "rolling")) (codes "receipts")
+    let signed = with_option sized (codes "clients") false in
+    with_flag (with_flag (with_flag signed (codes "absent")) (codes "rolling")) (codes "receipts")
 
 -- the command `gen`, with the options of a load and of a host
 abbrev pub gen_app : App

@@ -51,7 +51,7 @@ fn check_command<'a>(alloc: Global) -> Result<Command<'a>, AllocError>
     with_flag(alloc, check, "receipts")
 }
 
-// The command `run`, with the options of a host, one for the version of its bundle and one for the bits of its keys, and
+// The command `run`, with the options of a host, one for the version of its bundle, one for the bits of its keys and one for its clients, and
 // its flags for absence, for rolling epochs and for receipts.
 fn run_command<'a>(alloc: Global) -> Result<Command<'a>, AllocError>
     ensures app { IfOk result (λ command. app_of command ≡ run_app) }
@@ -61,6 +61,7 @@ fn run_command<'a>(alloc: Global) -> Result<Command<'a>, AllocError>
     let run = with_host_options(alloc, run)?;
     let run = with_option(alloc, run, "format", false)?;
     let run = with_option(alloc, run, "bits", false)?;
+    let run = with_option(alloc, run, "clients", false)?;
     let run = with_flag(alloc, run, "absent")?;
     let run = with_flag(alloc, run, "rolling")?;
     with_flag(alloc, run, "receipts")

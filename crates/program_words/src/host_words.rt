@@ -1,7 +1,8 @@
 //! What the words behind `run` and `gen` say of a host: its numbers, and where its logs go.
-ghost use Rattle.std.specs.Prelude.{◌≡◌, ◌==◌, Some, None, IfOk, codes, true};
+ghost use Rattle.std.specs.Prelude.{◌≡◌, ◌≤◌, ◌==◌, Some, None, IfOk, IfSome, codes, true};
 ghost use Rattle.clap.specs.Words.{first_of, found_of, rows_of};
-ghost use Rattle.program_words.specs.HostWords.{are_key_bits, hot_in, is_shard_count, key_bits_in, shards_in, numbers_in};
+ghost use Rattle.program_words.specs.Found.{flag_in};
+ghost use Rattle.program_words.specs.HostWords.{absent_in, are_key_bits, hot_in, is_shard_count, key_bits_in, last_version, shards_in, numbers_in, version_in};
 
 use crate::found::{flag_of, word_of};
 use crate::key::Key;
@@ -19,12 +20,19 @@ const MOST_TOUCHES: u32 = 1_000_000;
 // The greatest value at which the counters of an epoch may end. It is also the one that is taken where none is given.
 const GREATEST_END: u32 = 16_777_215;
 
-// The first version of the format, which is also the one that is taken where none is given, and the last one.
+// The first version of the format, which is also the one that is taken where none is given and no client signs, and the last one, in which
+// clients sign.
 const FIRST_VERSION: u32 = 1;
 
-pub(crate) const LAST_VERSION: u32 = 3;
+pub(crate) const LAST_VERSION: u32 = 4;
 
-// How many bits a key has where no number is given, and the other number that can be given in the last version.
+// The first version in which the bits of keys can be given.
+const SIZED_VERSION: u32 = 3;
+
+// The most clients of a host.
+const MOST_CLIENTS: u32 = 65_536;
+
+// How many bits a key has where no number is given, and the other number that can be given.
 const SHORT_KEYS: u32 = 64;
 
 const LONG_KEYS: u32 = 128;
@@ -51,6 +59,8 @@ pub struct HostNumbers {
     pub absent: bool,
     /// Whether its epochs roll.
     pub rolling: bool,
+    /// How many clients sign their requests: 0 where none does.
+    pub clients: u32,
 }
 
 /// A path, as a word gives it. Contracts see its bytes.
@@ -107,9 +117,10 @@ pub(crate) fn numbers_of(found: &ArgMatches<'_>) -> Option<HostNumbers>
     let hot = hot_of(found, rolling)?;
     let first = optional(found, "first", 0, u32::MAX)?;
     let counter = optional(found, "counter", 1, GREATEST_END)?;
-    let version = optional(found, "format", FIRST_VERSION, LAST_VERSION)?;
-    let version = version.unwrap_or(FIRST_VERSION);
+    let clients = optional(found, "clients", 1, MOST_CLIENTS)?;
+    let version = version_of(found, clients)?;
     let bits = key_bits_of(found, version)?;
+    let absent = absent_of(found, clients)?;
     Some(HostNumbers {
         verifiers: verifiers as u16,
         shards,
@@ -118,9 +129,39 @@ pub(crate) fn numbers_of(found: &ArgMatches<'_>) -> Option<HostNumbers>
         counter: counter.unwrap_or(GREATEST_END),
         version: version as u8,
         bits,
-        absent: flag_of(found, "absent"),
+        absent,
         rolling,
+        clients: clients.unwrap_or(0),
     })
+}
+
+// Which version of the format the bundle is to have: the last one where clients sign, and there alone.
+fn version_of(found: &ArgMatches<'_>, clients: Option<u32>) -> Option<u32>
+    ensures value { result ≡ version_in clients (first_of (codes "format") (rows_of (found_of found.now))) }
+    ensures most { IfSome result (λ version. version ≤ last_version) }
+{
+    let asked = optional(found, "format", FIRST_VERSION, LAST_VERSION)?;
+    let usual = if clients.is_some() {
+        LAST_VERSION
+    } else {
+        FIRST_VERSION
+    };
+    let version = asked.unwrap_or(usual);
+    if clients.is_some() == (version == LAST_VERSION) {
+        Some(version)
+    } else {
+        None
+    }
+}
+
+// Whether a get of a key that was never put is to make no record of it: not where clients sign.
+fn absent_of(found: &ArgMatches<'_>, clients: Option<u32>) -> Option<bool>
+    ensures value { result ≡ absent_in clients (flag_in (codes "absent") (rows_of (found_of found.now))) }
+{
+    match (clients, flag_of(found, "absent")) {
+        (Some(_), true) => None,
+        (_, absent) => Some(absent),
+    }
 }
 
 // The path that names the vault, if one was given.
@@ -175,5 +216,5 @@ pub(crate) fn key_bits_of(found: &ArgMatches<'_>, version: u32) -> Option<u8>
 fn are_key_bits(version: u32, bits: u32) -> bool
     ensures value { result ≡ are_key_bits version bits }
 {
-    version == LAST_VERSION && (bits == SHORT_KEYS || bits == LONG_KEYS)
+    SIZED_VERSION <= version && (bits == SHORT_KEYS || bits == LONG_KEYS)
 }
