@@ -50,10 +50,16 @@ read_or : {A : Type 0} → A → Result A Cause → A
 read_or other (Ok value) = value
 read_or other (Err cause) = other
 
-who-is : (x y : Who) → Ok {E = Cause} x ≡ Ok y → x ≡ y
+abbrev found_who : Who → Result Who Cause
+found_who who = Ok who
+
+who-is : (x y : Who) → found_who x ≡ found_who y → x ≡ y
 who-is x y same = ap (read_or x) same
 
-line-is : (x y : Line) → Ok {E = Cause} x ≡ Ok y → x ≡ y
+abbrev found_line : Line → Result Line Cause
+found_line line = Ok line
+
+line-is : (x y : Line) → found_line x ≡ found_line y → x ≡ y
 line-is x y same = ap (read_or x) same
 
 -- ---- the words in front
@@ -185,7 +191,6 @@ module _ (functions : DigestFunctions) (longest_line longest : ℕ) (wide : Bool
     Goal w = WhoSpelled (Workers count) last front w.worker (signed_by functions wide request w.signer)
 
     go : (found : Option ℕ) → worker_in count front.who ≡ found → need found Worker (λ worker. Ok (record { worker = worker; signer = None })) ≡ Ok who → Goal who
-    unfolding WhoSpelled
     go None found same = cc
     go (Some worker) found same =
         let one = below-spelled count worker (number_in front.who) found in
@@ -197,7 +202,6 @@ module _ (functions : DigestFunctions) (longest_line longest : ℕ) (wide : Bool
         → WhoSpelled (Clients count workers) last front w.worker (signed_by functions wide request w.signer)
 
     own : (c n : ℕ) → client_in count front.who ≡ Some c → number_behind (get_or last c 0) front.number ≡ Some n → Goal (record { worker = c % workers; signer = Some (record { client = c; number = n }) })
-    unfolding request_text WhoSpelled
     own c n is_c is_n tag =
         let one = below-spelled count c (number_in front.who) is_c in
         let two = number-spelled (get_or last c 0) n front.number is_n in
@@ -242,7 +246,6 @@ module _ (functions : DigestFunctions) (longest_line longest : ℕ) (wide : Bool
         → (b : Bool) → has_tag form front.digits (signed_by functions wide (record { put = asked.put; key = k; value = v; signature = None }) w.signer).signature ≡ b
         → test (not b) Tag (Ok (said.Task (record { worker = w.worker; request = signed_by functions wide (record { put = asked.put; key = k; value = v; signature = None }) w.signer }))) ≡ Ok read
         → IsSpelled form last (join_with_byte blank words) read
-    unfolding IsSpelled AskedSpelled WhoSpelled task_line
     tagged w k v is_w is_k is_v false is_b same = cc
     tagged w k v is_w is_k is_v true is_b same =
         let request : Request = record { put = asked.put; key = k; value = v; signature = None } in
@@ -301,7 +304,6 @@ module _ (functions : DigestFunctions) (longest_line longest : ℕ) (wide : Bool
     go : (long epoch : Bool) → (closes form && bytes_eq line (codes "epoch")) ≡ epoch
         → (if long then Err Shape else if epoch then Ok said.Epoch else words_say functions (lines_with form longest_line longest wide) last (words_of line)) ≡ Ok read
         → IsSpelled form last line read
-    unfolding IsSpelled words_of
     go true epoch tested same = cc
     go false true tested same =
         let parts = and_parts (closes form) (bytes_eq line (codes "epoch")) tested in
@@ -439,7 +441,7 @@ header-task header task sized can =
     worker true is None by = absurd by
     worker true is (Some s) by =
         let P : ℕ → Type 0 = λ w. w < header.verifiers in
-        subst P (sym by.1) (mod-lt s.client header.verifiers (sized.served is))
+        subst P (sym by.1) (mod-lt s.client (sized.served is))
 
 phases-asked : (header : Header) (lines : List Line) → IsSized header → AllByRecursion (IsAsked (form_of header) (longest_of header) (wide_of header)) lines → AreTasks header (phases_of lines)
 unfolding phases_of IsAsked
@@ -461,7 +463,6 @@ script-spelled functions header bytes phases sized is = go (lines_say functions 
   go : (read : Result (List Line) BadLine) → lines_say functions (grammar_of header) (opening (form_of header)) 1 (lines_of bytes) ≡ read
       → and_then read (λ lines. Ok (phases_of lines)) ≡ Ok phases
       → IsScriptOf phases bytes × AreTasks header phases × ArePhasesSigned functions header phases
-  unfolding Read
   go (Err bad) says same = cc
   go (Ok lines) says same =
       let all : phases_of lines ≡ phases = cc in
@@ -473,6 +474,5 @@ script-spelled functions header bytes phases sized is = go (lines_say functions 
       (ends (lines-end bytes) text, subst Asked all (phases-asked header lines sized facts.1), subst Signed all (subst Right (sym (phases-flat lines)) facts.2))
     where
       ends : Ends bytes (lines_of bytes) → ended (lines_of bytes) ≡ script_text phases → IsScriptOf phases bytes
-      unfolding Ends
       ends (inl whole) text = inl (whole ∙ text)
       ends (inr cut) text = inr (cut ∙ text)

@@ -512,17 +512,17 @@ script-written functions header phase phases tags sized are right =
     written functions tags (form_of header) (longest_line header) (longest_of header) (wide_of header) (header-few header sized) (header-some header) (header-room header)
     phase phases (can-ask header (phase ∷ phases) are) right
 
+-- nobody signed what is asked
+abbrev IsBare : Task → Type 0
+IsBare task = task.request.signature ≡ None
+
 -- where no request is signed there is no signature that were wrong
 pub script-unsigned : (functions : DigestFunctions) (header : Header) (phases : List (List Task)) → is_signed header ≡ false → AreTasks header phases
     → ArePhasesSigned functions header phases
 script-unsigned functions header phases unsigned are =
     tasks (opening (form_of header)) (flat_map (λ phase. phase) phases) (all phases are)
   where
-    IsBare : Task → Type 0
-    IsBare task = task.request.signature ≡ None
-
     bare : (task : Task) → IsTask header task → IsBare task
-    unfolding IsBare
     bare task is = go (is_signed header) unsigned is.by where
       go : (signed : Bool) → signed ≡ false → IsAskedBy (if signed then Clients header.clients header.verifiers else Workers header.verifiers) task.worker task.request.signature
           → task.request.signature ≡ None
@@ -542,6 +542,5 @@ script-unsigned functions header phases unsigned are =
     all (phase ∷ phases) are = append phase (flat_map (λ phase. phase) phases) (in_phase phase are.0) (all phases are.1)
 
     tasks : (last : List ℕ) (tasks : List Task) → AllByRecursion IsBare tasks → AreSigned functions (grammar_of header) last tasks
-    unfolding IsBare
     tasks last [] are = tt
     tasks last (task ∷ more) are = ((λ s is. let other : None ≡ Some s = sym are.0 ∙ is in cc), tasks (noted (form_of header) last task.request.signature) more are.1)

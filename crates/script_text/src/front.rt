@@ -209,8 +209,8 @@ pub(crate) fn asked_bytes<'a>(front: &FrontWords<'a>) -> &'a [u8]
 }
 
 /// Notes the number of a line's request, if it was signed, as the last of its client.
-pub(crate) fn note(form: &Form, last: &mut [u64], line: &Line)
-    ensures numbers { last.new ≡ numbers_behind form.now last.old line.now }
+pub(crate) fn note(form: &Form, last: &mut Vec<u64>, line: &Line)
+    ensures numbers { last.new.items ≡ numbers_behind form.now last.old.items line.now }
 {
     let Line::Task(task) = line else {
         return;
