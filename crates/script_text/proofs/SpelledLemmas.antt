@@ -46,7 +46,7 @@ some-is x y same = cc
 asked-is : (x y : Asked) → Some x ≡ Some y → x ≡ y
 asked-is x y same = cc
 
-read_or : {A : Type 0} → A → Result A Cause → A
+abbrev read_or : {A : Type 0} → A → Result A Cause → A
 read_or other (Ok value) = value
 read_or other (Err cause) = other
 
@@ -185,7 +185,7 @@ module _ (functions : DigestFunctions) (longest_line longest : ℕ) (wide : Bool
   who-spelled : (form : Form) (last : List ℕ) (front : Front) (who : Who) (request : Request) → AreFew form → who_in form last front ≡ Ok who
       → has_tag form front.digits (signed_by functions wide request who.signer).signature ≡ true
       → WhoSpelled form last front who.worker (signed_by functions wide request who.signer)
-  unfolding WhoSpelled
+  unfolding WhoSpelled request_text
   who-spelled (Workers count) last front who request few is tagged = go (worker_in count front.who) refl is where
     Goal : Who → Type 0
     Goal w = WhoSpelled (Workers count) last front w.worker (signed_by functions wide request w.signer)
@@ -458,7 +458,7 @@ phases-asked header (said.Task task ∷ lines) sized are = go (phases_of lines) 
 -- a script that is read
 pub script-spelled : (functions : DigestFunctions) (header : Header) (bytes : List ℕ) (phases : List (List Task)) → IsSized header → script_of functions header bytes ≡ Ok phases
     → IsScriptOf phases bytes × AreTasks header phases × ArePhasesSigned functions header phases
-unfolding Ends
+unfolding Ends Read
 script-spelled functions header bytes phases sized is = go (lines_say functions (grammar_of header) (opening (form_of header)) 1 (lines_of bytes)) refl is where
   go : (read : Result (List Line) BadLine) → lines_say functions (grammar_of header) (opening (form_of header)) 1 (lines_of bytes) ≡ read
       → and_then read (λ lines. Ok (phases_of lines)) ≡ Ok phases
