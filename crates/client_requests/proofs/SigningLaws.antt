@@ -1,6 +1,6 @@
 -- What the tests of a signature tell, and which last numbers change when one is noted.
-use Rattle.std.proofs.Common.{◌≡◌, ◌≢◌, ℕ, suc, ◌+◌, ◌-◌, ◌*◌, ◌/◌, ◌%◌, ◌<◌, ◌≤◌, ◌==◌, nat_lt, nat_le, Bool, true, false, not, ◌&&◌, List, length, get_or, set, replicate, Result, Ok, refl, sym, ap, ◌∙◌, arith, suc-mul, div-add-mod', length-set}
-use Rattle.std.proofs.lemmas.Bool.{not-true, not-false, ltb-true, lt-ltb, leb-false, lt-leb, eqb-true, eq-eqb, false≢true}
+use Rattle.std.proofs.Common.{◌≡◌, ◌≢◌, ℕ, suc, ◌+◌, ◌-◌, ◌*◌, ◌/◌, ◌%◌, ◌<◌, ◌≤◌, ◌==◌, nat_lt, nat_le, Bool, true, false, not, ◌&&◌, List, length, Result, Ok, refl, sym, ap, ◌∙◌, arith, suc-mul, div-add-mod'}
+use Rattle.std.proofs.lemmas.Bool.{not-false, ltb-true, lt-ltb, leb-false, lt-leb, eqb-true, eq-eqb, false≢true}
 use Rattle.std.proofs.lemmas.Nat.{le-div}
 use Rattle.std.proofs.lemmas.List.{get_or-set_same, get_or-set_other}
 use Rattle.base_words.specs.Steps.{test}
@@ -13,7 +13,7 @@ use Rattle.record_text.specs.declared.signature.Signer.{Signer}
 use Rattle.record_text.specs.Same.{same_bytes}
 use Rattle.record_text.proofs.SameTestLaws.{same_bytes-true, same_bytes-self}
 use Rattle.client_requests.specs.Texts.{request_text}
-use Rattle.client_requests.specs.Signing.{Clients, is_own_client, last_number, with_number, own_clients, opening_numbers, permit, IsRight}
+use Rattle.client_requests.specs.Signing.{Clients, is_own_client, last_number, with_number, own_clients, permit, IsRight}
 
 -- ---- the tests
 
@@ -56,7 +56,7 @@ module _ (client_tag : ℕ → List ℕ → List ℕ) (clients : Clients) (wide 
       passed (not (is_own_client clients signature.client)) refusals.NoSuchClient _ is_own
       ∙ (passed (not (same_bytes (client_tag signature.client (request_text wide signature.client signature.number request)) signature.tag)) refusals.BadTag _ tagged
       ∙ passed (nat_le signature.number (last_number clients.verifiers clients.last signature.client)) refusals.NumberNotLater _
-          (lt-leb signature.number (last_number clients.verifiers clients.last signature.client) is.later))
+      (lt-leb signature.number (last_number clients.verifiers clients.last signature.client) is.later))
 
 -- ---- the last numbers
 

@@ -1,10 +1,9 @@
 -- The text of a request, field by field.
-use Rattle.std.proofs.Common.{◌≡◌, true, false, append-nil, ℕ, ◌+◌, ◌<◌, ◌^◌, Bool, List, [], ◌∷◌, ◌++◌, length, take, drop, get_or, Option, None, Some, Result, Ok, refl, sym, ap, ◌∙◌, arith}
+use Rattle.std.proofs.Common.{◌≡◌, true, false, ℕ, ◌<◌, ◌^◌, Bool, List, [], ◌++◌, take, drop, get_or, Option, None, Ok, refl, sym, ap, ◌∙◌}
 use Rattle.std.specs.Int.{w32, w64, byte_len, from_be_bytes, to_be_bytes}
 use Rattle.std.proofs.lemmas.List.{take_at, drop_at}
 use Rattle.tree_keys.specs.Path.{key_bits}
 use Rattle.record_text.specs.declared.request.Request.{Request}
-use Rattle.record_text.specs.declared.reader.TextFault.{TextFault}
 use Rattle.record_text.specs.Texts.{blob_text}
 use Rattle.record_text.specs.Value.{IsBlob}
 use Rattle.record_text.specs.Tree.{word_width}

@@ -1,5 +1,5 @@
 -- The tests of a signature: whose client it is of, the tag, and the number.
-use Rattle.std.specs.Prelude.{◌≡◌, ℕ, ◌+◌, ◌-◌, ◌/◌, ◌%◌, ◌<◌, ◌==◌, nat_lt, nat_le, Bool, true, not, ◌&&◌, List, get_or, set, replicate, Result, Ok}
+use Rattle.std.specs.Prelude.{◌≡◌, ℕ, ◌+◌, ◌-◌, ◌/◌, ◌%◌, ◌<◌, ◌==◌, nat_lt, nat_le, Bool, not, ◌&&◌, List, get_or, set, replicate, Result, Ok}
 use Rattle.base_words.specs.Steps.{test}
 use Rattle.record_text.specs.declared.refusal.Refusal.{Refusal}
 use Rattle.record_text.specs.declared.refusal.Refusal.TheVariants as refusals

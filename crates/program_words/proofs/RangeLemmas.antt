@@ -233,17 +233,17 @@ module _ (rows : List Row) (verifiers shards version bits : ℕ) (hot first coun
     (some_bits : Some bits ≡ key_bits_in version (first_of (codes "bits") rows))
     (some_absent : Some absent ≡ absent_in clients (flag_in (codes "absent") rows)) where
   pub numbers_found : Some (record {
-        verifiers = verifiers;
-        shards = shards;
-        hot = hot;
-        first = unwrap_or first 0;
-        counter = unwrap_or counter greatest_end;
-        version = version;
-        bits = bits;
-        absent = absent;
-        rolling = flag_in (codes "rolling") rows;
-        clients = unwrap_or clients 0;
-      }) ≡ numbers_in rows
+    verifiers = verifiers;
+    shards = shards;
+    hot = hot;
+    first = unwrap_or first 0;
+    counter = unwrap_or counter greatest_end;
+    version = version;
+    bits = bits;
+    absent = absent;
+    rolling = flag_in (codes "rolling") rows;
+    clients = unwrap_or clients 0;
+  }) ≡ numbers_in rows
   numbers_found =
       rw (sym some_verifiers, sym some_shards, sym some_hot, sym some_first, sym some_counter, sym some_clients, sym some_version, sym some_bits, sym some_absent) refl
 

@@ -1,8 +1,7 @@
 -- How the phases of a script grow line by line, and how far a script was read.
-use Rattle.std.proofs.Common.{◌≡◌, ℕ, ◌+◌, ◌≤◌, ◌==◌, Bool, true, Option, Some, None, is_some, length, List, [], ◌∷◌, ◌++◌, append_assoc, Result, Ok, Err, refl, ap, sym, ◌∙◌, arith}
+use Rattle.std.proofs.Common.{◌≡◌, ℕ, ◌+◌, ◌==◌, Bool, true, Option, Some, None, is_some, length, List, [], ◌∷◌, ◌++◌, append_assoc, Result, Ok, Err, refl, ap, sym, ◌∙◌, arith}
 use Rattle.std.specs.List.{onto_first}
 use Rattle.std.proofs.lemmas.Bool.{eqb-true}
-use Rattle.std.proofs.lemmas.Bool.Decides.{nat_tests}
 use Rattle.std.proofs.lemmas.List.{append-nil}
 use Rattle.base_words.specs.Steps.{need, and_then}
 use Rattle.record_hash.specs.Functions.{DigestFunctions}
@@ -17,7 +16,7 @@ use Rattle.script_text.specs.Words.{key_in}
 use Rattle.script_text.specs.declared.grammar.Form.TheVariants.{Workers, Clients, Signing}
 use Rattle.script_text.specs.declared.grammar.Grammar.{Grammar}
 use Rattle.script_text.specs.Grammar.{opening}
-use Rattle.script_text.specs.Script.{BadLine, Asked, Front, asked_by, front_in, request_then, at_line, line_says, lines_say, numbers_behind, with_line, phases_of, phases_in, then_line}
+use Rattle.script_text.specs.Script.{BadLine, Asked, asked_by, front_in, request_then, at_line, line_says, lines_say, numbers_behind, with_line, phases_of, phases_in, then_line}
 use Rattle.script_text.proofs.SplittingLaws.{words_of-some}
 
 -- ---- a line

@@ -1,5 +1,5 @@
 -- A script that is read is spelled in its one way, but for the end of its last line, and what it asks can be asked.
-use Rattle.std.proofs.Common.{◌≡◌, ℕ, ◌+◌, ◌*◌, ◌%◌, ◌<◌, ◌≤◌, ◌^◌, ◌==◌, ◌&&◌, ◌⊎◌, not, Bool, true, false, List, [], ◌∷◌, ◌++◌, length, get_or, Option, Some, None, Result, Ok, Err, append_assoc, length-append, codes, if◌then◌else◌, nat_lt, inl, inr, refl, ap, sym, subst, ◌∙◌, arith}
+use Rattle.std.proofs.Common.{◌≡◌, ℕ, ◌+◌, ◌%◌, ◌<◌, ◌≤◌, ◌^◌, ◌==◌, ◌&&◌, ◌⊎◌, not, Bool, true, false, List, [], ◌∷◌, ◌++◌, length, get_or, Option, Some, None, Result, Ok, Err, append_assoc, length-append, codes, if◌then◌else◌, nat_lt, inl, inr, refl, ap, sym, subst, ◌∙◌, arith}
 use Rattle.std.specs.Prelude.{decimal}
 use Rattle.std.specs.List.{flat_map, AllByRecursion, join_with_byte, onto_first}
 use Rattle.std.specs.Option.{ForSome, option_map}
@@ -25,14 +25,13 @@ use Rattle.client_requests.specs.Texts.{request_text, request_tag}
 use Rattle.script_text.specs.declared.front.Who.{Who}
 use Rattle.script_text.specs.declared.grammar.Form.{Form}
 use Rattle.script_text.specs.declared.grammar.Form.TheVariants.{Workers, Clients, Signing}
-use Rattle.script_text.specs.declared.grammar.Grammar.{Grammar}
 use Rattle.script_text.specs.declared.task.Task.{Task}
 use Rattle.script_text.specs.declared.task.Line.{Line}
 use Rattle.script_text.specs.declared.task.Line.TheVariants as said
-use Rattle.script_text.specs.Grammar.{form_of, longest_line, grammar_of, closes, opening, place}
+use Rattle.script_text.specs.Grammar.{form_of, longest_line, grammar_of, closes, opening}
 use Rattle.script_text.specs.Lines.{line_feed, blank, lines_of, words_of}
 use Rattle.script_text.specs.Words.{worker_in, client_in, above, below, number_behind, number_in, key_in, value_in}
-use Rattle.script_text.specs.Script.{BadLine, Asked, Front, asking, asked_by, front_in, who_in, request_then, signature_by, signed_by, has_tag, tagged_task, task_in, words_say, line_says, numbers_behind, at_line, lines_say, phases_of, phases_in, script_of}
+use Rattle.script_text.specs.Script.{BadLine, Asked, Front, asking, asked_by, front_in, who_in, request_then, signed_by, has_tag, tagged_task, task_in, words_say, line_says, numbers_behind, at_line, lines_say, phases_of, script_of}
 use Rattle.script_text.specs.Text.{value_word, request_words, front_words, task_line, task_text, phase_text, behind_text, script_text, IsAskedBy, IsTask, AreTasks, IsSized, IsSignedRight, AreSigned, ArePhasesSigned, IsScriptOf}
 use Rattle.script_text.proofs.ScriptLemmas.{some_phase}
 use Rattle.script_text.proofs.DecimalLemmas.{key-fits}
@@ -110,10 +109,13 @@ nothing P value none_there bytes same = cc
 short-spelled : (longest : ℕ) (verb word : List ℕ) (put : Bool) → verb ≡ (if put then codes "del" else codes "get") → AskedSpelled longest (verb ∷ word ∷ []) (asking put word (Some None))
 unfolding AskedSpelled
 short-spelled longest verb word put is key value is_key is_value =
-    let none : value ≡ None = cc in
-    (ap (λ v. blank ∷ (v ++ blank ∷ word)) is ∙ ap (λ k. blank ∷ ((if put then codes "del" else codes "get") ++ blank ∷ k)) is_key
-    ∙ words put ∙ ap (request_words put key) (sym none),
-    nothing (λ bytes. length bytes ≤ longest) value none, nothing IsBytes value none, λ _. none)
+    let none : value ≡ None = cc in (
+      ap (λ v. blank ∷ (v ++ blank ∷ word)) is ∙ ap (λ k. blank ∷ ((if put then codes "del" else codes "get") ++ blank ∷ k)) is_key
+          ∙ words put ∙ ap (request_words put key) (sym none),
+      nothing (λ bytes. length bytes ≤ longest) value none,
+      nothing IsBytes value none,
+      λ _. none,
+    )
   where
     words : (put : Bool) → blank ∷ ((if put then codes "del" else codes "get") ++ blank ∷ decimal key) ≡ request_words put key None
     words true = refl
@@ -129,14 +131,15 @@ put-spelled longest verb word digits is key value is_key is_value = go (value_in
   go None found same = cc
   go (Some bytes) found same =
       let facts = value_in-spelled longest digits bytes found in
-      let some : value ≡ Some bytes = cc in
-      (ap (λ v. blank ∷ (v ++ blank ∷ (word ++ blank ∷ digits))) is ∙ ap (λ k. codes " put " ++ (k ++ blank ∷ digits)) is_key
-      ∙ ap (λ d. codes " put " ++ (decimal key ++ blank ∷ d)) facts.0
-      ∙ ap (λ text. codes " put " ++ text) (sym (append_assoc (decimal key) (codes " ") (value_word bytes)))
-      ∙ ap (request_words true key) (sym some),
-      (λ b same_b. let e : b ≡ bytes = cc in let P : List ℕ → Type 0 = λ x. length x ≤ longest in subst P (sym e) facts.1),
-      (λ b same_b. let e : b ≡ bytes = cc in subst IsBytes (sym e) facts.2),
-      λ no_put. cc)
+      let some : value ≡ Some bytes = cc in (
+        ap (λ v. blank ∷ (v ++ blank ∷ (word ++ blank ∷ digits))) is ∙ ap (λ k. codes " put " ++ (k ++ blank ∷ digits)) is_key
+            ∙ ap (λ d. codes " put " ++ (decimal key ++ blank ∷ d)) facts.0
+            ∙ ap (λ text. codes " put " ++ text) (sym (append_assoc (decimal key) (codes " ") (value_word bytes)))
+            ∙ ap (request_words true key) (sym some),
+        (λ b same_b. let e : b ≡ bytes = cc in let P : List ℕ → Type 0 = λ x. length x ≤ longest in subst P (sym e) facts.1),
+        (λ b same_b. let e : b ≡ bytes = cc in subst IsBytes (sym e) facts.2),
+        λ no_put. cc,
+      )
 
 asked-spelled : (longest : ℕ) (words : List (List ℕ)) (asked : Asked) → asked_by longest words ≡ Some asked → AskedSpelled longest words asked
 asked-spelled longest [] asked is = cc
@@ -206,14 +209,15 @@ module _ (functions : DigestFunctions) (longest_line longest : ℕ) (wide : Bool
         let one = below-spelled count c (number_in front.who) is_c in
         let two = number-spelled (get_or last c 0) n front.number is_n in
         let word = number_in-spelled c front.who one.0 (omega (arith, one.1)) in
-        let digits = (bytes_eq-Decides front.digits (encode_lower (request_tag functions wide c n request))).0 tag in
-        (ap (λ w. w ++ codes " " ++ front.number ++ codes " " ++ front.digits) word ∙ ap (λ w. decimal c ++ codes " " ++ w ++ codes " " ++ front.digits) two.0
-        ∙ ap (λ w. decimal c ++ codes " " ++ decimal n ++ codes " " ++ w) digits,
-        (one.1, refl),
-        λ s some.
-        let e : record { client = c; number = n; tag = request_tag functions wide c n request } ≡ s = cc in
-        let P : Signature → Type 0 = IsSignedRight functions (lines_with (Clients count workers) longest_line longest wide) last (signed_by functions wide request (Some (record { client = c; number = n }))) in
-        subst P e (record { tag = refl; later = two.1; fits = two.2 }))
+        let digits = (bytes_eq-Decides front.digits (encode_lower (request_tag functions wide c n request))).0 tag in (
+          ap (λ w. w ++ codes " " ++ front.number ++ codes " " ++ front.digits) word ∙ ap (λ w. decimal c ++ codes " " ++ w ++ codes " " ++ front.digits) two.0
+              ∙ ap (λ w. decimal c ++ codes " " ++ decimal n ++ codes " " ++ w) digits,
+          (one.1, refl),
+          λ s some.
+              let e : record { client = c; number = n; tag = request_tag functions wide c n request } ≡ s = cc in
+              let P : Signature → Type 0 = IsSignedRight functions (lines_with (Clients count workers) longest_line longest wide) last (signed_by functions wide request (Some (record { client = c; number = n }))) in
+              subst P e (record { tag = refl; later = two.1; fits = two.2 }),
+        )
 
     number : (c : ℕ) → client_in count front.who ≡ Some c → (found : Option ℕ) → number_behind (get_or last c 0) front.number ≡ found
         → need found Number (λ n. Ok (record { worker = c % workers; signer = Some (record { client = c; number = n }) })) ≡ Ok who
@@ -255,10 +259,11 @@ module _ (functions : DigestFunctions) (longest_line longest : ℕ) (wide : Bool
         let facts = spelled k v key is_v in
         let own = who-spelled form last front w request few is_w is_b in
         let P : Line → Type 0 = IsSpelled form last (join_with_byte blank words) in
-        subst P (line-is (said.Task (record { worker = w.worker; request = signed })) read same)
-        (joined ∙ ap (λ f. f ++ blank ∷ join_with_byte blank front.behind) own.0 ∙ ap (λ text. front_words w.worker signed.signature ++ text) facts.0,
-        record { key = two.1; size = facts.1; bytes = facts.2; get = facts.3; by = own.1 },
-        own.2)
+        subst P (line-is (said.Task (record { worker = w.worker; request = signed })) read same) (
+          joined ∙ ap (λ f. f ++ blank ∷ join_with_byte blank front.behind) own.0 ∙ ap (λ text. front_words w.worker signed.signature ++ text) facts.0,
+          record { key = two.1; size = facts.1; bytes = facts.2; get = facts.3; by = own.1 },
+          own.2,
+        )
 
     value : (w : Who) (k : ℕ) → who_in form last front ≡ Ok w → key_in wide asked.key ≡ Some k → (v : Option (Option (List ℕ))) → asked.value ≡ v
         → need v Hex (λ value. tagged_task form front.digits w.worker (signed_by functions wide (record { put = asked.put; key = k; value = value; signature = None }) w.signer)) ≡ Ok read
@@ -396,7 +401,7 @@ module _ (functions : DigestFunctions) (form : Form) (longest_line longest : ℕ
 
       go : (first : Result Line Cause) → line_says functions (lines_with form longest_line longest wide) last line ≡ first
           → ((one : Line) (more : List Line) → lines_say functions (lines_with form longest_line longest wide) (numbers_behind form last one) (number + 1) lines ≡ Ok more
-              → Read (numbers_behind form last one) lines more)
+          → Read (numbers_behind form last one) lines more)
           → and_then (at_line number first) (λ one. and_then (lines_say functions (lines_with form longest_line longest wide) (numbers_behind form last one) (number + 1) lines) (λ more. Ok (one ∷ more))) ≡ Ok read
           → Read last (line ∷ lines) read
       go (Err cause) says behind same = cc

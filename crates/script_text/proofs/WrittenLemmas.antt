@@ -1,5 +1,5 @@
 -- What is written as a line is read of it, and what is written as a script.
-use Rattle.std.proofs.Common.{◌≡◌, ℕ, ◌+◌, ◌*◌, ◌%◌, ◌<◌, ◌≤◌, ◌^◌, ◌==◌, ◌&&◌, not, nat_lt, Bool, true, false, List, [], ◌∷◌, ◌++◌, length, map, get_or, Option, Some, None, Ok, append_assoc, length-append, codes, if◌then◌else◌, lit<, lit≤, refl, ap, sym, subst, ◌∙◌, arith}
+use Rattle.std.proofs.Common.{◌≡◌, ℕ, ◌+◌, ◌*◌, ◌<◌, ◌≤◌, ◌^◌, ◌==◌, ◌&&◌, not, nat_lt, Bool, true, false, List, [], ◌∷◌, ◌++◌, length, map, get_or, Option, Some, None, Ok, append_assoc, length-append, codes, if◌then◌else◌, lit<, lit≤, refl, ap, sym, subst, ◌∙◌, arith}
 use Rattle.std.specs.Prelude.{decimal}
 use Rattle.std.specs.List.{AllByRecursion, list_all, flat_map, onto_first}
 use Rattle.std.specs.Option.{ForSome, option_map}
@@ -32,7 +32,7 @@ use Rattle.script_text.specs.declared.task.Line.{Line}
 use Rattle.script_text.specs.declared.task.Line.TheVariants as said
 use Rattle.script_text.specs.Grammar.{form_of, longest_line, longest_signed_line, grammar_of, closes, opening, place}
 use Rattle.script_text.specs.Lines.{line_feed, blank, lines_of, words_of}
-use Rattle.script_text.specs.Words.{above, value_in}
+use Rattle.script_text.specs.Words.{above}
 use Rattle.script_text.specs.Script.{Front, asking, asked_by, front_in, who_in, request_then, signature_by, signed_by, has_tag, tagged_task, task_in, words_say, line_says, noted, numbers_behind, at_line, lines_say, phases_of, phases_in, script_of}
 use Rattle.script_text.specs.Text.{value_word, request_words, front_words, task_line, task_text, phase_text, behind_text, script_text, IsAskedBy, IsTask, AreTasks, HaveTags, IsSized, IsSignedRight, AreSigned, ArePhasesSigned}
 use Rattle.script_text.proofs.DecimalLemmas.{key-fits, length-key-le}
@@ -116,8 +116,13 @@ module _ (wide : Bool) (longest : ℕ) (some : 1 ≤ longest) where
         is = ap (λ rest. codes " put " ++ rest) (append_assoc (decimal key) (codes " ") (value_word value));
         asks = ap (asked_by longest) (words-three (codes "put") key (value_word value) fits (IsWithout-from_test blank (codes "put") refl) (value-without blank value (lit< tt) bytes_value))
             ∙ ap (λ v. Some (asking true (decimal key) (option_map Some v))) (value_in-word longest value length_value bytes_value);
-        short = omega (arith, length-key-le wide key small, length-append (codes "put") (blank ∷ (decimal key ++ blank ∷ value_word value)),
-            length-append (decimal key) (blank ∷ value_word value), length-value_word-le longest value some length_value);
+        short = omega (
+          arith,
+          length-key-le wide key small,
+          length-append (codes "put") (blank ∷ (decimal key ++ blank ∷ value_word value)),
+          length-append (decimal key) (blank ∷ value_word value),
+          length-value_word-le longest value some length_value,
+        );
         without = All-append (IsOther line_feed) (codes "put") (blank ∷ (decimal key ++ blank ∷ value_word value)) (IsWithout-from_test line_feed (codes "put") refl)
             (All-cons (IsOther line_feed) blank (decimal key ++ blank ∷ value_word value) refl
             (All-append (IsOther line_feed) (decimal key) (blank ∷ value_word value) (decimal-without line_feed key (lit< tt) fits)
@@ -351,8 +356,13 @@ module _ (functions : DigestFunctions) (tags : HaveTags functions) (form : Form)
       let front = front_for form task.worker request.signature asks.rest in
       let words = front-written form task.worker request.signature asks.rest few can.by whole in
       let line : List ℕ = front_words task.worker request.signature ++ blank ∷ asks.rest in
-      let short : length line ≤ longest_line = omega (arith, room, asks.short, front-short form task.worker request.signature few can.by whole,
-          length-append (front_words task.worker request.signature) (blank ∷ asks.rest)) in
+      let short : length line ≤ longest_line = omega (
+        arith,
+        room,
+        asks.short,
+        front-short form task.worker request.signature few can.by whole,
+        length-append (front_words task.worker request.signature) (blank ∷ asks.rest),
+      ) in
       ap (λ rest. line_says functions grammar last (front_words task.worker request.signature ++ rest)) asks.is
       ∙ line_says-words functions grammar last line front short words
       ∙ ap (λ found. need found Shape (λ f. need (asked_by longest f.behind) Shape (task_in functions grammar last f))) words

@@ -47,11 +47,7 @@ fn write_task(task: &TaskRef, text: &mut Vec<u8>) -> Result<(), Memory>
 }
 
 // Adds the words in front of what is asked.
-fn write_front(
-    worker: u16,
-    signature: Option<Signature>,
-    text: &mut Vec<u8>,
-) -> Result<(), Memory>
+fn write_front(worker: u16, signature: Option<Signature>, text: &mut Vec<u8>) -> Result<(), Memory>
     ensures appended { OnOk result (text.new.items ≡ text.old.items ++ front_words worker signature) }
 {
     let Some(signature) = signature else {
@@ -65,12 +61,7 @@ fn write_front(
 }
 
 // Adds the words of a request, behind those that say who asks it.
-fn write_request(
-    put: bool,
-    key: u128,
-    value: &BlobRef,
-    text: &mut Vec<u8>,
-) -> Result<(), Memory>
+fn write_request(put: bool, key: u128, value: &BlobRef, text: &mut Vec<u8>) -> Result<(), Memory>
     ensures appended { OnOk result (text.new.items ≡ text.old.items ++ request_words put key value.now) }
 {
     if !put {
