@@ -14,12 +14,12 @@ _fastver() {
       compopt -o filenames
       return
       ;;
-    --key|--verifiers|--shards|--hot|--first|--counter|--format|--bits|--client|--seed|--ops|--keys|--every) return ;;
+    --key|--verifiers|--shards|--hot|--first|--counter|--format|--bits|--clients|--client|--seed|--ops|--keys|--every) return ;;
   esac
   case ${COMP_WORDS[1]} in
     check) options='--key --receipts --seal' ;;
     audit) options='--key' ;;
-    run) options='--key --verifiers --shards --hot --logs --first --counter --format --bits --absent --rolling --receipts' ;;
+    run) options='--key --verifiers --shards --hot --logs --first --counter --format --bits --clients --absent --rolling --receipts' ;;
     gen) options='--key --seed --ops --verifiers --shards --keys --every --hot --logs --first --counter' ;;
     accept) options='--key' ;;
     follow) options='--key' ;;

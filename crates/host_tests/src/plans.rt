@@ -399,7 +399,7 @@ fn request_by(number: u64) -> Option<Request> {
         Some(bytes) => Blob::of_bytes(bytes)?,
         None => Blob::none(),
     };
-    Some(Request::new((number >> 59) % 2 == 1, u128::from(key), value))
+    Some(Request::new((number >> 59) % 2 == 1, u128::from(key), value, None))
 }
 
 // Serves so many requests, and compares each answer with what a plain map has at the key.
@@ -542,7 +542,7 @@ fn hot_at_5(rt: &impl Abort, wide: bool) -> Content
 fn get_at_5() -> Request
     ensures key { result.key ≡ 5 }
 {
-    Request::new(false, 5, Blob::none())
+    Request::new(false, 5, Blob::none(), None)
 }
 
 // A hot record was evicted with this counter by this verifier, and touched so often.

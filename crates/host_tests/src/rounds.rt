@@ -35,14 +35,14 @@ fn settings(workers: u16, first: u32, end: u32) -> Settings
 fn put_at_5(rt: &impl Abort) -> Request
     ensures request { result ≡ put 5 (Some (97 ∷ [])) }
 {
-    Request::new(true, 5, Blob::of_bytes(b"a").expect(rt, "no value"))
+    Request::new(true, 5, Blob::of_bytes(b"a").expect(rt, "no value"), None)
 }
 
 // A get.
 fn get_at(key: u128) -> Request
     ensures request { result ≡ get key }
 {
-    Request::new(false, key, Blob::none())
+    Request::new(false, key, Blob::none(), None)
 }
 
 // A script's next line closes an epoch.

@@ -202,5 +202,5 @@ pub fn request_of(rt: &impl Abort, alloc: Global, row: &str) -> Request {
             Blob::of_bytes(bytes.as_slice()).expect(rt, "a value too long")
         }
     };
-    Request::new(verb != "get", key, value)
+    Request::new(verb != "get", key, value, None)
 }

@@ -47,14 +47,14 @@ fn header() -> Header
 fn put_at_5(rt: &impl Abort, byte: u8) -> Request
     ensures request { result ≡ put_five (Some (byte ∷ [])) }
 {
-    Request::new(true, 5, Blob::of_bytes(&[byte]).expect(rt, "no value"))
+    Request::new(true, 5, Blob::of_bytes(&[byte]).expect(rt, "no value"), None)
 }
 
 // A get of the key 5.
 fn get_at_5() -> Request
     ensures request { result ≡ get_five }
 {
-    Request::new(false, 5, Blob::none())
+    Request::new(false, 5, Blob::none(), None)
 }
 
 /// A script's next line asks a worker for this.

@@ -142,7 +142,7 @@ client_of_no_keys = refl
 -- ---- run
 
 abbrev numbers : HostNumbers
-numbers = record { verifiers = 1; shards = 2; hot = None; first = 0; counter = 16777215; version = 1; bits = 64; absent = false; rolling = false }
+numbers = record { verifiers = 1; shards = 2; hot = None; first = 0; counter = 16777215; version = 1; bits = 64; absent = false; rolling = false; clients = 0 }
 
 abbrev host_words : List (List ℕ)
 host_words = codes "fastver" ∷ codes "run" ∷ codes "--key=00112233445566778899aabbccddeeff" ∷ codes "--verifiers" ∷ codes "1" ∷ codes "--shards" ∷ codes "2" ∷ []
@@ -167,13 +167,18 @@ by_slot_run : asked_of (host_words ++ codes "--format=2" ∷ []) ≡ Some (Run (
 unfolding clap_on_literals hex_on_literals number_between
 by_slot_run = refl
 
-of_last_version_run : asked_of (host_words ++ codes "--format=3" ∷ []) ≡ Some (Run (record { key = key; numbers = record numbers { version = 3 }; logs = None; receipts = false }))
+of_third_version_run : asked_of (host_words ++ codes "--format=3" ∷ []) ≡ Some (Run (record { key = key; numbers = record numbers { version = 3 }; logs = None; receipts = false }))
 unfolding clap_on_literals hex_on_literals number_between
-of_last_version_run = refl
+of_third_version_run = refl
 
-no_version : asked_of (host_words ++ codes "--format=4" ∷ []) ≡ None
+no_version : asked_of (host_words ++ codes "--format=5" ∷ []) ≡ None
 unfolding clap_on_literals hex_on_literals number_between
 no_version = refl
+
+-- a fourth version has clients
+version_of_clients : asked_of (host_words ++ codes "--format=4" ∷ []) ≡ None
+unfolding clap_on_literals hex_on_literals number_between
+version_of_clients = refl
 
 -- with keys of either size, which is said in the last version alone, and with no other
 short_keys : asked_of (host_words ++ codes "--format=3" ∷ codes "--bits=64" ∷ []) ≡ Some (Run (record { key = key; numbers = record numbers { version = 3 }; logs = None; receipts = false }))
@@ -212,10 +217,10 @@ rolling_run : asked_of (host_words ++ codes "--rolling" ∷ []) ≡ Some (Run (r
 unfolding clap_on_literals hex_on_literals number_between
 rolling_run = refl
 
-rolling_run_of_last_version : asked_of (host_words ++ codes "--rolling" ∷ codes "--format=3" ∷ codes "--receipts" ∷ [])
+rolling_run_of_third_version : asked_of (host_words ++ codes "--rolling" ∷ codes "--format=3" ∷ codes "--receipts" ∷ [])
     ≡ Some (Run (record { key = key; numbers = record numbers { version = 3; rolling = true }; logs = None; receipts = true }))
 unfolding clap_on_literals hex_on_literals number_between
-rolling_run_of_last_version = refl
+rolling_run_of_third_version = refl
 
 hot_and_rolling : asked_of (host_words ++ codes "--hot" ∷ codes "2" ∷ codes "--rolling" ∷ []) ≡ None
 unfolding clap_on_literals hex_on_literals number_between
@@ -237,6 +242,37 @@ no_counter = refl
 first_zero : asked_of (host_words ++ codes "--first=01" ∷ []) ≡ None
 unfolding clap_on_literals hex_on_literals number_between
 first_zero = refl
+
+-- ---- clients that sign
+
+-- they make the fourth version, which may be named, and no other
+signed_run : asked_of (host_words ++ codes "--clients=1" ∷ [])
+    ≡ Some (Run (record { key = key; numbers = record numbers { version = 4; clients = 1 }; logs = None; receipts = false }))
+unfolding clap_on_literals hex_on_literals number_between
+signed_run = refl
+
+signed_run_of_long_keys : asked_of (host_words ++ codes "--bits=128" ∷ codes "--clients" ∷ codes "65536" ∷ codes "--format=4" ∷ codes "--rolling" ∷ [])
+    ≡ Some (Run (record { key = key; numbers = record numbers { version = 4; bits = 128; rolling = true; clients = 65536 }; logs = None; receipts = false }))
+unfolding clap_on_literals hex_on_literals number_between
+signed_run_of_long_keys = refl
+
+signed_run_of_third_version : asked_of (host_words ++ codes "--clients=1" ∷ codes "--format=3" ∷ []) ≡ None
+unfolding clap_on_literals hex_on_literals number_between
+signed_run_of_third_version = refl
+
+-- and it has some, up to so many
+no_clients : asked_of (host_words ++ codes "--clients=0" ∷ []) ≡ None
+unfolding clap_on_literals hex_on_literals number_between
+no_clients = refl
+
+too_many_clients : asked_of (host_words ++ codes "--clients=65537" ∷ []) ≡ None
+unfolding clap_on_literals hex_on_literals number_between
+too_many_clients = refl
+
+-- and makes a record of each key that is asked for
+signed_and_absent : asked_of (host_words ++ codes "--absent" ∷ codes "--clients=1" ∷ []) ≡ None
+unfolding clap_on_literals hex_on_literals number_between
+signed_and_absent = refl
 
 -- ---- gen
 
@@ -271,6 +307,11 @@ no_receipts = refl
 no_absent : asked_of (load_words ++ codes "--seed=0" ∷ codes "--absent" ∷ []) ≡ None
 unfolding clap_on_literals hex_on_literals number_between
 no_absent = refl
+
+-- and no client signs it
+no_clients_of_load : asked_of (load_words ++ codes "--seed=0" ∷ codes "--clients=1" ∷ []) ≡ None
+unfolding clap_on_literals hex_on_literals number_between
+no_clients_of_load = refl
 
 -- and its epochs do not roll
 no_rolling : asked_of (load_words ++ codes "--seed=0" ∷ codes "--rolling" ∷ []) ≡ None

@@ -148,7 +148,7 @@ pub fn put_of(key: u128, byte: u8) -> Result<Request, Fault>
     ensures key { IfOk result (λ request. request.key ≡ key) }
 {
     let value = Blob::of_bytes(&[byte]).ok_or(Fault::Amiss("no value"))?;
-    Ok(Request::new(true, key, value))
+    Ok(Request::new(true, key, value, None))
 }
 
 /// Whether a content is the one in which a request for a key is served.

@@ -58,5 +58,5 @@ pub(crate) fn request_of(shard: usize, bits: u8, round: u64) -> Request
     } else {
         Blob::none()
     };
-    Request::new(put, u128::from(key), value)
+    Request::new(put, u128::from(key), value, None)
 }

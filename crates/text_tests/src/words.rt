@@ -189,7 +189,14 @@ fastver run --key 00112233445566778899aabbccddeeff --verifiers 1 --shards 2 --co
 fastver run --key 00112233445566778899aabbccddeeff --verifiers 1 --shards 2 --hot 0 | no touch
 fastver run --key 00112233445566778899aabbccddeeff --verifiers 1 --shards 2 --hot 1000001 | too many touches
 fastver run --key 00112233445566778899aabbccddeeff --verifiers 1 --shards 2 --format 0 | a version before the first
-fastver run --key 00112233445566778899aabbccddeeff --verifiers 1 --shards 2 --format 4 | a version past the last
+fastver run --key 00112233445566778899aabbccddeeff --verifiers 1 --shards 2 --format 5 | a version past the last
+fastver run --key 00112233445566778899aabbccddeeff --verifiers 1 --shards 2 --format 4 | a version of clients without them
+fastver run --key 00112233445566778899aabbccddeeff --verifiers 1 --shards 2 --clients 1 --format 3 | clients in version 3
+fastver run --key 00112233445566778899aabbccddeeff --verifiers 1 --shards 2 --clients 0 | no clients
+fastver run --key 00112233445566778899aabbccddeeff --verifiers 1 --shards 2 --clients 65537 | too many clients
+fastver run --key 00112233445566778899aabbccddeeff --verifiers 1 --shards 2 --clients | clients without a number
+fastver run --key 00112233445566778899aabbccddeeff --verifiers 1 --shards 2 --clients 1 --absent | absence beside clients
+fastver gen --key 00112233445566778899aabbccddeeff --seed 0 --ops 0 --verifiers 1 --shards 2 --clients 1 | clients of a load
 fastver run --key 00112233445566778899aabbccddeeff --verifiers 1 --shards 2 --format 02 | a version with a leading zero
 fastver run --key 00112233445566778899aabbccddeeff --verifiers 1 --shards 2 --format | no version
 fastver run --key 00112233445566778899aabbccddeeff --verifiers 1 --shards 2 --format 2 --format 2 | two versions
@@ -246,23 +253,25 @@ fn words_that_are_refused(rt: HostRuntime) {
 // What stands behind `fastver run` and its key, the verifiers, shards, first epoch, last counter, version and bits of a key that it
 // asks for, and whether it says absent and rolling, its threshold, and the path of its logs.
 const RUNNING: &str = "
---verifiers 1 --shards 2 | 1 2 0 16777215 1 64 | none | none
---verifiers 1 --shards 1024 --first 4294967295 --counter 1 | 1 1024 4294967295 1 1 64 | none | none
---counter=16777215 --shards=4 --logs=a/b --verifiers=1 --first=0 | 1 4 0 16777215 1 64 | none | a/b
---hot 1000000 --logs x --verifiers 1 --shards 512 | 1 512 0 16777215 1 64 | 1000000 | x
---verifiers 2 --shards 2 | 2 2 0 16777215 1 64 | none | none
---hot 1 --verifiers 64 --shards 1024 | 64 1024 0 16777215 1 64 | 1 | none
---verifiers 1 --shards 2 --format 1 | 1 2 0 16777215 1 64 | none | none
---format=2 --verifiers 2 --logs a/b --shards 2 | 2 2 0 16777215 2 64 | none | a/b
---hot 1 --verifiers 64 --shards 1024 --first 7 --counter 4 --format 2 --receipts | 64 1024 7 4 2 64 | 1 | none
---absent --verifiers 1 --shards 2 | 1 2 0 16777215 1 64 absent | none | none
---verifiers 1 --shards 2 --format 3 | 1 2 0 16777215 3 64 | none | none
---bits=64 --verifiers 1 --shards 2 --format 3 | 1 2 0 16777215 3 64 | none | none
---verifiers 1 --bits 128 --shards 2 --format=3 | 1 2 0 16777215 3 128 | none | none
---format 3 --bits 128 --hot 1 --verifiers 64 --shards 1024 --first 7 --counter 4 --absent --logs x | 64 1024 7 4 3 128 absent | 1 | x
---rolling --verifiers 1 --shards 2 | 1 2 0 16777215 1 64 rolling | none | none
---verifiers 2 --shards 2 --format 2 --rolling --logs a/b | 2 2 0 16777215 2 64 rolling | none | a/b
---absent --format=3 --rolling --bits=128 --receipts --verifiers 64 --shards 1024 | 64 1024 0 16777215 3 128 absent rolling | none | none
+--verifiers 1 --shards 2 | 1 2 0 16777215 1 64 0 | none | none
+--verifiers 1 --shards 1024 --first 4294967295 --counter 1 | 1 1024 4294967295 1 1 64 0 | none | none
+--counter=16777215 --shards=4 --logs=a/b --verifiers=1 --first=0 | 1 4 0 16777215 1 64 0 | none | a/b
+--hot 1000000 --logs x --verifiers 1 --shards 512 | 1 512 0 16777215 1 64 0 | 1000000 | x
+--verifiers 2 --shards 2 | 2 2 0 16777215 1 64 0 | none | none
+--hot 1 --verifiers 64 --shards 1024 | 64 1024 0 16777215 1 64 0 | 1 | none
+--verifiers 1 --shards 2 --format 1 | 1 2 0 16777215 1 64 0 | none | none
+--format=2 --verifiers 2 --logs a/b --shards 2 | 2 2 0 16777215 2 64 0 | none | a/b
+--hot 1 --verifiers 64 --shards 1024 --first 7 --counter 4 --format 2 --receipts | 64 1024 7 4 2 64 0 | 1 | none
+--absent --verifiers 1 --shards 2 | 1 2 0 16777215 1 64 0 absent | none | none
+--verifiers 1 --shards 2 --format 3 | 1 2 0 16777215 3 64 0 | none | none
+--bits=64 --verifiers 1 --shards 2 --format 3 | 1 2 0 16777215 3 64 0 | none | none
+--verifiers 1 --bits 128 --shards 2 --format=3 | 1 2 0 16777215 3 128 0 | none | none
+--format 3 --bits 128 --hot 1 --verifiers 64 --shards 1024 --first 7 --counter 4 --absent --logs x | 64 1024 7 4 3 128 0 absent | 1 | x
+--rolling --verifiers 1 --shards 2 | 1 2 0 16777215 1 64 0 rolling | none | none
+--verifiers 2 --shards 2 --format 2 --rolling --logs a/b | 2 2 0 16777215 2 64 0 rolling | none | a/b
+--clients 1 --verifiers 1 --shards 2 | 1 2 0 16777215 4 64 1 | none | none
+--format=4 --bits 128 --clients=65536 --rolling --verifiers 1 --shards 2 | 1 2 0 16777215 4 128 65536 rolling | none | none
+--absent --format=3 --rolling --bits=128 --receipts --verifiers 64 --shards 1024 | 64 1024 0 16777215 3 128 0 absent rolling | none | none
 ";
 
 // The number at this place of a text, counted from 0.
@@ -301,6 +310,7 @@ fn numbers_in(rt: &impl Abort, row: &str) -> HostNumbers {
         absent: has_word(text, "absent"),
         rolling: has_word(text, "rolling"),
         hot: hot_in(rt, row),
+        clients: number_in(rt, text, 6),
     }
 }
 
@@ -344,10 +354,10 @@ fn what_a_run_asks_for(rt: HostRuntime) {
 // What stands behind `fastver gen` and its key, the verifiers, shards, first epoch, last counter, version, bits of a key and threshold
 // that it asks for, the path of its logs, and the seed, requests, keys and requests of an epoch.
 const LOADING: &str = "
---seed 0 --ops 0 --verifiers 1 --shards 2 | 1 2 0 16777215 1 64 | none | none | 0 0 1024 10000
---seed 18446744073709551615 --ops 1000000 --verifiers 64 --shards 1024 --keys 65536 --every 1000000 | 64 1024 0 16777215 1 64 | none | none | 18446744073709551615 1000000 65536 1000000
---every=1 --keys=1 --ops=1 --seed=1 --shards=4 --verifiers=2 --hot=1 --logs=a/b --first=4294967295 --counter=1 | 2 4 4294967295 1 1 64 | 1 | a/b | 1 1 1 1
---counter 16777215 --first 0 --logs x --hot 1000000 --seed 4294967296 --ops 999999 --keys 65535 --every 999999 --verifiers 63 --shards 512 | 63 512 0 16777215 1 64 | 1000000 | x | 4294967296 999999 65535 999999
+--seed 0 --ops 0 --verifiers 1 --shards 2 | 1 2 0 16777215 1 64 0 | none | none | 0 0 1024 10000
+--seed 18446744073709551615 --ops 1000000 --verifiers 64 --shards 1024 --keys 65536 --every 1000000 | 64 1024 0 16777215 1 64 0 | none | none | 18446744073709551615 1000000 65536 1000000
+--every=1 --keys=1 --ops=1 --seed=1 --shards=4 --verifiers=2 --hot=1 --logs=a/b --first=4294967295 --counter=1 | 2 4 4294967295 1 1 64 0 | 1 | a/b | 1 1 1 1
+--counter 16777215 --first 0 --logs x --hot 1000000 --seed 4294967296 --ops 999999 --keys 65535 --every 999999 --verifiers 63 --shards 512 | 63 512 0 16777215 1 64 0 | 1000000 | x | 4294967296 999999 65535 999999
 ";
 
 // The numbers of a row's load.
