@@ -23,8 +23,9 @@ use Rattle.verifier_cache.proofs.EntriesLaws.{AreDistinct-without}
 use Rattle.verifier_commands.specs.declared.slot_state.SlotState.{SlotState}
 use Rattle.verifier_commands.specs.Change.{Change}
 use Rattle.verifier_commands.specs.Changes.{add_under, evict_under, defer_under, absent_under, is_by_stamp}
-use Rattle.verifier_commands.specs.Transition.{Rules, is_root}
+use Rattle.verifier_commands.specs.Transition.{unasked, Rules, asks, is_root}
 use Rattle.verifier_commands.specs.SlotTransition.{with_pair, add_m, evict_m, add_b, evict_b, evict_bm, get, put, absent, next_epoch, slot_transition}
+use Rattle.verifier_commands.proofs.AskLaws.{slot_get-unasked, slot_put-unasked}
 use Rattle.verifier_commands.proofs.BelowLaws.{below_apart}
 use Rattle.verifier_commands.proofs.InvertLaws.{need-ok, and_then-ok, timed-ok}
 use Rattle.verifier_commands.proofs.TickLaws.{ticks_slot_step}

@@ -4,7 +4,7 @@ ghost use Rattle.std.specs.Prelude.{◌≡◌, ℕ, ◌≤◌, true, false, List
 ghost use Rattle.std.specs.List.{flat_map, AllByRecursion, IsDistinct};
 ghost use Rattle.lamport_clocks.specs.declared.header.Header.{Header};
 ghost use Rattle.record_text.specs.Longest.{longest_of};
-ghost use Rattle.lamport_clocks.specs.Header.{names_paths};
+ghost use Rattle.lamport_clocks.specs.Header.{names_paths, is_signed};
 ghost use Rattle.log_codec.specs.declared.command.Command.{Command};
 ghost use Rattle.log_codec.specs.declared.slot_command.SlotCommand.{SlotCommand};
 ghost use Rattle.log_codec.specs.declared.log_command.LogCommand.{LogCommand};
@@ -103,8 +103,8 @@ pub fn slot_logs_have_histories()
         → IsHistory (longest_of header) functions.digest header number (slot_log_events (scheme_of functions header) header number commands) }
 {}
 
-/// A log of the first version has the history of its commands that name paths, and one of a later version that of its
-/// commands that name slots; and so have they their refusal.
+/// A log of the first version has the history of its commands that name paths, and one of a later version in which requests are
+/// not signed that of its commands that name slots; and so have they their refusal.
 pub fn versions_name_paths_or_slots()
     ensures paths { (scheme : Scheme) (header : Header) (number : ℕ) (commands : List Command)
         → names_paths header ≡ true
@@ -113,10 +113,10 @@ pub fn versions_name_paths_or_slots()
         → names_paths header ≡ true
         → log_refusal scheme header number (map ByPath commands) ≡ path_log_refusal scheme header number commands }
     ensures slots { (scheme : Scheme) (header : Header) (number : ℕ) (commands : List SlotCommand)
-        → names_paths header ≡ false
+        → names_paths header ≡ false → is_signed header ≡ false
         → log_events scheme header number (map BySlot commands) ≡ slot_log_events scheme header number commands }
     ensures slot_refusal { (scheme : Scheme) (header : Header) (number : ℕ) (commands : List SlotCommand)
-        → names_paths header ≡ false
+        → names_paths header ≡ false → is_signed header ≡ false
         → log_refusal scheme header number (map BySlot commands) ≡ slot_log_refusal scheme header number commands }
     ensures path_histories { (scheme : Scheme) (header : Header) (logs : List (List Command))
         → names_paths header ≡ true
@@ -250,8 +250,8 @@ pub fn adds_take_what_is_there()
         → TakesFromSpots functions.digest header front event.change }
 {}
 
-/// The history of a log, and the refusal that ends it, are told from the opening state of its verifier alone, whatever its
-/// sums: as a host knows what commands do from where a verifier rests.
+/// The history of a log, and the refusal that ends it, are told from the opening state of its verifier and the last numbers of
+/// its clients, whatever its sums: as a host knows what commands do from where a verifier rests.
 pub fn histories_are_told_from_states()
     ensures told { (scheme : Scheme) (header : Header) (number : ℕ) (commands : List LogCommand) → HistoryFromState scheme header number commands }
 {}
