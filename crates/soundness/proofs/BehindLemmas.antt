@@ -146,7 +146,7 @@ part_fresh v told (event ∷ front) fresh = go (cases_eq v event.verifier) (part
 -- ---- the caches of logs
 
 -- a verifier's history is that of its log, and none where it has no log
-history_of_log : (scheme : Scheme) (header : Header) (number : ℕ) (logs : List (List LogCommand)) (i v : ℕ) → v ≡ number + i
+pub history_of_log : (scheme : Scheme) (header : Header) (number : ℕ) (logs : List (List LogCommand)) (i v : ℕ) → v ≡ number + i
     → get_or (histories_from scheme header number logs) i [] ≡ log_events scheme header v (get_or logs i [])
 unfolding traced
 history_of_log scheme header number [] i v is = refl

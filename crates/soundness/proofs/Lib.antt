@@ -42,3 +42,4 @@ mod DistinctLemmas
 mod SpotLemmas
 mod BehindLemmas
 mod PendingLemmas
+pub mod AuthorizedLaws

@@ -17,3 +17,4 @@ pub mod Scheduled
 pub mod World
 pub mod Behind
 pub mod Sound
+pub mod Authorized

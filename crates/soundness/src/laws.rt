@@ -27,6 +27,8 @@ ghost use Rattle.soundness.specs.Permutation.{same_element, count_of};
 ghost use Rattle.soundness.specs.Clash.{none_evicted, first_clash};
 ghost use Rattle.soundness.specs.Exhibit.{exhibit_of};
 ghost use Rattle.soundness.specs.Scheduled.{IsScheduled, ArePermuted};
+ghost use Rattle.verifier_commands.specs.Signed.{RisesFrom, numbers_of};
+ghost use Rattle.soundness.specs.Authorized.{IsAuthorizedIn};
 ghost use Rattle.soundness.specs.Sound.{AreBalanced, IsSerialOrCollides, histories_read};
 ghost use Rattle.soundness.specs.Spot.{waiting, Spots};
 ghost use Rattle.soundness.specs.Behind.{CachesShow};
@@ -254,4 +256,15 @@ pub fn adds_take_what_is_there()
 /// its clients, whatever its sums: as a host knows what commands do from where a verifier rests.
 pub fn histories_are_told_from_states()
     ensures told { (scheme : Scheme) (header : Header) (number : ℕ) (commands : List LogCommand) → HistoryFromState scheme header number commands }
+{}
+
+/// Where requests must be signed: in the merged order up to any epoch the command of each operation stands in its verifier's log at
+/// the operation's index, and carries the tag that the operation's client makes of client, number, kind, key and (of a put) value.
+/// The numbers of one client rise there: so each stands at most once.
+pub fn signed_requests_stand_once()
+    ensures tags { (scheme : Scheme) (header : Header) (logs : List (List LogCommand)) (epoch : ℕ) → is_signed header ≡ true
+        → AllByRecursion (IsAuthorizedIn scheme logs) (order_up_to epoch (histories_of scheme header logs)) }
+    ensures rising { (scheme : Scheme) (header : Header) (logs : List (List LogCommand)) (epoch client : ℕ) → is_signed header ≡ true
+        → 1 ≤ header.verifiers
+        → RisesFrom 0 (numbers_of client (order_up_to epoch (histories_of scheme header logs))) }
 {}
