@@ -15,12 +15,12 @@ use Rattle.record_text.specs.Tree.{wide_of}
 use Rattle.record_text.specs.Longest.{longest_of}
 use Rattle.record_text.specs.Fields.{KeepsOn}
 use Rattle.record_text.specs.Texts.{path_text, blob_text, stamp_text}
-use Rattle.record_text.proofs.KeepsOnLaws.{keeps_on-byte, keeps_on-path, keeps_on-blob, keeps_on-stamp}
+use Rattle.record_text.proofs.KeepsOnLaws.{keeps_on-byte, keeps_on-path, keeps_on-blob, keeps_on-stamp, keeps_on-u64}
 use Rattle.receipts.specs.Receipts.{kind_tag}
 use Rattle.seals.specs.declared.bounds.Bounds.{Bounds}
 use Rattle.seals.specs.Operation.{kind_in, OperationFields, operation_with, operation_of_fields, fields_of_operation, operation_fields_at, operation_at, operation_text, IsGoodOperation}
 use Rattle.seals.proofs.CodecLaws.{IsCodec, codec-then, IsPicked, codec-pick, keeps_on-both, keeps_on-pick}
-use Rattle.seals.proofs.FieldCodecs.{codec-byte, codec-u64, codec-stamp, codec-path, codec-blob, keeps_on-u64}
+use Rattle.seals.proofs.FieldCodecs.{codec-byte, codec-u64, codec-stamp, codec-path, codec-blob}
 use Rattle.seals.proofs.EntryLaws.{one_of_two}
 
 kind_back : (byte : ℕ) (put : Bool) → kind_in byte ≡ Some put → kind_tag put ≡ byte

@@ -11,7 +11,7 @@ use Rattle.record_text.specs.Element.{IsStamp}
 use Rattle.record_text.specs.Fields.{KeepsOn}
 use Rattle.record_text.specs.Reading.{u32_at, u64_at, stamp_at}
 use Rattle.record_text.specs.Texts.{stamp_text}
-use Rattle.record_text.proofs.KeepsOnLaws.{keeps_on-u32, keeps_on-stamp}
+use Rattle.record_text.proofs.KeepsOnLaws.{keeps_on-u32, keeps_on-stamp, keeps_on-u64}
 use Rattle.verifier_cache.specs.declared.listed.ListedEntry.{ListedEntry}
 use Rattle.seals.specs.declared.bounds.Bounds.{Bounds}
 use Rattle.seals.specs.Combined.{then_at, at_most, exactly, InRow}
@@ -22,7 +22,7 @@ use Rattle.seals.specs.Sum.{sum_text, part_at, part_text, IsGoodSum, IsGoodPart}
 use Rattle.seals.specs.Operation.{operation_at, operation_text, IsGoodOperation}
 use Rattle.seals.specs.Run.{bounds_with, bounds_in, bounds_at, bounds_of, entries_at, parts_at, operations_at, SumFields, sums_at, ListFields, kept_with, lists_at, run_at, entries_text, parts_text, operations_text, run_text, IsGoodRun}
 use Rattle.seals.proofs.CodecLaws.{IsCodec, codec-then, IsPicked, codec-pick, codec-counted, keeps_on-both, keeps_on-pick, keeps_on-counted}
-use Rattle.seals.proofs.FieldCodecs.{codec-u32, codec-u64, codec-stamp, keeps_on-u64}
+use Rattle.seals.proofs.FieldCodecs.{codec-u32, codec-u64, codec-stamp}
 use Rattle.seals.proofs.EntryLaws.{codec-entry, keeps_on-entry}
 use Rattle.seals.proofs.SumLaws.{codec-sum, codec-part, keeps_on-sum, keeps_on-part}
 use Rattle.seals.proofs.OperationLaws.{codec-operation, keeps_on-operation}
