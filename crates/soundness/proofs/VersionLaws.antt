@@ -142,29 +142,36 @@ refused {X} (Some entry) missing other none met next = go (met entry)
 
 -- ---- the two kinds
 
-path_step-lifted : (numbers : List ℕ) (step : Step) → renumbered numbers (path_step step) ≡ lifted (λ (state : State). record { state = path_state state; numbers = numbers }) step
+-- a state of either kind, with these last numbers
+abbrev numbered_path : List ℕ → State → Numbered VerifierState
+numbered_path numbers state = record { state = path_state state; numbers = numbers }
+
+abbrev numbered_slots : List ℕ → SlotState → Numbered VerifierState
+numbered_slots numbers state = record { state = slot_state state; numbers = numbers }
+
+path_step-lifted : (numbers : List ℕ) (step : Step) → renumbered numbers (path_step step) ≡ lifted (numbered_path numbers) step
 path_step-lifted numbers (Ok done) = refl
 path_step-lifted numbers (Err refusal) = refl
 
-slot_step-lifted : (numbers : List ℕ) (step : SlotStep) → renumbered numbers (slot_step step) ≡ lifted (λ (state : SlotState). record { state = slot_state state; numbers = numbers }) step
+slot_step-lifted : (numbers : List ℕ) (step : SlotStep) → renumbered numbers (slot_step step) ≡ lifted (numbered_slots numbers) step
 slot_step-lifted numbers (Ok done) = refl
 slot_step-lifted numbers (Err refusal) = refl
 
 -- a refused step leaves no last numbers
 path_step-refused : (numbers others : List ℕ) (step : Step) → (why : Refusal) × (step ≡ Err why)
-    → renumbered others (path_step step) ≡ lifted (λ (state : State). record { state = path_state state; numbers = numbers }) step
+    → renumbered others (path_step step) ≡ lifted (numbered_path numbers) step
 path_step-refused numbers others (Ok done) is = absurd (let there = is.1 in cc)
 path_step-refused numbers others (Err refusal) is = refl
 
 slot_step-refused : (numbers others : List ℕ) (step : SlotStep) → (why : Refusal) × (step ≡ Err why)
-    → renumbered others (slot_step step) ≡ lifted (λ (state : SlotState). record { state = slot_state state; numbers = numbers }) step
+    → renumbered others (slot_step step) ≡ lifted (numbered_slots numbers) step
 slot_step-refused numbers others (Ok done) is = absurd (let there = is.1 in cc)
 slot_step-refused numbers others (Err refusal) is = refl
 
 module _ (scheme : Scheme) (header : Header) (number : ℕ) (numbers : List ℕ) where
   path_lifted : (state : State) (command : Command)
       → renumbered (numbers_after header.verifiers numbers (signer_in (ByPath command))) (path_step (transition (rules_under scheme header number) state command))
-      ≡ lifted (λ (state : State). record { state = path_state state; numbers = numbers }) (transition (rules_under scheme header number) state command)
+      ≡ lifted (numbered_path numbers) (transition (rules_under scheme header number) state command)
   path_lifted state (paths.AddM path value parent) = path_step-lifted numbers _
   path_lifted state (paths.EvictM path parent) = path_step-lifted numbers _
   path_lifted state (paths.AddB path value stamp verifier) = path_step-lifted numbers _
@@ -185,7 +192,7 @@ module _ (scheme : Scheme) (header : Header) (number : ℕ) (numbers : List ℕ)
 
   slot_lifted : (state : SlotState) (command : SlotCommand)
       → renumbered (numbers_after header.verifiers numbers (signer_in (BySlot command))) (slot_step (slot_transition (rules_under scheme header number) state command))
-      ≡ lifted (λ (state : SlotState). record { state = slot_state state; numbers = numbers }) (slot_transition (rules_under scheme header number) state command)
+      ≡ lifted (numbered_slots numbers) (slot_transition (rules_under scheme header number) state command)
   slot_lifted state (slots.AddM slot path value parent) = slot_step-lifted numbers _
   slot_lifted state (slots.EvictM slot parent) = slot_step-lifted numbers _
   slot_lifted state (slots.AddB slot path value stamp verifier) = slot_step-lifted numbers _
@@ -205,7 +212,7 @@ module _ (scheme : Scheme) (header : Header) (number : ℕ) (numbers : List ℕ)
       (λ entry. Ok (did_put entry (with_value entry (values.Blob value)), record state { slots = with_slot state.slots slot (Some (with_value entry (values.Blob value))) })))
 
   paths_alike : is_signed header ≡ false
-      → StepsAlike (path_machinery_of scheme header number) (machinery_of scheme header number) (λ (state : State). record { state = path_state state; numbers = numbers }) ByPath
+      → StepsAlike (path_machinery_of scheme header number) (machinery_of scheme header number) (numbered_path numbers) ByPath
   paths_alike version = record {
     step = λ state command.
         ap (λ (r : Rules). renumbered (numbers_after header.verifiers numbers (signer_in (ByPath command))) (perform r (path_state state) (ByPath command)))
@@ -216,7 +223,7 @@ module _ (scheme : Scheme) (header : Header) (number : ℕ) (numbers : List ℕ)
   }
 
   slots_alike : is_signed header ≡ false
-      → StepsAlike (slot_machinery_of scheme header number) (machinery_of scheme header number) (λ (state : SlotState). record { state = slot_state state; numbers = numbers }) BySlot
+      → StepsAlike (slot_machinery_of scheme header number) (machinery_of scheme header number) (numbered_slots numbers) BySlot
   slots_alike version = record {
     step = λ state command.
         ap (λ (r : Rules). renumbered (numbers_after header.verifiers numbers (signer_in (BySlot command))) (perform r (slot_state state) (BySlot command)))
@@ -249,7 +256,7 @@ log_events-by_path scheme header number commands version =
     events-from_state scheme (opening_machine number header) (map ByPath commands)
     ∙ (ap (λ (state : Numbered VerifierState). events_from (machinery_of scheme header number) number 0 state (map ByPath commands)) (first_as number header true version)
     ∙ events_alike (path_machinery_of scheme header number) (machinery_of scheme header number)
-    (λ (state : State). record { state = path_state state; numbers = opening_numbers header.clients header.verifiers number }) ByPath number 0 (opening number header) commands
+    (numbered_path (opening_numbers header.clients header.verifiers number)) ByPath number 0 (opening number header) commands
     (paths_alike scheme header number (opening_numbers header.clients header.verifiers number) (paths-unsigned header version)))
 
 -- and their refusal.
@@ -259,7 +266,7 @@ log_refusal-by_path scheme header number commands version =
     refusal-from_state scheme (opening_machine number header) (map ByPath commands)
     ∙ (ap (λ (state : Numbered VerifierState). refusal_from (machinery_of scheme header number) state (map ByPath commands)) (first_as number header true version)
     ∙ refusal_alike (path_machinery_of scheme header number) (machinery_of scheme header number)
-    (λ (state : State). record { state = path_state state; numbers = opening_numbers header.clients header.verifiers number }) ByPath (opening number header) commands
+    (numbered_path (opening_numbers header.clients header.verifiers number)) ByPath (opening number header) commands
     (paths_alike scheme header number (opening_numbers header.clients header.verifiers number) (paths-unsigned header version)))
 
 -- One of a later version has those of its commands by slot, where requests are not signed.
@@ -269,7 +276,7 @@ log_events-by_slot scheme header number commands version unsigned_version =
     events-from_state scheme (opening_machine number header) (map BySlot commands)
     ∙ (ap (λ (state : Numbered VerifierState). events_from (machinery_of scheme header number) number 0 state (map BySlot commands)) (first_as number header false version)
     ∙ events_alike (slot_machinery_of scheme header number) (machinery_of scheme header number)
-    (λ (state : SlotState). record { state = slot_state state; numbers = opening_numbers header.clients header.verifiers number }) BySlot number 0 (slot_opening number header) commands
+    (numbered_slots (opening_numbers header.clients header.verifiers number)) BySlot number 0 (slot_opening number header) commands
     (slots_alike scheme header number (opening_numbers header.clients header.verifiers number) unsigned_version))
 
 pub log_refusal-by_slot : (scheme : Scheme) (header : Header) (number : ℕ) (commands : List SlotCommand) → names_paths header ≡ false → is_signed header ≡ false
@@ -278,7 +285,7 @@ log_refusal-by_slot scheme header number commands version unsigned_version =
     refusal-from_state scheme (opening_machine number header) (map BySlot commands)
     ∙ (ap (λ (state : Numbered VerifierState). refusal_from (machinery_of scheme header number) state (map BySlot commands)) (first_as number header false version)
     ∙ refusal_alike (slot_machinery_of scheme header number) (machinery_of scheme header number)
-    (λ (state : SlotState). record { state = slot_state state; numbers = opening_numbers header.clients header.verifiers number }) BySlot (slot_opening number header) commands
+    (numbered_slots (opening_numbers header.clients header.verifiers number)) BySlot (slot_opening number header) commands
     (slots_alike scheme header number (opening_numbers header.clients header.verifiers number) unsigned_version))
 
 -- ---- all logs
