@@ -56,7 +56,7 @@ module _ (client_tag : ℕ → List ℕ → List ℕ) (clients : Clients) (wide 
       passed (not (is_own_client clients signature.client)) refusals.NoSuchClient _ is_own
       ∙ (passed (not (same_bytes (client_tag signature.client (request_text wide signature.client signature.number request)) signature.tag)) refusals.BadTag _ tagged
       ∙ passed (nat_le signature.number (last_number clients.verifiers clients.last signature.client)) refusals.NumberNotLater _
-          (lt-leb signature.number (last_number clients.verifiers clients.last signature.client) is.later))
+      (lt-leb signature.number (last_number clients.verifiers clients.last signature.client) is.later))
 
 -- ---- the last numbers
 

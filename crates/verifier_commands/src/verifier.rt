@@ -164,9 +164,9 @@ impl Verifier {
             (stepped (scheme_of (D.functions d.now) self.old.header) self.old (BySlot command.now)) }
     {
         let before = *self.state.clock();
-        let applied =
-            self.state
-                .apply_slots(d, self.number, &self.header, &self.numbers, command);
+        let applied = self
+            .state
+            .apply_slots(d, self.number, &self.header, &self.numbers, command);
         let answer = match &applied {
             Ok(answer) => answer,
             Err(refusal) => return Err(*refusal),
@@ -282,9 +282,7 @@ fn effect_of<'a>(
         | Answer::EvictBM(_) => return Effect::Plain,
     };
     let value = BlobRef::new(value.bytes());
-    Effect::Did(OperationRef::new(
-        at, number, accepted, put, wide, key, value, signer,
-    ))
+    Effect::Did(OperationRef::new(at, number, accepted, put, wide, key, value, signer))
 }
 
 // The same numbers once more.

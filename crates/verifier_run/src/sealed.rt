@@ -84,8 +84,9 @@ impl Tracer<Operation> {
         let sums = sums_of(state);
         let (entries, at, accepted) = (state.entries.as_slice(), state.at, state.accepted);
         let numbers = state.numbers.as_slice();
-        let verifier =
-            Verifier::resume(alloc, number, header, entries, at, &sums, accepted, numbers)?;
+        let verifier = Verifier::resume(
+            alloc, number, header, entries, at, &sums, accepted, numbers,
+        )?;
         Ok(Tracer {
             verifier,
             items: queue_of(alloc, &state.operations)?,
