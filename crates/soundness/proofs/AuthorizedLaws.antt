@@ -121,29 +121,34 @@ rises_lower : (low high : ℕ) (numbers : List ℕ) → low < high → RisesFrom
 rises_lower low high [] below rises = tt
 rises_lower low high (number ∷ numbers) below rises = (omega (arith, below, rises.0), rises.1)
 
+-- one event more, of which it is said whether it is left out
+part_more : (client : ℕ) (kept : Bool) (low : ℕ) (signer : Option Signer) (numbers others : List ℕ)
+    → ((low : ℕ) → RisesFrom low numbers → RisesFrom low others)
+    → RisesFrom low (number_by client signer ++ numbers) → RisesFrom low (if kept then number_by client signer ++ others else others)
+part_more client true low None numbers others further rises = further low rises
+part_more client false low None numbers others further rises = further low rises
+part_more client kept low (Some signer) numbers others further rises = go kept (client == signer.client) rises
+  where
+    go : (b c : Bool) → RisesFrom low ((if c then signer.number ∷ [] else []) ++ numbers)
+        → RisesFrom low (if b then (if c then signer.number ∷ [] else []) ++ others else others)
+    go true true is = (is.0, further signer.number is.1)
+    go true false is = further low is
+    go false true is = further low (rises_lower low signer.number numbers is.0 is.1)
+    go false false is = further low is
+
 -- the numbers of some of the events rise, too
 rises_part : (client : ℕ) (p : Event → Bool) (low : ℕ) (events : List Event) → RisesFrom low (numbers_of client events)
     → RisesFrom low (numbers_of client (filter p events))
 rises_part client p low [] rises = tt
-rises_part client p low (event ∷ events) rises = subst (λ (l : List ℕ). RisesFrom low l) (kept (p event)) (by (p event) event.signer rises)
+rises_part client p low (event ∷ events) rises =
+    subst (λ (numbers : List ℕ). RisesFrom low numbers) (kept (p event))
+    (part_more client (p event) low event.signer (numbers_of client events) (numbers_of client (filter p events))
+    (λ low is. rises_part client p low events is) rises)
   where
-    own : (b c : Bool) (number : ℕ) → RisesFrom low ((if c then number ∷ [] else []) ++ numbers_of client events)
-        → RisesFrom low (if b then (if c then number ∷ [] else []) ++ numbers_of client (filter p events) else numbers_of client (filter p events))
-    own true true number is = (is.0, rises_part client p number events is.1)
-    own true false number is = rises_part client p low events is
-    own false true number is = rises_part client p low events (rises_lower low number (numbers_of client events) is.0 is.1)
-    own false false number is = rises_part client p low events is
-
     kept : (b : Bool) → (if b then number_by client event.signer ++ numbers_of client (filter p events) else numbers_of client (filter p events))
         ≡ numbers_of client (if b then event ∷ filter p events else filter p events)
     kept true = refl
     kept false = refl
-
-    by : (b : Bool) (signer : Option Signer) → RisesFrom low (number_by client signer ++ numbers_of client events)
-        → RisesFrom low (if b then number_by client signer ++ numbers_of client (filter p events) else numbers_of client (filter p events))
-    by true None is = rises_part client p low events is
-    by false None is = rises_part client p low events is
-    by b (Some signer) is = own b (client == signer.client) signer.number is
 
 -- The numbers of a client rise in the merged order up to any epoch.
 pub client-numbers-rise : (scheme : Scheme) (header : Header) (logs : List (List LogCommand)) (epoch client : ℕ) → is_signed header ≡ true → 1 ≤ header.verifiers

@@ -309,7 +309,7 @@ signed_put_typed wide longest =
     (value_at-kind longest path more value rest (path_at-short wide whole path behind there) is))))
 
 signed_typed : (signed wide : Bool) (longest : ℕ) (tag : ℕ) → ReadsTyped (IsPathTyped longest) (signed_command_behind signed wide longest tag)
-signed_typed false wide longest tag bytes command rest e = absurd (cc)
+signed_typed false wide longest tag = λ bytes command rest e. absurd (cc)
 signed_typed true wide longest tag =
     typed_if (IsPathTyped longest) (tag == 10) (signed_get_at wide longest) _ (signed_get_typed wide longest)
     (typed_if (IsPathTyped longest) (tag == 11) (signed_put_at wide longest) (λ bytes. Err Malformed) (signed_put_typed wide longest)

@@ -109,7 +109,7 @@ signed_put_typed longest =
     typed_done (IsSlotTyped longest) (SignedPut slot value signature) (blob_at-fits longest bytes value left e))))
 
 signed_typed : (signed : Bool) (longest : ℕ) (tag : ℕ) → ReadsTyped (IsSlotTyped longest) (signed_command_behind signed longest tag)
-signed_typed false longest tag bytes command rest e = absurd (cc)
+signed_typed false longest tag = λ bytes command rest e. absurd (cc)
 signed_typed true longest tag =
     typed_if (IsSlotTyped longest) (tag == 10) (signed_get_at longest) _ (signed_get_typed longest)
     (typed_if (IsSlotTyped longest) (tag == 11) (signed_put_at longest) (λ bytes. Err Malformed) (signed_put_typed longest)
