@@ -43,3 +43,4 @@ mod SpotLemmas
 mod BehindLemmas
 mod PendingLemmas
 pub mod AuthorizedLaws
+pub mod PlainLaws

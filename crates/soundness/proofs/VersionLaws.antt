@@ -234,7 +234,7 @@ module _ (scheme : Scheme) (header : Header) (number : ℕ) (numbers : List ℕ)
   }
 
 -- what a verifier keeps before its first command, by the kind of its commands
-first_as : (number : ℕ) (header : Header) (b : Bool) → names_paths header ≡ b
+pub first_as : (number : ℕ) (header : Header) (b : Bool) → names_paths header ≡ b
     → first_numbered number header
     ≡ record {
       state = record { cache = opening_cache b number header; clock = opening_reading header.first header.end };

@@ -18,3 +18,4 @@ pub mod World
 pub mod Behind
 pub mod Sound
 pub mod Authorized
+pub mod Plain

@@ -29,6 +29,8 @@ ghost use Rattle.soundness.specs.Exhibit.{exhibit_of};
 ghost use Rattle.soundness.specs.Scheduled.{IsScheduled, ArePermuted};
 ghost use Rattle.verifier_commands.specs.Signed.{RisesFrom, numbers_of};
 ghost use Rattle.soundness.specs.Authorized.{IsAuthorizedIn};
+ghost use Rattle.client_requests.specs.Signing.{opening_numbers};
+ghost use Rattle.soundness.specs.Plain.{plain, without_signer, AreRight};
 ghost use Rattle.soundness.specs.Sound.{AreBalanced, IsSerialOrCollides, histories_read};
 ghost use Rattle.soundness.specs.Spot.{waiting, Spots};
 ghost use Rattle.soundness.specs.Behind.{CachesShow};
@@ -267,4 +269,14 @@ pub fn signed_requests_stand_once()
     ensures rising { (scheme : Scheme) (header : Header) (logs : List (List LogCommand)) (epoch client : ℕ) → is_signed header ≡ true
         → 1 ≤ header.verifiers
         → RisesFrom 0 (numbers_of client (order_up_to epoch (histories_of scheme header logs))) }
+{}
+
+/// A log whose requests are signed is accepted where the same log without its signatures is, each request is signed, and each
+/// signature is right behind those before it; and it does the same.
+pub fn signed_logs_are_accepted()
+    ensures accepted { (scheme : Scheme) (header : Header) (number : ℕ) (commands : List SlotCommand) → names_paths header ≡ false
+        → slot_log_refusal scheme header number (map plain commands) ≡ None
+        → AreRight scheme header number (opening_numbers header.clients header.verifiers number) commands (slot_log_events scheme header number (map plain commands))
+        → (log_refusal scheme header number (map BySlot commands) ≡ None)
+        × (map without_signer (log_events scheme header number (map BySlot commands)) ≡ map without_signer (slot_log_events scheme header number (map plain commands))) }
 {}
