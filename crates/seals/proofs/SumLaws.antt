@@ -28,7 +28,7 @@ at_most_all most [] bounded = refl
 at_most_all most (lane ∷ lanes) bounded = and_from _ _ (le-leb _ _ bounded.0) (at_most_all most lanes bounded.1)
 
 -- any numbers stand in a row where each may stand behind each
-free_row : (before : Option ℕ) (lanes : List ℕ) → InRow (λ previous lane. true) before lanes
+pub free_row : (before : Option ℕ) (lanes : List ℕ) → InRow (λ previous lane. true) before lanes
 free_row before [] = tt
 free_row before (lane ∷ lanes) = (refl, free_row (Some lane) lanes)
 
