@@ -30,7 +30,7 @@ DOCUMENTS = ["README.md", "CONTRIBUTING.md", *sorted(glob.glob("docs/*.md"))]
 WORD = r"[A-Za-z][A-Za-z0-9_]*"
 PLACEHOLDER = re.compile(r"\b(?:[A-Z]{1,2}|[A-Z][A-Z_]{2,})\b")  # as NAME in crates/NAME/must-fail
 LIST = r"`[^`]+`(?:, `[^`]+`)*(?:,? and `[^`]+`)?"
-OTHERS = {"FVB1", "FVB3", "True"}  # what begins a bundle; Python's
+OTHERS = {"FVB1", "FVB3", "FVB4", "True"}  # what begins a bundle; Python's
 TOP = ("crates", "docs", "tools", "bench", ".ci")
 SUFFIXES = (".rt", ".antt", ".py", ".md", ".edit", ".txt", ".c", ".bash", ".1")
 

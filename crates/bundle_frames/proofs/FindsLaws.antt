@@ -1,8 +1,8 @@
 -- What a splitter finds in a piece is what the grammar says of the bytes, whatever follows.
-use Rattle.std.proofs.Common.{◌≡◌, ℕ, ◌+◌, ◌≤◌, ◌<◌, leb, ◌&&◌, not, true, false, List, [], ◌∷◌, ◌++◌, length, take, drop, Option, Some, None, sym, ap, subst, ◌∙◌, refl, arith, inl, inr, eqb, ⊎_elim, length-append, length-drop}
+use Rattle.std.proofs.Common.{◌≡◌, ℕ, ◌+◌, ◌≤◌, ◌<◌, leb, ltb, ◌&&◌, not, true, false, List, [], ◌∷◌, ◌++◌, length, take, drop, Option, Some, None, sym, ap, subst, ◌∙◌, refl, arith, inl, inr, eqb, ⊎_elim, length-append, length-drop}
 use Rattle.std.proofs.Math.Seq.{drop-append-add}
 use Rattle.std.proofs.lemmas.List.{append_assoc, append-nil, length-take-le, take-append-le, drop-append-le}
-use Rattle.std.proofs.lemmas.Bool.{and_parts, and_from, and_left, or_from, or_cases, eqb-true, le-ltb, not-true, and_right, le-leb, lt-leb, cond-false, leb-true, cases_lt, cases_Bool, false≢true}
+use Rattle.std.proofs.lemmas.Bool.{and_parts, and_from, and_left, or_from, or_cases, eqb-true, le-ltb, not-true, and_right, le-leb, lt-leb, cond-false, leb-true, ltb-true, cases_lt, cases_Bool, false≢true}
 use Rattle.std.specs.Prelude.{◌⊎◌, is_none, IsSomeAnd, if◌then◌else◌}
 use Rattle.lamport_clocks.specs.declared.header.Header.{Header}
 use Rattle.lamport_clocks.specs.Header.{IsHeader}
@@ -68,7 +68,8 @@ IsFrame-from_frame_in verifiers bytes frame is =
 -- a header that is read is in its ranges
 pub IsHeader-from_header_in : (bytes : List ℕ) (header : Header) → header_in bytes ≡ Some header → IsHeader header
 IsHeader-from_header_in bytes header is =
-    let bits = and_parts _ _ (IsHeaderOf-from_header_in bytes header is).good in
+    let clients = and_parts _ _ (IsHeaderOf-from_header_in bytes header is).good in
+    let bits = and_parts _ _ clients.0 in
     let end = and_parts _ _ bits.0 in
     let some_end = and_parts _ _ end.0 in
     let cache = and_parts _ _ some_end.0 in
@@ -86,9 +87,14 @@ IsHeader-from_header_in bytes header is =
       some_end = leb-true _ _ some_end.1;
       end = leb-true _ _ end.1;
       bits =
-          ⊎_elim {C = (header.bits ≡ 64) ⊎ ((header.version ≡ 3) × (header.bits ≡ 128))} (λ short. inl (eqb-true _ _ short))
-          (λ long. let parts = and_parts _ _ long in inr (eqb-true _ _ parts.0, eqb-true _ _ parts.1))
-          (or_cases (eqb header.bits 64) (eqb header.version 3 && eqb header.bits 128) bits.1);
+          ⊎_elim {C = (header.bits ≡ 64) ⊎ ((3 ≤ header.version) × (header.bits ≡ 128))} (λ short. inl (eqb-true _ _ short))
+          (λ long. let parts = and_parts _ _ long in inr (leb-true _ _ parts.0, eqb-true _ _ parts.1))
+          (or_cases (eqb header.bits 64) (leb 3 header.version && eqb header.bits 128) bits.1);
+      clients =
+          ⊎_elim {C = ((header.version < 4) × (header.clients ≡ 0)) ⊎ ((header.version ≡ 4) × (1 ≤ header.clients) × (header.clients ≤ 65536))}
+          (λ none_there. let parts = and_parts _ _ none_there in inl (ltb-true _ _ parts.0, eqb-true _ _ parts.1))
+          (λ some_there. let most = and_parts _ _ some_there in let least = and_parts _ _ most.0 in inr (eqb-true _ _ least.0, leb-true _ _ least.1, leb-true _ _ most.1))
+          (or_cases (ltb header.version 4 && eqb header.clients 0) (eqb header.version 4 && leb 1 header.clients && leb header.clients 65536) clients.1);
     }
 
 none_from : {A : Type 0} (o : Option A) → is_none o ≡ true → o ≡ None

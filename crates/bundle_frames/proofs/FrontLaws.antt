@@ -4,9 +4,9 @@ use Rattle.std.proofs.lemmas.List.{take-append-le, drop-append-le, get_or_append
 use Rattle.std.specs.Prelude.{nat_eq}
 use Rattle.std.specs.List.{slice_index, slice_range, starts_with}
 use Rattle.std.specs.Int.{w16, w32, from_be_bytes}
-use Rattle.std.proofs.lemmas.Bool.{le-leb}
-use Rattle.bundle_frames.specs.Bundle.{prefix, digit_zero, magic_bytes, version_in, says_bits, header_bytes, header_bytes_in, header_numbers, header_in, head_bytes, head_verifier, head_length, is_head}
-use Rattle.bundle_frames.proofs.HeaderLaws.{header_bytes-bounds}
+use Rattle.std.proofs.lemmas.Bool.{le-leb, false≢true}
+use Rattle.bundle_frames.specs.Bundle.{prefix, digit_zero, magic_bytes, version_in, says_bits, says_clients, header_bytes, header_bytes_in, header_numbers, header_in, head_bytes, head_verifier, head_length, is_head}
+use Rattle.bundle_frames.proofs.HeaderLaws.{says_both, bytes_by, header_bytes-bounds}
 
 pub slice_range-front : (a b : ℕ) (xs ys : List ℕ) → a ≤ b → b ≤ length xs → slice_range (xs ++ ys) a b ≡ slice_range xs a b
 slice_range-front a b xs ys ordered within =
@@ -29,9 +29,16 @@ version_in-front xs ys long =
 pub header_bytes_in-front : (xs ys : List ℕ) → magic_bytes ≤ length xs → header_bytes_in (xs ++ ys) ≡ header_bytes_in xs
 header_bytes_in-front xs ys long = ap header_bytes (version_in-front xs ys long)
 
-bits-front : (b : Bool) (xs ys : List ℕ) → cond b 19 18 ≤ length xs → cond b (slice_index (xs ++ ys) 18) 64 ≡ cond b (slice_index xs 18) 64
-bits-front true xs ys long = slice_index-front 18 xs ys (omega arith)
-bits-front false xs ys long = refl
+bits-front : (b c : Bool) (xs ys : List ℕ) → bytes_by b c ≤ length xs → cond b (slice_index (xs ++ ys) 18) 64 ≡ cond b (slice_index xs 18) 64
+bits-front true true xs ys long = slice_index-front 18 xs ys (omega arith)
+bits-front true false xs ys long = slice_index-front 18 xs ys (omega arith)
+bits-front false c xs ys long = refl
+
+clients-front : (b c : Bool) → (c ≡ true → b ≡ true) → (xs ys : List ℕ) → bytes_by b c ≤ length xs
+    → cond c (from_be_bytes w32 (slice_range (xs ++ ys) 19 23)) 0 ≡ cond c (from_be_bytes w32 (slice_range xs 19 23)) 0
+clients-front true true both xs ys long = ap (from_be_bytes w32) (slice_range-front 19 23 xs ys (omega arith) (omega arith))
+clients-front false true both xs ys long = absurd (false≢true (both refl))
+clients-front b false both xs ys long = refl
 
 -- a header that is there has no fewer than these
 pub whole-magic : (bytes : List ℕ) → header_bytes_in bytes ≤ length bytes → 18 ≤ length bytes
@@ -45,7 +52,9 @@ header_numbers-front xs ys long =
     let e2 = slice_range-front 6 10 xs ys (omega arith) (omega arith) in
     let e3 = slice_range-front 10 14 xs ys (omega arith) (omega arith) in
     let e4 = slice_range-front 14 18 xs ys (omega arith) (omega arith) in
-    let e5 = ap (λ (v : ℕ). cond (says_bits v) (slice_index (xs ++ ys) 18) 64) e0 ∙ bits-front (says_bits (version_in xs)) xs ys long in
+    let e5 = ap (λ (v : ℕ). cond (says_bits v) (slice_index (xs ++ ys) 18) 64) e0 ∙ bits-front (says_bits (version_in xs)) (says_clients (version_in xs)) xs ys long in
+    let e6 = ap (λ (v : ℕ). cond (says_clients v) (from_be_bytes w32 (slice_range (xs ++ ys) 19 23)) 0) e0
+    ∙ clients-front (says_bits (version_in xs)) (says_clients (version_in xs)) (says_both (version_in xs)) xs ys long in
     cc
 
 pub header_in-front : (xs ys : List ℕ) → header_bytes_in xs ≤ length xs → header_in (xs ++ ys) ≡ header_in xs

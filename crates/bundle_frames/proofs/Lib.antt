@@ -8,6 +8,7 @@ pub mod FindsLaws
 mod JoinedLaws
 mod ExtentLemmas
 mod ReaderLemmas
+mod SplitterLemmas
 pub mod ResumedLaws
 pub mod TextLaws
 pub mod SpelledLaws

@@ -81,6 +81,20 @@ takes_header held piece n m short count long more enough =
     let bound = magic-bound held piece n short count long in
     (omega arith, omega arith)
 
+-- a header that lacks bytes still
+pub finds_header_part : (held piece : List ℕ) (n m : ℕ) → length held ≤ header_bytes_in held → n ≡ min (magic_bytes - length held) (length piece)
+    → magic_bytes ≤ length (held ++ take n piece)
+    → m ≡ min (header_bytes_in (held ++ take n piece) - length (held ++ take n piece)) (length (drop n piece))
+    → length (held ++ take (n + m) piece) < header_bytes_in (held ++ take n piece)
+    → FindsNothing None held piece (n + m)
+finds_header_part held piece n m short count long more less =
+    let size = length-held held piece n (omega arith) in
+    let left = length-drop n piece in
+    let both = length-held held piece (n + m) (omega arith) in
+    let size_is = header_bytes_in-held held piece n long in
+    let whole = length-append held piece in
+    record { partial = lt-ltb _ _ (omega arith); all = omega arith }
+
 -- what was taken is as many as its version has
 pub header-there : (held piece : List ℕ) (n : ℕ) → length held + n ≡ header_bytes_in (held ++ piece) → n ≤ length piece
     → header_bytes_in (held ++ take n piece) ≤ length (held ++ take n piece)

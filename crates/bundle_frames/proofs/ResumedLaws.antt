@@ -1,9 +1,9 @@
 -- Reading on behind a bundle of which nothing is bad, as if its bytes had been read.
-use Rattle.std.proofs.Common.{◌≡◌, ℕ, ◌+◌, ◌-◌, ◌≤◌, ◌<◌, List, [], ◌++◌, length, take, drop, Option, Some, None, IfSome, sym, ap, subst, ◌∙◌, refl, arith, length-append, append_assoc}
+use Rattle.std.proofs.Common.{◌≡◌, ℕ, ◌+◌, ◌-◌, ◌≤◌, List, [], ◌++◌, length, drop, Option, Some, None, sym, ap, ◌∙◌, refl, arith, length-append, append_assoc}
 use Rattle.std.proofs.Math.Seq.{take-append_seam, drop-append_seam}
 use Rattle.std.specs.Option.{option_map}
 use Rattle.lamport_clocks.specs.declared.header.Header.{Header}
-use Rattle.bundle_frames.specs.Bundle.{Bundle, with_frames, frames_from, bundle_of, bundle_from}
+use Rattle.bundle_frames.specs.Bundle.{Bundle, with_frames, frames_from, bundle_of}
 use Rattle.bundle_frames.specs.Extent.{end_in, reading_end, IsDue}
 use Rattle.bundle_frames.specs.Reading.{resumed_reading, ahead, end_ahead, HasRead, ReadsAs}
 use Rattle.bundle_frames.proofs.ReadingLaws.{start-end}

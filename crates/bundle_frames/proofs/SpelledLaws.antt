@@ -1,7 +1,7 @@
 -- What is read as a header or as a frame is spelled by its text.
 use Rattle.std.proofs.Common.{◌≡◌, ℕ, ◌+◌, ◌-◌, ◌%◌, ◌<◌, ◌≤◌, cond, Bool, true, false, List, [], ◌∷◌, ◌++◌, length, get_or, take, drop, Some, sym, ap, subst, ◌∙◌, refl, arith, inl, inr, append-nil, length-drop, length-take}
 use Rattle.std.proofs.Math.Seq.{take-add}
-use Rattle.std.proofs.lemmas.Bool.{cases_lt}
+use Rattle.std.proofs.lemmas.Bool.{cases_lt, false≢true}
 use Rattle.std.proofs.lemmas.List.{length-take-le, get_or-drop, get_or-take, get_or_past}
 use Rattle.std.proofs.lemmas.Nat.{be_bytes_2, be_bytes_4}
 use Rattle.std.proofs.lemmas.Slice.Eq.{bytes_eq-Decides}
@@ -9,8 +9,8 @@ use Rattle.std.specs.Prelude.{nat_eq, All}
 use Rattle.std.specs.Int.{w8, w16, w32, to_be_bytes, from_be_bytes}
 use Rattle.std.specs.List.{starts_with}
 use Rattle.lamport_clocks.specs.declared.header.Header.{Header}
-use Rattle.bundle_frames.specs.Bundle.{Frame, prefix, digit_zero, version_in, says_bits, header_bytes, header_bytes_in, header_text, header_numbers, header_in, head_bytes, head_length, frame_text, frame_in, frame_bytes}
-use Rattle.bundle_frames.proofs.HeaderLaws.{IsHeaderOf-from_header_in}
+use Rattle.bundle_frames.specs.Bundle.{Frame, prefix, digit_zero, version_in, says_bits, says_clients, header_bytes, header_bytes_in, header_text, header_numbers, header_in, head_bytes, head_length, frame_text, frame_in, frame_bytes}
+use Rattle.bundle_frames.proofs.HeaderLaws.{says_both, bytes_by, IsHeaderOf-from_header_in}
 use Rattle.bundle_frames.proofs.FrontLaws.{whole-magic}
 use Rattle.bundle_frames.proofs.FindsLaws.{IsHeader-from_header_in, IsFrameOf-from_frame_in}
 
@@ -69,15 +69,24 @@ begins-some : (b : Bool) (n : ℕ) → 1 ≤ cond b n 0 → b ≡ true
 begins-some true n some = refl
 begins-some false n some = absurd (omega arith)
 
--- what follows where the bits of a key do, and where they don't
-last_spelled : (b : Bool) (bytes front : List ℕ) → AreBytes bytes → cond b 19 18 ≤ length bytes → take 18 bytes ≡ front
-    → take (cond b 19 18) bytes ≡ front ++ cond b (to_be_bytes w8 (cond b (get_or bytes 18 0) 64)) []
-last_spelled true bytes front fits there is =
+-- the byte that says how many bits a key has
+bits_spelled : (bytes front : List ℕ) → AreBytes bytes → 19 ≤ length bytes → take 18 bytes ≡ front → take 19 bytes ≡ front ++ to_be_bytes w8 (get_or bytes 18 0)
+bits_spelled bytes front fits there is =
     let small = fits 18 in
     let last : get_or (take 1 (drop 18 bytes)) 0 0 ≡ get_or bytes 18 0 = get_or-take 1 (drop 18 bytes) 0 0 (omega arith) ∙ get_or-drop 18 bytes 0 0 in
     let same : get_or bytes 18 0 ≡ get_or bytes 18 0 % 256 = omega arith in
     joined bytes front _ 18 1 is (one_byte (take 1 (drop 18 bytes)) (length-run 18 1 bytes (omega arith)) ∙ ap (λ (x : ℕ). x ∷ []) (last ∙ same))
-last_spelled false bytes front fits there is = is ∙ sym (append-nil front)
+
+-- what follows where the bits of a key do and the number of clients, and where they don't
+last_spelled : (b c : Bool) → (c ≡ true → b ≡ true) → (bytes front : List ℕ) → AreBytes bytes → bytes_by b c ≤ length bytes → take 18 bytes ≡ front
+    → take (bytes_by b c) bytes
+    ≡ front ++ cond b (to_be_bytes w8 (cond b (get_or bytes 18 0) 64)) [] ++ cond c (to_be_bytes w32 (cond c (from_be_bytes w32 (take 4 (drop 19 bytes))) 0)) []
+last_spelled true true both bytes front fits there is =
+    joined bytes _ _ 19 4 (bits_spelled bytes front fits (omega arith) is) (four_spelled 19 bytes fits (omega arith))
+last_spelled true false both bytes front fits there is =
+    bits_spelled bytes front fits (omega arith) is ∙ sym (append-nil (front ++ to_be_bytes w8 (get_or bytes 18 0)))
+last_spelled false true both bytes front fits there is = absurd (false≢true (both refl))
+last_spelled false false both bytes front fits there is = is ∙ (sym (append-nil front) ∙ sym (append-nil (front ++ [])))
 
 numbers_spelled : (bytes : List ℕ) → AreBytes bytes → header_bytes_in bytes ≤ length bytes → 1 ≤ version_in bytes
     → take (header_bytes_in bytes) bytes ≡ header_text (header_numbers bytes)
@@ -85,7 +94,7 @@ numbers_spelled bytes fits enough some =
     let there = whole-magic bytes enough in
     let begins = begins-some (starts_with nat_eq bytes prefix) _ some in
     let is : take 3 bytes ≡ prefix = sym ((bytes_eq-Decides prefix (take 3 bytes)).0 begins) in
-    last_spelled (says_bits (version_in bytes)) bytes _ fits enough
+    last_spelled (says_bits (version_in bytes)) (says_clients (version_in bytes)) (says_both (version_in bytes)) bytes _ fits enough
     (joined bytes _ _ 14 4
     (joined bytes _ _ 10 4
     (joined bytes _ _ 6 4

@@ -24,11 +24,15 @@ version_in bytes = if starts_with nat_eq bytes prefix then slice_index bytes 3 -
 
 -- a header of this version says how many bits a key has
 abbrev pub says_bits : ℕ → Bool
-says_bits version = version == 3
+says_bits version = nat_le 3 version && nat_le version 4
+
+-- and one of this version how many clients there are
+abbrev pub says_clients : ℕ → Bool
+says_clients version = version == 4
 
 -- the bytes of a header of this version
 abbrev pub header_bytes : ℕ → ℕ
-header_bytes version = if says_bits version then 19 else 18
+header_bytes version = 18 + (if says_bits version then 1 else 0) + (if says_clients version then 4 else 0)
 
 -- How many bytes a header has that begins with these: its first four tell. Before they are there it counts as one of 18,
 -- and no header has fewer.
@@ -39,11 +43,15 @@ header_bytes_in bytes = header_bytes (version_in bytes)
 abbrev pub fields_text : Header → List ℕ
 fields_text header = prefix ++ to_be_bytes w8 (digit_zero + header.version) ++ to_be_bytes w16 header.verifiers ++ to_be_bytes w32 header.cache ++ to_be_bytes w32 header.first ++ to_be_bytes w32 header.end
 
--- these, and in version 3 the bits of a key
+-- these, from version 3 on the bits of a key, and in version 4 the number of clients
 abbrev pub header_text : Header → List ℕ
-header_text header = fields_text header ++ (if says_bits header.version then to_be_bytes w8 header.bits else [])
+header_text header =
+    fields_text header
+    ++ (if says_bits header.version then to_be_bytes w8 header.bits else [])
+    ++ (if says_clients header.version then to_be_bytes w32 header.clients else [])
 
--- the numbers that the bytes of a header spell; where they don't say how many bits a key has, it has 64
+-- The numbers that the bytes of a header spell. Where they don't say how many bits a key has, it has 64, and where they don't say
+-- how many clients there are, there are none.
 abbrev pub header_numbers : List ℕ → Header
 header_numbers bytes = record {
   version = version_in bytes;
@@ -52,6 +60,7 @@ header_numbers bytes = record {
   first = from_be_bytes w32 (slice_range bytes 10 14);
   end = from_be_bytes w32 (slice_range bytes 14 18);
   bits = if says_bits (version_in bytes) then slice_index bytes 18 else 64;
+  clients = if says_clients (version_in bytes) then from_be_bytes w32 (slice_range bytes 19 23) else 0;
 }
 
 -- a header: all bytes of its version are there, and each number is in its range

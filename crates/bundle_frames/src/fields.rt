@@ -1,14 +1,16 @@
 //! The fields of a header and of a frame's head, read from their bytes.
 ghost use Rattle.std.specs.Prelude.{◌≡◌, ◌≤◌, ◌↔◌, ◌&&◌, nat_le, nat_lt, length, IsSome, IfSome};
 ghost use Rattle.std.specs.Int.{w16, w32, from_be_bytes};
-ghost use Rattle.bundle_frames.specs.Bundle.{magic_bytes, version_in, says_bits, header_bytes, header_bytes_in, header_in, header_numbers, head_bytes, head_verifier, head_length, longest_body};
+ghost use Rattle.bundle_frames.specs.Bundle.{magic_bytes, version_in, says_bits, says_clients, header_bytes, header_bytes_in, header_in, header_numbers, head_bytes, head_verifier, head_length, longest_body};
 
 use lamport_clocks::Header;
 
 /// How many bytes name the version of a bundle.
 pub const MAGIC_BYTES: usize = 4;
-/// The most bytes of a header, with the bits of a key last.
-pub const LONGEST_HEADER: usize = 19;
+// The fewest bytes of a header.
+const SHORTEST_HEADER: usize = 18;
+/// The most bytes of a header, with the bits of a key and the number of clients last.
+pub const LONGEST_HEADER: usize = 23;
 /// How many bytes a frame has before its body.
 pub const HEAD_BYTES: usize = 6;
 /// The most bytes of a frame's body.
@@ -18,18 +20,24 @@ pub const LONGEST_BODY: usize = 65_536;
 fn says_bits(version: u8) -> bool
     ensures value { result ≡ says_bits version }
 {
-    version == 3
+    3 <= version && version <= 4
+}
+
+// Whether one of this version says how many clients there are.
+fn says_clients(version: u8) -> bool
+    ensures value { result ≡ says_clients version }
+{
+    version == 4
 }
 
 /// How many bytes a header of this version has.
 pub fn header_bytes(version: u8) -> usize
     ensures value { result ≡ header_bytes version }
+    ensures most { result ≤ LONGEST_HEADER }
 {
-    if says_bits(version) {
-        LONGEST_HEADER
-    } else {
-        LONGEST_HEADER - 1
-    }
+    let bits = if says_bits(version) { 1 } else { 0 };
+    let clients = if says_clients(version) { 4 } else { 0 };
+    SHORTEST_HEADER + bits + clients
 }
 
 // The version that bytes begin with. Another prefix gives version 0, which is none, and so does a byte below
@@ -82,6 +90,11 @@ fn numbers_at(bytes: &[u8]) -> Header
         first: number_of_four(&bytes[10..14]),
         end: number_of_four(&bytes[14..18]),
         bits: if says_bits(version) { bytes[18] } else { 64 },
+        clients: if says_clients(version) {
+            number_of_four(&bytes[19..23])
+        } else {
+            0
+        },
     }
 }
 

@@ -9,7 +9,7 @@ use crate::fields::{HEAD_BYTES, LONGEST_HEADER, header_bytes};
 use fv_outside::{Failed, Sink, write_all};
 use lamport_clocks::Header;
 
-/// Writes a bundle's header, of 18 bytes, or in version 3 of 19. On `Failed` the sink holds a front of it more.
+/// Writes a bundle's header, of 18 bytes, in version 3 of 19, and in version 4 of 23. On `Failed` the sink holds a front of it more.
 pub fn write_header<O: Sink>(h: &Header, sink: &mut O) -> Result<(), Failed>
     ensures whole { OnOk result (Grows (O.held sink.old) (O.held sink.new) (header_text h.now)) }
     ensures front { OnErr result
@@ -36,15 +36,16 @@ pub fn write_frame<O: Sink>(verifier: u16, body: &[u8], sink: &mut O) -> Result<
     write_all(sink, body)
 }
 
-/// The bytes of a header, with the bits of a key at their end, also where its version leaves them out.
+/// The bytes of a header, with the bits of a key and the number of clients at their end, also where its version leaves them out.
 pub fn spell_header(h: &Header) -> [u8; LONGEST_HEADER]
-    ensures text { result ≡ fields_text h.now ++ to_be_bytes w8 h.now.bits }
+    ensures text { result ≡ fields_text h.now ++ to_be_bytes w8 h.now.bits ++ to_be_bytes w32 h.now.clients }
 {
     let verifiers = h.verifiers.to_be_bytes();
     let cache = h.cache.to_be_bytes();
     let first = h.first.to_be_bytes();
     let end = h.end.to_be_bytes();
     let bits = h.bits.to_be_bytes();
+    let clients = h.clients.to_be_bytes();
     [
         b'F',
         b'V',
@@ -65,6 +66,10 @@ pub fn spell_header(h: &Header) -> [u8; LONGEST_HEADER]
         end[2],
         end[3],
         bits[0],
+        clients[0],
+        clients[1],
+        clients[2],
+        clients[3],
     ]
 }
 

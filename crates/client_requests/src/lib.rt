@@ -11,5 +11,5 @@ mod signing;
 mod texts;
 
 pub use laws::{last_numbers_are_kept, signatures_are_tested, texts_tell_what_is_asked};
-pub use signing::{Clients, note_number, opening_numbers};
+pub use signing::{Clients, note_number, opening_numbers, own_clients};
 pub use texts::{LONGEST_REQUEST_TEXT, request_tag, request_text};

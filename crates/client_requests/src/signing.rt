@@ -121,8 +121,8 @@ pub fn opening_numbers(
     Ok(numbers)
 }
 
-// How many of so many clients belong to the verifier of this number.
-fn own_clients(count: u32, verifiers: u16, number: u16) -> usize
+/// How many of so many clients belong to the verifier of this number.
+pub fn own_clients(count: u32, verifiers: u16, number: u16) -> usize
     requires number { number < verifiers }
     ensures value { result ≡ own_clients count verifiers number }
 {

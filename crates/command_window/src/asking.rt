@@ -217,6 +217,8 @@ fn value_by_path(command: &Command) -> Option<Told<'_>> {
         Command::AddB { value, .. } => Some(Told::Value(value)),
         Command::Get { value, .. } => Some(Told::Value(value)),
         Command::Put { value, .. } => Some(Told::Value(value)),
+        Command::SignedGet { value, .. } => Some(Told::Value(value)),
+        Command::SignedPut { value, .. } => Some(Told::Value(value)),
         _ => None,
     }
 }
@@ -227,6 +229,8 @@ fn value_by_slot(command: &SlotCommand) -> Option<Told<'_>> {
         SlotCommand::AddB { value, .. } => Some(Told::Value(value)),
         SlotCommand::Get { value, .. } => Some(Told::Data(value)),
         SlotCommand::Put { value, .. } => Some(Told::Data(value)),
+        SlotCommand::SignedGet { value, .. } => Some(Told::Data(value)),
+        SlotCommand::SignedPut { value, .. } => Some(Told::Data(value)),
         _ => None,
     }
 }

@@ -50,6 +50,8 @@ fn told_of_path(command: &Command, sought: Sought) -> Option<&Path> {
         (Command::AddB { path, .. }, Sought::Add | Sought::Value) => Some(path),
         (Command::Get { path, .. }, Sought::Value) => Some(path),
         (Command::Put { path, .. }, Sought::Value) => Some(path),
+        (Command::SignedGet { path, .. }, Sought::Value) => Some(path),
+        (Command::SignedPut { path, .. }, Sought::Value) => Some(path),
         _ => None,
     }
 }
@@ -61,6 +63,8 @@ fn told_of_slot(command: &SlotCommand, sought: Sought) -> Option<u16> {
         (SlotCommand::AddB { slot, .. }, Sought::Add | Sought::Value) => Some(*slot),
         (SlotCommand::Get { slot, .. }, Sought::Value) => Some(*slot),
         (SlotCommand::Put { slot, .. }, Sought::Value) => Some(*slot),
+        (SlotCommand::SignedGet { slot, .. }, Sought::Value) => Some(*slot),
+        (SlotCommand::SignedPut { slot, .. }, Sought::Value) => Some(*slot),
         _ => None,
     }
 }

@@ -81,9 +81,7 @@ fn operation_in(text: &[u8]) -> Option<Operation>
     };
     let verifier = u16_in(&text[9..11]);
     let index = u64_in(&text[11..19]);
-    Some(Operation::new(
-        stamp, verifier, index, put, wide, key, value, None,
-    ))
+    Some(Operation::new(stamp, verifier, index, put, wide, key, value, None))
 }
 
 // Of which tree the key is, by the first byte.

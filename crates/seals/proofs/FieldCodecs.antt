@@ -4,15 +4,12 @@ use Rattle.std.specs.Int.{w16, w32, w64, to_be_bytes}
 use Rattle.tree_keys.specs.Path.{IsIn, IsPath}
 use Rattle.record_text.specs.Value.{IsOf, IsBlob}
 use Rattle.record_text.specs.Element.{IsStamp}
-use Rattle.record_text.specs.Fields.{KeepsOn}
 use Rattle.record_text.specs.Reading.{first_byte, run_at, byte_at, u16_at, u32_at, u64_at, path_at, value_at, blob_at, stamp_at}
 use Rattle.record_text.specs.Texts.{path_text, value_text, blob_text, stamp_text}
-use Rattle.record_text.proofs.FieldLaws.{AreBytes, Begins, field_begins, byte_field_begins, field_again, wide64, number_begins, number_again}
+use Rattle.record_text.proofs.FieldLaws.{AreBytes, Begins, field_begins, byte_field_begins, field_again}
 use Rattle.record_text.proofs.PathTextLaws.{path_begins, path_again}
 use Rattle.record_text.proofs.ValueTextLaws.{value_begins, value_again, blob_begins, blob_again}
-use Rattle.record_text.proofs.ElementTextLaws.{u16_begins, u16_again, u32_begins, u32_again, stamp_begins, stamp_again}
-use Rattle.record_text.proofs.KeepsOnLaws.{keeps_on-field}
-use Rattle.std.specs.Int.{from_be_bytes}
+use Rattle.record_text.proofs.ElementTextLaws.{u16_begins, u16_again, u32_begins, u32_again, u64_begins, u64_again, stamp_begins, stamp_again}
 use Rattle.seals.proofs.CodecLaws.{IsCodec}
 
 -- bytes behind a first one
@@ -36,11 +33,7 @@ pub codec-u32 : IsCodec u32_at (to_be_bytes w32) (λ n. n < 2 ^ 32)
 codec-u32 = record { begins = u32_begins; again = u32_again }
 
 pub codec-u64 : IsCodec u64_at (to_be_bytes w64) (λ n. n < 2 ^ 64)
-unfolding u64_at
-codec-u64 = record {
-  begins = λ bytes n rest fits e. number_begins w64 (2 ^ 64) wide64 bytes n rest fits e;
-  again = λ n rest lt. number_again w64 (2 ^ 64) wide64 n rest lt;
-}
+codec-u64 = record { begins = u64_begins; again = u64_again }
 
 pub codec-stamp : IsCodec stamp_at stamp_text IsStamp
 codec-stamp = record { begins = stamp_begins; again = stamp_again }
@@ -69,7 +62,3 @@ codec-bytes count = record {
       subst (λ (t : List ℕ). Begins bytes t rest × (length t ≡ count)) is (f.0, f.1);
   again = λ run rest len. field_again count (λ run. Some run) run rest run len refl;
 }
-
-pub keeps_on-u64 : KeepsOn u64_at
-unfolding u64_at
-keeps_on-u64 = keeps_on-field 8 (λ run. Some (from_be_bytes w64 run))

@@ -11,20 +11,20 @@ use Rattle.record_text.specs.Element.{IsStamp}
 use Rattle.record_text.specs.Fields.{KeepsOn}
 use Rattle.record_text.specs.Reading.{u32_at, u64_at, stamp_at}
 use Rattle.record_text.specs.Texts.{stamp_text}
-use Rattle.record_text.proofs.KeepsOnLaws.{keeps_on-u32, keeps_on-stamp}
+use Rattle.record_text.proofs.KeepsOnLaws.{keeps_on-u32, keeps_on-stamp, keeps_on-u64}
 use Rattle.verifier_cache.specs.declared.listed.ListedEntry.{ListedEntry}
 use Rattle.seals.specs.declared.bounds.Bounds.{Bounds}
 use Rattle.seals.specs.Combined.{then_at, at_most, exactly, InRow}
 use Rattle.seals.specs.State.{KeptRun}
-use Rattle.seals.specs.Bounds.{is_clock, most_own, most_before, entry_follows, sealed_count, part_follows, operation_follows}
+use Rattle.seals.specs.Bounds.{is_clock, most_own, most_before, entry_follows, sealed_count, part_follows, operation_follows, number_count}
 use Rattle.seals.specs.Entry.{entry_at, entry_text, IsGoodEntry}
 use Rattle.seals.specs.Sum.{sum_text, part_at, part_text, IsGoodSum, IsGoodPart}
 use Rattle.seals.specs.Operation.{operation_at, operation_text, IsGoodOperation}
-use Rattle.seals.specs.Run.{bounds_with, bounds_in, bounds_at, bounds_of, entries_at, parts_at, operations_at, SumFields, sums_at, ListFields, kept_with, lists_at, run_at, entries_text, parts_text, operations_text, run_text, IsGoodRun}
-use Rattle.seals.proofs.CodecLaws.{IsCodec, codec-then, IsPicked, codec-pick, codec-counted, keeps_on-both, keeps_on-pick, keeps_on-counted}
-use Rattle.seals.proofs.FieldCodecs.{codec-u32, codec-u64, codec-stamp, keeps_on-u64}
+use Rattle.seals.specs.Run.{bounds_with, bounds_in, bounds_at, bounds_of, entries_at, parts_at, operations_at, numbers_at, SumFields, sums_at, ListFields, kept_with, lists_at, run_at, entries_text, parts_text, operations_text, numbers_text, run_text, IsGoodRun}
+use Rattle.seals.proofs.CodecLaws.{IsCodec, codec-then, IsPicked, codec-pick, AreRow, codec-row, codec-counted, keeps_on-both, keeps_on-pick, keeps_on-row, keeps_on-counted}
+use Rattle.seals.proofs.FieldCodecs.{codec-u32, codec-u64, codec-stamp}
 use Rattle.seals.proofs.EntryLaws.{codec-entry, keeps_on-entry}
-use Rattle.seals.proofs.SumLaws.{codec-sum, codec-part, keeps_on-sum, keeps_on-part}
+use Rattle.seals.proofs.SumLaws.{free_row, codec-sum, codec-part, keeps_on-sum, keeps_on-part}
 use Rattle.seals.proofs.OperationLaws.{codec-operation, keeps_on-operation}
 
 -- ---- before the lists
@@ -92,6 +92,17 @@ keeps_on-operations : (b : Bounds) → KeepsOn (operations_at b)
 unfolding operations_at
 keeps_on-operations b = keeps_on-counted u64_at (at_most b.accepted) (operation_follows b) (operation_at b) keeps_on-u64 (keeps_on-operation b)
 
+abbrev AreGoodNumbers : Bounds → List ℕ → Type 0
+AreGoodNumbers b numbers = AreRow (λ before number. true) (λ last. last < 2 ^ 64) None (number_count b) numbers
+
+codec-numbers : (b : Bounds) → IsCodec (numbers_at b) numbers_text (AreGoodNumbers b)
+unfolding numbers_at
+codec-numbers b = codec-row (λ before number. true) u64_at (to_be_bytes w64) (λ last. last < 2 ^ 64) codec-u64 (number_count b) None
+
+keeps_on-numbers : (b : Bounds) → KeepsOn (numbers_at b)
+unfolding numbers_at
+keeps_on-numbers b = keeps_on-row (λ before number. true) u64_at keeps_on-u64 (number_count b) None
+
 abbrev four_text : SumFields → List ℕ
 four_text f = sum_text f.0 ++ (sum_text f.1.0 ++ (sum_text f.1.1.0 ++ sum_text f.1.1.1))
 
@@ -111,25 +122,28 @@ keeps_on-sums b =
     keeps_on-both _ _ (keeps_on-sum (most_before b)) (λ first. keeps_on-both _ _ (keeps_on-sum (most_before b)) (λ second. keeps_on-both _ _ (keeps_on-sum (most_own b)) (λ third. keeps_on-sum (most_own b))))
 
 abbrev lists_text : ListFields → List ℕ
-lists_text f = entries_text f.0 ++ (four_text f.1.0 ++ (parts_text f.1.1.0 ++ operations_text f.1.1.1))
+lists_text f = entries_text f.0 ++ (four_text f.1.0 ++ (parts_text f.1.1.0 ++ (operations_text f.1.1.1.0 ++ numbers_text f.1.1.1.1)))
 
 abbrev AreGoodLists : Bounds → ListFields → Type 0
-AreGoodLists b f = AreGoodEntries b f.0 × (AreGoodSums b f.1.0 × (AreGoodParts b f.1.1.0 × AreGoodOperations b f.1.1.1))
+AreGoodLists b f = AreGoodEntries b f.0 × (AreGoodSums b f.1.0 × (AreGoodParts b f.1.1.0 × (AreGoodOperations b f.1.1.1.0 × AreGoodNumbers b f.1.1.1.1)))
 
 codec-lists : (b : Bounds) → IsCodec (lists_at b) lists_text (AreGoodLists b)
 codec-lists b =
-    codec-then _ _ _ _ (λ entries f. four_text f.0 ++ (parts_text f.1.0 ++ operations_text f.1.1)) (λ entries f. AreGoodSums b f.0 × (AreGoodParts b f.1.0 × AreGoodOperations b f.1.1)) (codec-entries b) (λ entries good.
-    codec-then _ _ _ _ (λ sums f. parts_text f.0 ++ operations_text f.1) (λ sums f. AreGoodParts b f.0 × AreGoodOperations b f.1) (codec-sums b) (λ sums good.
-    codec-then _ _ _ _ (λ parts operations. operations_text operations) (λ parts operations. AreGoodOperations b operations) (codec-parts b) (λ parts good. codec-operations b)))
+    codec-then _ _ _ _ (λ entries f. four_text f.0 ++ (parts_text f.1.0 ++ (operations_text f.1.1.0 ++ numbers_text f.1.1.1)))
+    (λ entries f. AreGoodSums b f.0 × (AreGoodParts b f.1.0 × (AreGoodOperations b f.1.1.0 × AreGoodNumbers b f.1.1.1))) (codec-entries b) (λ entries good.
+    codec-then _ _ _ _ (λ sums f. parts_text f.0 ++ (operations_text f.1.0 ++ numbers_text f.1.1))
+    (λ sums f. AreGoodParts b f.0 × (AreGoodOperations b f.1.0 × AreGoodNumbers b f.1.1)) (codec-sums b) (λ sums good.
+    codec-then _ _ _ _ (λ parts f. operations_text f.0 ++ numbers_text f.1) (λ parts f. AreGoodOperations b f.0 × AreGoodNumbers b f.1) (codec-parts b) (λ parts good.
+    codec-then _ _ _ _ (λ operations numbers. numbers_text numbers) (λ operations numbers. AreGoodNumbers b numbers) (codec-operations b) (λ operations good. codec-numbers b))))
 
 keeps_on-lists : (b : Bounds) → KeepsOn (lists_at b)
-keeps_on-lists b = keeps_on-both _ _ (keeps_on-entries b) (λ entries. keeps_on-both _ _ (keeps_on-sums b) (λ sums. keeps_on-both _ _ (keeps_on-parts b) (λ parts. keeps_on-operations b)))
+keeps_on-lists b = keeps_on-both _ _ (keeps_on-entries b) (λ entries. keeps_on-both _ _ (keeps_on-sums b) (λ sums. keeps_on-both _ _ (keeps_on-parts b) (λ parts. keeps_on-both _ _ (keeps_on-operations b) (λ operations. keeps_on-numbers b))))
 
 -- ---- all of it
 
 abbrev fields_of_run : Header → ℕ → ℕ → KeptRun → Bounds × ListFields
 fields_of_run header certified number run =
-    (bounds_of header certified number run, (run.entries, ((run.added_before, (run.evicted_before, (run.added, run.evicted))), (run.parts, run.operations))))
+    (bounds_of header certified number run, (run.entries, ((run.added_before, (run.evicted_before, (run.added, run.evicted))), (run.parts, (run.operations, run.numbers)))))
 
 good_run : (header : Header) (certified taken number : ℕ) (at : Stamp) (accepted : ℕ) (f : ListFields)
     → IsTrue (is_clock header certified taken at accepted) → IsStamp at → accepted < 2 ^ 64 → AreGoodLists (bounds_with header certified number at accepted) f
@@ -150,10 +164,12 @@ good_run header certified taken number at accepted f clock stamp small lists = r
   each_sealed = lists.1.1.0.0.0;
   parts_stand = lists.1.1.0.1;
   parts = lists.1.1.0.2;
-  few_operations = lists.1.1.1.0.1;
-  no_more = lists.1.1.1.0.0;
-  operations_stand = lists.1.1.1.1;
-  operations = lists.1.1.1.2;
+  few_operations = lists.1.1.1.0.0.1;
+  no_more = lists.1.1.1.0.0.0;
+  operations_stand = lists.1.1.1.0.1;
+  operations = lists.1.1.1.0.2;
+  each_client = lists.1.1.1.1.0;
+  numbers = lists.1.1.1.1.2;
 }
 
 abbrev AreGoodFields : Header → ℕ → ℕ → ℕ → Bounds × ListFields → Type 0
@@ -182,7 +198,10 @@ picked-run header certified taken number = record {
           (good.added_before, (good.evicted_before, (good.added, good.evicted))),
           (
             ((good.each_sealed, good.few_parts), good.parts_stand, good.parts),
-            ((good.no_more, good.few_operations), good.operations_stand, good.operations),
+            (
+              ((good.no_more, good.few_operations), good.operations_stand, good.operations),
+              (good.each_client, free_row None run.numbers, good.numbers),
+            ),
           ),
         ),
       ),

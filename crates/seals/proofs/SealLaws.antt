@@ -12,7 +12,7 @@ use Rattle.record_text.specs.declared.reader.TextFault.TheVariants.{Truncated}
 use Rattle.record_text.specs.Fields.{Parsed, ◌>>=◌, KeepsOn}
 use Rattle.record_text.specs.Reading.{run_at as bytes_at, u32_at, u64_at}
 use Rattle.record_text.proofs.FieldLaws.{AreBytes, Begins, Begins-then, bind_ok, Ok-is}
-use Rattle.record_text.proofs.KeepsOnLaws.{keeps_on-nothing, keeps_on-then, keeps_on-made, keeps_on-run as keeps_on-bytes, keeps_on-u32, front_is_truncated}
+use Rattle.record_text.proofs.KeepsOnLaws.{keeps_on-nothing, keeps_on-then, keeps_on-made, keeps_on-run as keeps_on-bytes, keeps_on-u32, front_is_truncated, keeps_on-u64}
 use Rattle.bundle_frames.specs.Bundle.{header_text}
 use Rattle.seals.specs.Combined.{then_at, if_passing, at_most, exactly}
 use Rattle.seals.specs.State.{KeptRun, Seal}
@@ -22,7 +22,7 @@ use Rattle.seals.specs.declared.state.SealedState.{SealedState}
 use Rattle.seals.specs.Kept.{seal_in}
 use Rattle.seals.specs.Answer.{tagged_front, IsWhole, IsUntagged}
 use Rattle.seals.proofs.CodecLaws.{IsCodec, codec-then, IsPicked, codec-pick, codec-tested, keeps_on-both, keeps_on-pick}
-use Rattle.seals.proofs.FieldCodecs.{codec-u32, codec-u64, codec-bytes, keeps_on-u64}
+use Rattle.seals.proofs.FieldCodecs.{codec-u32, codec-u64, codec-bytes}
 use Rattle.seals.proofs.HeaderLaws.{IsGoodHeader, codec-header, keeps_on-header}
 use Rattle.seals.proofs.RunLaws.{codec-run, keeps_on-run}
 

@@ -167,4 +167,6 @@ stood_is_good header certified taken number run ranges is =
       no_more = le-leb _ _ (omega (arith, count));
       operations_stand = operations-stand header certified number run None run.operations is.each_open is.rising (λ one more same. refl);
       operations = is.operations;
+      each_client = is.each_client;
+      numbers = is.numbers;
     }

@@ -8,13 +8,13 @@ use Rattle.multiset_sum.specs.Sum.{sum_with}
 use Rattle.multiset_sum.specs.declared.part.Part.{Part}
 use Rattle.record_text.specs.Fields.{KeepsOn}
 use Rattle.record_text.specs.Reading.{u64_at}
-use Rattle.record_text.proofs.KeepsOnLaws.{keeps_on-u32}
+use Rattle.record_text.proofs.KeepsOnLaws.{keeps_on-u32, keeps_on-u64}
 use Rattle.seals.specs.declared.bounds.Bounds.{Bounds}
 use Rattle.seals.specs.Combined.{then_at, InRow}
 use Rattle.seals.specs.Bounds.{most_sealed}
 use Rattle.seals.specs.Sum.{is_sum, sum_in, lanes_at, sum_at, sum_text, IsGoodSum, PartFields, part_of_fields, part_at, part_text, IsGoodPart}
 use Rattle.seals.proofs.CodecLaws.{IsCodec, AreRow, codec-then, IsPicked, codec-pick, codec-row, keeps_on-both, keeps_on-pick, keeps_on-row}
-use Rattle.seals.proofs.FieldCodecs.{codec-u32, codec-u64, keeps_on-u64}
+use Rattle.seals.proofs.FieldCodecs.{codec-u32, codec-u64}
 
 -- numbers that a test passes, one by one
 all_at_most : (most : ℕ) (lanes : List ℕ) → list_all (λ lane. leb lane most) lanes ≡ true → AllByRecursion (λ lane. lane ≤ most) lanes
@@ -28,7 +28,7 @@ at_most_all most [] bounded = refl
 at_most_all most (lane ∷ lanes) bounded = and_from _ _ (le-leb _ _ bounded.0) (at_most_all most lanes bounded.1)
 
 -- any numbers stand in a row where each may stand behind each
-free_row : (before : Option ℕ) (lanes : List ℕ) → InRow (λ previous lane. true) before lanes
+pub free_row : (before : Option ℕ) (lanes : List ℕ) → InRow (λ previous lane. true) before lanes
 free_row before [] = tt
 free_row before (lane ∷ lanes) = (refl, free_row (Some lane) lanes)
 

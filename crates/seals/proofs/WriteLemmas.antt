@@ -11,10 +11,14 @@ use Rattle.seals.specs.Seal.{magic_number, seal_text}
 pub both_joined : (old a b t1 t2 : List ℕ) → t1 ≡ old ++ a → t2 ≡ t1 ++ b → t2 ≡ old ++ (a ++ b)
 both_joined old a b t1 t2 e1 e2 = e2 ∙ (ap (λ (t : List ℕ). t ++ b) e1 ∙ append_assoc old a b)
 
--- the five pieces of a verifier's text
-pub run_joined : (old a b c d e t1 t2 t3 t4 t5 : List ℕ) → t1 ≡ old ++ a → t2 ≡ t1 ++ b → t3 ≡ t2 ++ c → t4 ≡ t3 ++ d → t5 ≡ t4 ++ e → t5 ≡ old ++ (a ++ (b ++ (c ++ (d ++ e))))
-run_joined old a b c d e t1 t2 t3 t4 t5 e1 e2 e3 e4 e5 =
-    both_joined old a (b ++ (c ++ (d ++ e))) t1 t5 e1 (both_joined t1 b (c ++ (d ++ e)) t2 t5 e2 (both_joined t2 c (d ++ e) t3 t5 e3 (both_joined t3 d e t4 t5 e4 e5)))
+-- the six pieces of a verifier's text
+pub run_joined : (old a b c d e f t1 t2 t3 t4 t5 t6 : List ℕ) → t1 ≡ old ++ a → t2 ≡ t1 ++ b → t3 ≡ t2 ++ c → t4 ≡ t3 ++ d → t5 ≡ t4 ++ e → t6 ≡ t5 ++ f
+    → t6 ≡ old ++ (a ++ (b ++ (c ++ (d ++ (e ++ f)))))
+run_joined old a b c d e f t1 t2 t3 t4 t5 t6 e1 e2 e3 e4 e5 e6 =
+    both_joined old a (b ++ (c ++ (d ++ (e ++ f)))) t1 t6 e1
+    (both_joined t1 b (c ++ (d ++ (e ++ f))) t2 t6 e2
+    (both_joined t2 c (d ++ (e ++ f)) t3 t6 e3
+    (both_joined t3 d (e ++ f) t4 t6 e4 (both_joined t4 e f t5 t6 e5 e6))))
 
 -- the pieces of what stands before the verifiers
 pub head_joined : (old magic counter taken header certified t1 t2 t3 : List ℕ) → t1 ≡ old ++ (magic ++ (counter ++ taken)) → t2 ≡ t1 ++ header → t3 ≡ t2 ++ certified → t3 ≡ old ++ (magic ++ (counter ++ (taken ++ (header ++ certified))))

@@ -1,10 +1,11 @@
 -- What a verifier can have come to: the tests of what is kept of it.
 use Rattle.std.specs.Prelude.{ℕ, ◌+◌, ◌*◌, ◌-◌, ◌==◌, ◌&&◌, ◌||◌, nat_le, nat_lt, Bool, true, Option, Some, None, if◌then◌else◌}
 use Rattle.lamport_clocks.specs.declared.header.Header.{Header}
-use Rattle.lamport_clocks.specs.Header.{names_paths}
+use Rattle.lamport_clocks.specs.Header.{names_paths, is_signed}
 use Rattle.lamport_clocks.specs.declared.stamp.Stamp.{Stamp}
 use Rattle.multiset_sum.specs.declared.part.Part.{Part}
 use Rattle.record_text.specs.declared.operation.Operation.{Operation}
+use Rattle.client_requests.specs.Signing.{own_clients}
 use Rattle.path_index.specs.Order.{order_of}
 use Rattle.verifier_cache.specs.declared.listed.ListedEntry.{ListedEntry}
 use Rattle.seals.specs.declared.bounds.Bounds.{Bounds}
@@ -87,3 +88,12 @@ is_operation_behind (Some before) one = nat_lt before.index one.index && is_no_l
 
 abbrev pub operation_follows : Bounds → Option Operation → Operation → Bool
 operation_follows bounds before one = is_open_operation bounds one && is_operation_behind before one
+
+-- ---- last numbers
+
+-- how many clients the verifier has: none where requests are not signed
+abbrev pub number_count : Bounds → ℕ
+number_count bounds =
+    if is_signed bounds.header && nat_lt bounds.number bounds.header.verifiers
+    then own_clients bounds.header.clients bounds.header.verifiers bounds.number
+    else 0

@@ -20,6 +20,7 @@ kept_in state = record {
   evicted = state.evicted;
   parts = state.parts.items;
   operations = state.operations.items;
+  numbers = state.numbers.items;
 }
 
 -- of a bundle

@@ -13,6 +13,7 @@ use Rattle.verifier_cache.specs.Alike.{Rises}
 use Rattle.verifier_cache.specs.Listed.{entries_in, SlotsRise}
 use Rattle.seals.specs.State.{KeptRun}
 use Rattle.seals.specs.Entry.{IsGoodEntry}
+use Rattle.seals.specs.Bounds.{number_count}
 use Rattle.seals.specs.Operation.{IsGoodOperation}
 use Rattle.seals.specs.Run.{bounds_of}
 
@@ -95,3 +96,5 @@ pub record HasStood (header : Header) (certified taken number : ℕ) (run : Kept
   pub operations : AllByRecursion (IsGoodOperation (bounds_of header certified number run)) run.operations
   pub each_open : AllByRecursion (IsOpen header certified run) run.operations
   pub rising : OperationsRise run.operations
+  pub each_client : length run.numbers ≡ number_count (bounds_of header certified number run)
+  pub numbers : AllByRecursion (λ last. last < 2 ^ 64) run.numbers

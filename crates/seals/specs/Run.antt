@@ -1,5 +1,5 @@
 -- What is kept of a verifier as a text, and what bytes mean as such.
-use Rattle.std.specs.Prelude.{◌<◌, ◌^◌, ℕ, List, ◌++◌, length, Option, Some, None, IsTrue, if◌then◌else◌}
+use Rattle.std.specs.Prelude.{◌≡◌, ◌<◌, ◌^◌, ℕ, true, List, ◌++◌, length, Option, Some, None, IsTrue, if◌then◌else◌}
 use Rattle.std.specs.Int.{w32, w64, to_be_bytes}
 use Rattle.std.specs.List.{flat_map, AllByRecursion}
 use Rattle.lamport_clocks.specs.declared.header.Header.{Header}
@@ -13,9 +13,9 @@ use Rattle.record_text.specs.Reading.{u32_at, u64_at, stamp_at}
 use Rattle.record_text.specs.Texts.{stamp_text}
 use Rattle.verifier_cache.specs.declared.listed.ListedEntry.{ListedEntry}
 use Rattle.seals.specs.declared.bounds.Bounds.{Bounds}
-use Rattle.seals.specs.Combined.{then_at, pick_at, counted_at, at_most, exactly, InRow}
+use Rattle.seals.specs.Combined.{then_at, pick_at, row_at, counted_at, at_most, exactly, InRow}
 use Rattle.seals.specs.State.{KeptRun}
-use Rattle.seals.specs.Bounds.{is_clock, most_own, most_before, entry_follows, sealed_count, part_follows, operation_follows}
+use Rattle.seals.specs.Bounds.{is_clock, most_own, most_before, entry_follows, sealed_count, part_follows, operation_follows, number_count}
 use Rattle.seals.specs.Entry.{entry_at, entry_text, IsGoodEntry}
 use Rattle.seals.specs.Sum.{sum_at, sum_text, part_at, part_text, IsGoodSum, IsGoodPart}
 use Rattle.seals.specs.Operation.{operation_at, operation_text, IsGoodOperation}
@@ -48,6 +48,10 @@ parts_at bounds bytes = counted_at u32_at (exactly (sealed_count bounds)) (part_
 unfoldable pub operations_at : Bounds → List ℕ → Parsed (List Operation)
 operations_at bounds bytes = counted_at u64_at (at_most bounds.accepted) (operation_follows bounds) (operation_at bounds) bytes
 
+-- the last number of each client of the verifier
+unfoldable pub numbers_at : Bounds → List ℕ → Parsed (List ℕ)
+numbers_at bounds bytes = row_at (λ before number. true) u64_at None (number_count bounds) bytes
+
 -- four sums: of what was added and evicted in the epoch before the clock's, and in the clock's
 abbrev pub SumFields : Type 0
 SumFields = Tally × (Tally × (Tally × Tally))
@@ -60,7 +64,7 @@ sums_at bounds bytes =
 -- ---- all of it
 
 abbrev pub ListFields : Type 0
-ListFields = List ListedEntry × (SumFields × (List Part × List Operation))
+ListFields = List ListedEntry × (SumFields × (List Part × (List Operation × List ℕ)))
 
 abbrev pub kept_with : Bounds → ListFields → KeptRun
 kept_with bounds f = record {
@@ -72,12 +76,13 @@ kept_with bounds f = record {
   added = f.1.0.1.1.0;
   evicted = f.1.0.1.1.1;
   parts = f.1.1.0;
-  operations = f.1.1.1;
+  operations = f.1.1.1.0;
+  numbers = f.1.1.1.1;
 }
 
--- the entries, the sums, the parts and the operations
+-- the entries, the sums, the parts, the operations and the last numbers
 abbrev pub lists_at : Bounds → List ℕ → Parsed ListFields
-lists_at bounds bytes = then_at (entries_at bounds) (λ entries. then_at (sums_at bounds) (λ sums. then_at (parts_at bounds) (λ parts. operations_at bounds))) bytes
+lists_at bounds bytes = then_at (entries_at bounds) (λ entries. then_at (sums_at bounds) (λ sums. then_at (parts_at bounds) (λ parts. then_at (operations_at bounds) (λ operations. numbers_at bounds)))) bytes
 
 -- what bytes mean as what is kept of the verifier of this number
 unfoldable pub run_at : Header → ℕ → ℕ → ℕ → List ℕ → Parsed KeptRun
@@ -92,6 +97,9 @@ parts_text parts = to_be_bytes w32 (length parts) ++ flat_map part_text parts
 abbrev pub operations_text : List Operation → List ℕ
 operations_text operations = to_be_bytes w64 (length operations) ++ flat_map operation_text operations
 
+abbrev pub numbers_text : List ℕ → List ℕ
+numbers_text numbers = flat_map (to_be_bytes w64) numbers
+
 abbrev pub sums_text : KeptRun → List ℕ
 sums_text run = sum_text run.added_before ++ (sum_text run.evicted_before ++ (sum_text run.added ++ sum_text run.evicted))
 
@@ -101,7 +109,8 @@ run_text run =
     ++ (entries_text run.entries
     ++ (sums_text run
     ++ (parts_text run.parts
-    ++ operations_text run.operations)))
+    ++ (operations_text run.operations
+    ++ numbers_text run.numbers))))
 
 -- ---- what has a text
 
@@ -130,3 +139,5 @@ pub record IsGoodRun (header : Header) (certified taken number : ℕ) (run : Kep
   pub no_more : IsTrue (at_most run.accepted (length run.operations))
   pub operations_stand : InRow (operation_follows (bounds_of header certified number run)) None run.operations
   pub operations : AllByRecursion (IsGoodOperation (bounds_of header certified number run)) run.operations
+  pub each_client : length run.numbers ≡ number_count (bounds_of header certified number run)
+  pub numbers : AllByRecursion (λ last. last < 2 ^ 64) run.numbers

@@ -1,8 +1,9 @@
 //! What a verifier can have come to: the tests of what is kept of it.
 ghost use Rattle.std.specs.Prelude.{◌≡◌, ◌^◌, ◌<◌};
 ghost use Rattle.std.specs.Option.{option_copied};
-ghost use Rattle.seals.specs.Bounds.{least_epoch, is_clock, is_no_later, most_own, most_before, most_sealed, first_open, sealed_count, entry_follows, is_path_behind, is_slot_behind, part_follows, is_open_operation, is_operation_behind, operation_follows};
+ghost use Rattle.seals.specs.Bounds.{least_epoch, is_clock, is_no_later, most_own, most_before, most_sealed, first_open, sealed_count, entry_follows, is_path_behind, is_slot_behind, part_follows, is_open_operation, is_operation_behind, operation_follows, number_count};
 
+use client_requests::own_clients;
 use lamport_clocks::{Header, Stamp};
 use multiset_sum::Part;
 use path_index::order;
@@ -59,6 +60,17 @@ fn is_no_later(stamp: Stamp, other: Stamp) -> bool
 }
 
 impl Bounds {
+    /// How many clients the verifier has: none where requests are not signed.
+    pub(crate) fn number_count(&self) -> u64
+        ensures value { result ≡ number_count self.now }
+    {
+        if self.header.is_signed() && self.number < self.header.verifiers {
+            own_clients(self.header.clients, self.header.verifiers, self.number) as u64
+        } else {
+            0
+        }
+    }
+
     /// The most elements of a sum of the clock's epoch.
     pub(crate) fn most_own(&self) -> u64
         ensures value { result ≡ most_own self.now }

@@ -14,8 +14,8 @@ use base_words::Memory;
 use record_text::{Reader, TextFault};
 use std::alloc::Global;
 
-/// The most bytes of an item's text: of an operation with the longest data value.
-pub(crate) const LONGEST_ITEM: usize = 291;
+/// The most bytes of an item's text: of an operation with the longest data value, and who signed it.
+pub(crate) const LONGEST_ITEM: usize = 303;
 
 /// An item of a list.
 pub(crate) trait Item: Drop {

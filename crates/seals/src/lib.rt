@@ -15,6 +15,7 @@ mod entries;
 mod fault;
 mod item;
 mod laws;
+mod numbers;
 mod operations;
 mod parts;
 mod placing;

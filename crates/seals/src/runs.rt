@@ -6,7 +6,7 @@ ghost use Rattle.record_text.specs.Texts.{stamp_text};
 ghost use Rattle.record_text.specs.Fields.{Takes};
 ghost use Rattle.record_text.specs.Reading.{u64_at, stamp_at};
 ghost use Rattle.seals.specs.Combined.{then_at};
-ghost use Rattle.seals.specs.Run.{bounds_at, entries_at, parts_at, operations_at, sums_at, run_at, sums_text, operations_text, run_text};
+ghost use Rattle.seals.specs.Run.{bounds_at, entries_at, parts_at, operations_at, numbers_at, sums_at, run_at, sums_text, operations_text, numbers_text, run_text};
 ghost use Rattle.seals.specs.Kept.{kept_in, sums_in};
 ghost use Rattle.seals.specs.Answer.{Reads};
 
@@ -49,6 +49,7 @@ pub(crate) fn read_run(
     let sums = read_sums(&bounds, reader)?;
     let parts = read_parts(alloc, &bounds, reader)?;
     let operations = read_operations(alloc, &bounds, reader)?;
+    let numbers = read_numbers(alloc, &bounds, reader)?;
     Ok(RunState {
         at: bounds.at,
         accepted: bounds.accepted,
@@ -59,6 +60,7 @@ pub(crate) fn read_run(
         evicted: sums.evicted,
         parts,
         operations,
+        numbers,
     })
 }
 
@@ -151,6 +153,18 @@ fn read_operations(
     read_row(alloc, bounds, count, reader)
 }
 
+// The last number of each client of the verifier.
+#[tactic(auto, unfolding(crate::specs::Run::numbers_at))]
+fn read_numbers(
+    alloc: Global,
+    bounds: &Bounds,
+    reader: &mut Reader<'_>,
+) -> Result<Vec<u64>, Fault>
+    ensures reads { Reads (λ made. made.items) result reader.new (numbers_at bounds.now reader.old) }
+{
+    read_row(alloc, bounds, bounds.number_count(), reader)
+}
+
 // The four sums.
 fn read_sums(bounds: &Bounds, reader: &mut Reader<'_>) -> Result<FourSums, Fault>
     ensures reads { Reads sums_in result reader.new (sums_at bounds.now reader.old) }
@@ -187,6 +201,7 @@ pub(crate) fn write_run(text: &mut Vec<u8>, run: &RunState) -> Result<(), Memory
     text.extend_from_slice(sums_text(run).as_slice())?;
     write_counted(text, &run.parts)?;
     write_operations(text, &run.operations)?;
+    write_numbers(text, &run.numbers)?;
     Ok(())
 }
 
@@ -207,6 +222,13 @@ fn write_operations(text: &mut Vec<u8>, operations: &[Operation]) -> Result<(), 
     text.extend_from_slice(&(operations.len() as u64).to_be_bytes())?;
     write_row(text, operations)?;
     Ok(())
+}
+
+// Appends last numbers.
+fn write_numbers(text: &mut Vec<u8>, numbers: &[u64]) -> Result<(), Memory>
+    ensures text { OnOk result (text.new.items ≡ text.old.items ++ numbers_text numbers.now) }
+{
+    write_row(text, numbers)
 }
 
 // The text of a clock and of a count of commands.

@@ -25,6 +25,8 @@ pub struct RunState {
     pub parts: Vec<Part>,
     /// The operations of epochs that are not certified, in order.
     pub operations: Vec<Operation>,
+    /// The last number that each of its clients has used, in their order; none where requests are not signed.
+    pub numbers: Vec<u64>,
 }
 
 /// What is kept of a bundle.

@@ -9,7 +9,7 @@ use Rattle.free_numbers.specs.Free.{lowest_free}
 use Rattle.lamport_clocks.specs.declared.header.Header.{Header}
 use Rattle.record_text.specs.Tree.{wide_of}
 use Rattle.log_codec.specs.declared.command.Command.{Command}
-use Rattle.log_codec.specs.declared.command.Command.TheVariants.{AddM, EvictM, AddB, EvictB, EvictBM, Get, Put, NextEpoch, Absent}
+use Rattle.log_codec.specs.declared.command.Command.TheVariants.{AddM, EvictM, AddB, EvictB, EvictBM, Get, Put, NextEpoch, Absent, SignedGet, SignedPut}
 use Rattle.slot_rewriting.specs.Rewriting.{SlotPaths, slot_of, lowest_empty, HasSlot, HasNoSlot, HasEmpty, opening_paths, paths_after}
 use Rattle.slot_rewriting.specs.Indexed.{path_in, is_empty, taken}
 
@@ -151,6 +151,8 @@ length-after paths (Get path value) = refl
 length-after paths (Put path value) = refl
 length-after paths NextEpoch = refl
 length-after paths (Absent path parent) = refl
+length-after paths (SignedGet path value signature) = refl
+length-after paths (SignedPut path value signature) = refl
 
 -- at the start there are as many as the header says
 pub length-opening : (number : ℕ) (header : Header) → 1 ≤ header.cache → length (opening_paths number header) ≡ header.cache

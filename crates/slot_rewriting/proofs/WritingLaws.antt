@@ -7,7 +7,7 @@ use Rattle.std.proofs.lemmas.Bool.{and_from}
 use Rattle.lamport_clocks.specs.declared.header.Header.{Header}
 use Rattle.lamport_clocks.specs.Header.{names_paths}
 use Rattle.log_codec.specs.declared.command.Command.{Command}
-use Rattle.log_codec.specs.declared.command.Command.TheVariants.{AddM, EvictM, AddB, EvictB, EvictBM, Get, Put, NextEpoch, Absent}
+use Rattle.log_codec.specs.declared.command.Command.TheVariants.{AddM, EvictM, AddB, EvictB, EvictBM, Get, Put, NextEpoch, Absent, SignedGet, SignedPut}
 use Rattle.log_codec.specs.Command.{path_command_text}
 use Rattle.log_codec.specs.SlotCommand.{slot_command_text}
 use Rattle.log_codec.specs.Log.{path_log_text}
@@ -162,6 +162,8 @@ tests_rewriting paths (Get path value) can = tests_slot path paths can
 tests_rewriting paths (Put path value) can = tests_slot path paths can
 tests_rewriting paths NextEpoch can = refl
 tests_rewriting paths (Absent path parent) can = tests_slot parent paths can
+tests_rewriting paths (SignedGet path value signature) can = tests_slot path paths can
+tests_rewriting paths (SignedPut path value signature) can = tests_slot path paths can
 
 -- where all commands can be rewritten none is left out
 pub by_slot_text : (paths : SlotPaths) (commands : List Command) → CanRewriteFrom paths commands

@@ -7,7 +7,7 @@ use Rattle.record_text.specs.Tree.{wide_of}
 use Rattle.record_text.specs.declared.value.Value.{Value}
 use Rattle.record_text.specs.declared.value.Value.TheVariants as values
 use Rattle.log_codec.specs.declared.command.Command.{Command}
-use Rattle.log_codec.specs.declared.command.Command.TheVariants.{AddM, EvictM, AddB, EvictB, EvictBM, Get, Put, NextEpoch, Absent}
+use Rattle.log_codec.specs.declared.command.Command.TheVariants.{AddM, EvictM, AddB, EvictB, EvictBM, Get, Put, NextEpoch, Absent, SignedGet, SignedPut}
 use Rattle.log_codec.specs.declared.slot_command.SlotCommand.{SlotCommand}
 use Rattle.log_codec.specs.declared.slot_command.SlotCommand.TheVariants as by_slot
 
@@ -58,6 +58,8 @@ rewritten paths (Get path value) = by_slot.Get (slot_of path paths) (data_of val
 rewritten paths (Put path value) = by_slot.Put (slot_of path paths) (data_of value)
 rewritten paths NextEpoch = by_slot.NextEpoch
 rewritten paths (Absent path parent) = by_slot.Absent path (slot_of parent paths)
+rewritten paths (SignedGet path value signature) = by_slot.SignedGet (slot_of path paths) (data_of value) signature
+rewritten paths (SignedPut path value signature) = by_slot.SignedPut (slot_of path paths) (data_of value) signature
 
 -- which path stands in each slot behind a command
 abbrev pub paths_after : SlotPaths → Command → SlotPaths
@@ -70,6 +72,8 @@ paths_after paths (Get path value) = paths
 paths_after paths (Put path value) = paths
 paths_after paths NextEpoch = paths
 paths_after paths (Absent path parent) = paths
+paths_after paths (SignedGet path value signature) = paths
+paths_after paths (SignedPut path value signature) = paths
 
 -- what a command adds stands in no slot, and one is empty; whatever else it names stands in one, but for an absent path
 abbrev pub CanRewrite : SlotPaths → Command → Type 0
@@ -82,6 +86,8 @@ CanRewrite paths (Get path value) = HasSlot path paths
 CanRewrite paths (Put path value) = HasSlot path paths
 CanRewrite paths NextEpoch = Unit {0}
 CanRewrite paths (Absent path parent) = HasSlot parent paths
+CanRewrite paths (SignedGet path value signature) = HasSlot path paths
+CanRewrite paths (SignedPut path value signature) = HasSlot path paths
 
 -- the path stands in a slot, and a slot is empty, as tests
 abbrev pub has_slot : List Bool → SlotPaths → Bool
@@ -101,6 +107,8 @@ can_rewrite paths (Get path value) = has_slot path paths
 can_rewrite paths (Put path value) = has_slot path paths
 can_rewrite paths NextEpoch = true
 can_rewrite paths (Absent path parent) = has_slot parent paths
+can_rewrite paths (SignedGet path value signature) = has_slot path paths
+can_rewrite paths (SignedPut path value signature) = has_slot path paths
 
 -- at the start the root of the bundle's tree stands in slot 0 of verifier 0
 abbrev pub opening_paths : ℕ → Header → SlotPaths

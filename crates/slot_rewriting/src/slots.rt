@@ -9,7 +9,7 @@ use free_numbers::FreeNumbers;
 use lamport_clocks::{Header, Stamp};
 use log_codec::{Command, SlotCommand};
 use path_index::{Index, Mark, search_uncounted};
-use record_text::{Blob, Value, wide_of};
+use record_text::{Blob, Signature, Value, wide_of};
 use std::alloc::Global;
 use std::marker::Model;
 use tree_keys::Path;
@@ -106,6 +106,8 @@ impl Slots {
             Command::Put { path, .. } => self.has_slot(path),
             Command::NextEpoch => true,
             Command::Absent { parent, .. } => self.has_slot(parent),
+            Command::SignedGet { path, .. } => self.has_slot(path),
+            Command::SignedPut { path, .. } => self.has_slot(path),
         }
     }
 
@@ -200,6 +202,30 @@ impl Slots {
         }
     }
 
+    // A signed get, by slots.
+    fn signed_get(&self, path: &Path, value: &Value, signature: &Signature) -> SlotCommand
+        requires fits { CanRewrite self.now (commands.SignedGet path.now value.now signature.now) }
+        ensures value { result ≡ rewritten self.now (commands.SignedGet path.now value.now signature.now) }
+    {
+        SlotCommand::SignedGet {
+            slot: self.slot(path),
+            value: data_of(value),
+            signature: *signature,
+        }
+    }
+
+    // A signed put, by slots.
+    fn signed_put(&self, path: &Path, value: &Value, signature: &Signature) -> SlotCommand
+        requires fits { CanRewrite self.now (commands.SignedPut path.now value.now signature.now) }
+        ensures value { result ≡ rewritten self.now (commands.SignedPut path.now value.now signature.now) }
+    {
+        SlotCommand::SignedPut {
+            slot: self.slot(path),
+            value: data_of(value),
+            signature: *signature,
+        }
+    }
+
     /// A command by slots. What it adds stands in the lowest empty slot then, and the slot of what it evicts is empty.
     pub fn rewrite(&mut self, command: &Command) -> SlotCommand
         requires fits { CanRewrite self.old command.now }
@@ -241,6 +267,16 @@ impl Slots {
                 path: *path,
                 parent: self.slot(parent),
             },
+            Command::SignedGet {
+                path,
+                value,
+                signature,
+            } => self.signed_get(path, value, signature),
+            Command::SignedPut {
+                path,
+                value,
+                signature,
+            } => self.signed_put(path, value, signature),
         }
     }
 }

@@ -15,7 +15,6 @@ use Rattle.merkle_records.specs.Scheme.{Scheme, scheme_of}
 use Rattle.stamp_order.specs.Merged.{of_verifier, up_to}
 use Rattle.verifier_commands.specs.Change.{Change}
 use Rattle.verifier_commands.specs.Machine.{opening_machine}
-use Rattle.verifier_commands.specs.VerifierState.{first_state}
 use Rattle.soundness.specs.History.{Event, log_events, histories_from, histories_of}
 use Rattle.soundness.specs.StateHistory.{Machinery, events_behind, events_from, machinery_of, first_numbered}
 use Rattle.soundness.specs.Certified.{event_moment, order_of, order_up_to}
@@ -30,7 +29,7 @@ use Rattle.soundness.specs.Behind.{shown_of, HoldsEachOnce, state_by, state_afte
 use Rattle.soundness.proofs.ToldLemmas.{told_same, fresh_same}
 use Rattle.soundness.proofs.MachineryLemmas.{IsLawfulStep}
 use Rattle.soundness.proofs.StateHistoryLemmas.{events-from_state}
-use Rattle.soundness.proofs.LogHistoryLemmas.{lawful, first_shown, first_once, logs_timely, logs_histories}
+use Rattle.soundness.proofs.LogHistoryLemmas.{numbered_shown, NumberedOnce, numbered_lawful, first_shown, first_once, logs_timely, logs_histories}
 use Rattle.soundness.proofs.HistoryLaws.{log-merged}
 use Rattle.soundness.proofs.RunLemmas.{own_part, other_part}
 use Rattle.soundness.proofs.SplitLaws.{split_up_to}
@@ -73,7 +72,7 @@ module _ (longest : ℕ) (digest : Digest) {S C : Type 0} (machinery : Machinery
       )
     where
       first : Event
-      first = record { verifier = number; index = index; at = machinery.clock done.1; change = done.0 }
+      first = record { verifier = number; index = index; at = machinery.clock done.1; change = done.0; signer = machinery.signer command }
 
       both : (first ≡ event) × (more done.1 ≡ part ++ rest)
       both = first_event first event (more done.1) (part ++ rest) events
@@ -147,7 +146,7 @@ part_fresh v told (event ∷ front) fresh = go (cases_eq v event.verifier) (part
 -- ---- the caches of logs
 
 -- a verifier's history is that of its log, and none where it has no log
-history_of_log : (scheme : Scheme) (header : Header) (number : ℕ) (logs : List (List LogCommand)) (i v : ℕ) → v ≡ number + i
+pub history_of_log : (scheme : Scheme) (header : Header) (number : ℕ) (logs : List (List LogCommand)) (i v : ℕ) → v ≡ number + i
     → get_or (histories_from scheme header number logs) i [] ≡ log_events scheme header v (get_or logs i [])
 unfolding traced
 history_of_log scheme header number [] i v is = refl

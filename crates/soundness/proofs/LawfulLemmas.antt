@@ -398,9 +398,14 @@ own_step rules state (Put path value) done is =
     let data_path = test-ok (not (is_data path)) _ _ done entry.2 in
     IfOk-at_ok (EvictsOwn rules.number) data_path.1 tt
 own_step rules state (SignedGet path value signature) done is =
-    own_step rules state (Get path value) done (get-unasked state path value (asks rules signature) done is)
+    let entry = need-ok (entry_of path state.cache.entries) _ _ done (get-unasked state path value (asks rules signature) done is) in
+    let data_path = test-ok (not (is_data path)) _ _ done entry.2 in
+    let same = test-ok (not (same_value entry.0.value value)) _ _ done data_path.1 in
+    IfOk-at_ok (EvictsOwn rules.number) same.1 tt
 own_step rules state (SignedPut path value signature) done is =
-    own_step rules state (Put path value) done (put-unasked state path value (asks rules signature) done is)
+    let entry = need-ok (entry_of path state.cache.entries) _ _ done (put-unasked state path value (asks rules signature) done is) in
+    let data_path = test-ok (not (is_data path)) _ _ done entry.2 in
+    IfOk-at_ok (EvictsOwn rules.number) data_path.1 tt
 own_step rules state NextEpoch done is =
     let turn = timed-ok (advanced state.clock) _ done is in
     IfOk-at_ok (EvictsOwn rules.number) turn.2 tt

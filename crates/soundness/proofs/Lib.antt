@@ -42,3 +42,5 @@ mod DistinctLemmas
 mod SpotLemmas
 mod BehindLemmas
 mod PendingLemmas
+pub mod AuthorizedLaws
+pub mod PlainLaws

@@ -14,12 +14,13 @@ use Rattle.record_text.specs.declared.value.Value.{Value}
 use Rattle.record_text.specs.declared.value.Value.TheVariants as values
 use Rattle.record_text.specs.Tree.{word_width}
 use Rattle.record_text.specs.Value.{IsPointer, IsSide, IsBlob, IsOf}
+use Rattle.record_text.specs.Signature.{signature_at}
 use Rattle.record_text.specs.Fields.{Parsed, ◌>>=◌, field}
 use Rattle.record_text.specs.Reading.{first_byte, byte_at, run_at, path_in, path_at, flag_in, count_in, blob_behind, blob_at, pointer_tag_in, if_below, path_below_in, path_below_at, pointer_behind, pointer_at, node_at, value_by, value_at, stamp_at, u16_at}
 use Rattle.record_text.proofs.FieldLaws.{Ok-is, bind_ok, field_ok}
 use Rattle.log_codec.specs.declared.command.Command.{Command}
-use Rattle.log_codec.specs.declared.command.Command.TheVariants.{AddM, EvictM, AddB, EvictB, EvictBM, Get, Put, NextEpoch, Absent}
-use Rattle.log_codec.specs.Command.{add_m_at, evict_m_at, add_b_at, evict_b_at, evict_bm_at, get_at, put_at, absent_at, path_command_behind, path_command_at}
+use Rattle.log_codec.specs.declared.command.Command.TheVariants.{AddM, EvictM, AddB, EvictB, EvictBM, Get, Put, NextEpoch, Absent, SignedGet, SignedPut}
+use Rattle.log_codec.specs.Command.{add_m_at, evict_m_at, add_b_at, evict_b_at, evict_bm_at, get_at, put_at, absent_at, signed_get_at, signed_put_at, signed_command_behind, path_command_behind, path_command_at}
 use Rattle.log_codec.proofs.StepLaws.{then_at, two_at, then_ok}
 use Rattle.log_codec.proofs.GrammarLaws.{tagged_at}
 use Rattle.soundness.specs.Typed.{IsPathTyped}
@@ -284,8 +285,38 @@ absent_typed wide longest =
     typed_then (IsPathTyped longest) (path_at wide) (λ parent rest. Ok (Absent path parent, rest)) (λ bytes parent left e.
     typed_done (IsPathTyped longest) (Absent path parent) tt))
 
-behind_typed : (wide : Bool) (longest : ℕ) (tag : ℕ) → ReadsTyped (IsPathTyped longest) (path_command_behind wide longest tag)
-behind_typed wide longest tag =
+signed_get_typed : (wide : Bool) (longest : ℕ) → ReadsTyped (IsPathTyped longest) (signed_get_at wide longest)
+signed_get_typed wide longest =
+    typed_then (IsPathTyped longest) (path_at wide)
+    (λ path left. then_at (signature_at left) (λ signature left.
+    then_at (value_at longest path left) (λ value rest. Ok (SignedGet path value signature, rest)))) (λ bytes path left e.
+    typed_then (IsPathTyped longest) signature_at
+    (λ signature left. then_at (value_at longest path left) (λ value rest. Ok (SignedGet path value signature, rest)))
+    (λ bytes signature left e.
+    typed_then (IsPathTyped longest) (value_at longest path) (λ value rest. Ok (SignedGet path value signature, rest)) (λ bytes value left e.
+    typed_done (IsPathTyped longest) (SignedGet path value signature) tt)))
+
+signed_put_typed : (wide : Bool) (longest : ℕ) → ReadsTyped (IsPathTyped longest) (signed_put_at wide longest)
+signed_put_typed wide longest =
+    typed_then (IsPathTyped longest) (path_at wide)
+    (λ path left. then_at (signature_at left) (λ signature left.
+    then_at (value_at longest path left) (λ value rest. Ok (SignedPut path value signature, rest)))) (λ whole path behind there.
+    typed_then (IsPathTyped longest) signature_at
+    (λ signature left. then_at (value_at longest path left) (λ value rest. Ok (SignedPut path value signature, rest)))
+    (λ bytes signature left e.
+    typed_then (IsPathTyped longest) (value_at longest path) (λ value rest. Ok (SignedPut path value signature, rest)) (λ more value rest is.
+    typed_done (IsPathTyped longest) (SignedPut path value signature)
+    (value_at-kind longest path more value rest (path_at-short wide whole path behind there) is))))
+
+signed_typed : (signed wide : Bool) (longest : ℕ) (tag : ℕ) → ReadsTyped (IsPathTyped longest) (signed_command_behind signed wide longest tag)
+signed_typed false wide longest tag = λ bytes command rest e. absurd (cc)
+signed_typed true wide longest tag =
+    typed_if (IsPathTyped longest) (tag == 10) (signed_get_at wide longest) _ (signed_get_typed wide longest)
+    (typed_if (IsPathTyped longest) (tag == 11) (signed_put_at wide longest) (λ bytes. Err Malformed) (signed_put_typed wide longest)
+    (λ bytes command rest e. absurd (cc)))
+
+behind_typed : (signed wide : Bool) (longest : ℕ) (tag : ℕ) → ReadsTyped (IsPathTyped longest) (path_command_behind signed wide longest tag)
+behind_typed signed wide longest tag =
     typed_if (IsPathTyped longest) (tag == 1) (add_m_at wide longest) _ (add_m_typed wide longest)
     (typed_if (IsPathTyped longest) (tag == 2) (evict_m_at wide) _ (evict_m_typed wide longest)
     (typed_if (IsPathTyped longest) (tag == 3) (add_b_at wide longest) _ (add_b_typed wide longest)
@@ -294,12 +325,12 @@ behind_typed wide longest tag =
     (typed_if (IsPathTyped longest) (tag == 6) (get_at wide longest) _ (get_typed wide longest)
     (typed_if (IsPathTyped longest) (tag == 7) (put_at wide longest) _ (put_typed wide longest)
     (typed_if (IsPathTyped longest) (tag == 8) (λ bytes. Ok (NextEpoch, bytes)) _ (typed_done (IsPathTyped longest) NextEpoch tt)
-    (typed_if (IsPathTyped longest) (tag == 9) (absent_at wide) (λ bytes. Err Malformed) (absent_typed wide longest)
-    (λ bytes command rest e. absurd (cc))))))))))
+    (typed_if (IsPathTyped longest) (tag == 9) (absent_at wide) _ (absent_typed wide longest)
+    (signed_typed signed wide longest tag)))))))))
 
 -- What is read as a command that names paths is typed.
-pub path_command_typed : (wide : Bool) (longest : ℕ) (bytes : List ℕ) (command : Command) (rest : List ℕ)
-    → path_command_at wide longest bytes ≡ Ok (command, rest) → IsPathTyped longest command
+pub path_command_typed : (signed wide : Bool) (longest : ℕ) (bytes : List ℕ) (command : Command) (rest : List ℕ)
+    → path_command_at signed wide longest bytes ≡ Ok (command, rest) → IsPathTyped longest command
 unfolding path_command_at
-path_command_typed wide longest bytes command rest e =
-    typed_tagged (IsPathTyped longest) (λ tag left. path_command_behind wide longest tag left) (behind_typed wide longest) bytes command rest e
+path_command_typed signed wide longest bytes command rest e =
+    typed_tagged (IsPathTyped longest) (λ tag left. path_command_behind signed wide longest tag left) (behind_typed signed wide longest) bytes command rest e

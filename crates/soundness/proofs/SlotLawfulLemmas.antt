@@ -23,8 +23,9 @@ use Rattle.verifier_cache.proofs.EntriesLaws.{AreDistinct-without}
 use Rattle.verifier_commands.specs.declared.slot_state.SlotState.{SlotState}
 use Rattle.verifier_commands.specs.Change.{Change}
 use Rattle.verifier_commands.specs.Changes.{add_under, evict_under, defer_under, absent_under, is_by_stamp}
-use Rattle.verifier_commands.specs.Transition.{Rules, is_root}
+use Rattle.verifier_commands.specs.Transition.{unasked, Rules, asks, is_root}
 use Rattle.verifier_commands.specs.SlotTransition.{with_pair, add_m, evict_m, add_b, evict_b, evict_bm, get, put, absent, next_epoch, slot_transition}
+use Rattle.verifier_commands.proofs.AskLaws.{slot_get-unasked, slot_put-unasked}
 use Rattle.verifier_commands.proofs.BelowLaws.{below_apart}
 use Rattle.verifier_commands.proofs.InvertLaws.{need-ok, and_then-ok, timed-ok}
 use Rattle.verifier_commands.proofs.TickLaws.{ticks_slot_step}
@@ -330,9 +331,14 @@ slot_own rules state (Put slot value) done is =
     let data_path = test-ok (not (is_data entry.0.path)) _ _ done entry.2 in
     IfOk-at_ok (EvictsOwn rules.number) data_path.1 tt
 slot_own rules state (SignedGet slot value signature) done is =
-    slot_own rules state (Get slot value) done (slot_get-unasked state slot value (asks rules signature) done is)
+    let entry = need-ok (entry_at state.slots slot) _ _ done (slot_get-unasked state slot value (asks rules signature) done is) in
+    let data_path = test-ok (not (is_data entry.0.path)) _ _ done entry.2 in
+    let same = test-ok (not (same_value entry.0.value (values.Blob value))) _ _ done data_path.1 in
+    IfOk-at_ok (EvictsOwn rules.number) same.1 tt
 slot_own rules state (SignedPut slot value signature) done is =
-    slot_own rules state (Put slot value) done (slot_put-unasked state slot value (asks rules signature) done is)
+    let entry = need-ok (entry_at state.slots slot) _ _ done (slot_put-unasked state slot value (asks rules signature) done is) in
+    let data_path = test-ok (not (is_data entry.0.path)) _ _ done entry.2 in
+    IfOk-at_ok (EvictsOwn rules.number) data_path.1 tt
 slot_own rules state NextEpoch done is =
     let turn = timed-ok (advanced state.clock) _ done is in
     IfOk-at_ok (EvictsOwn rules.number) turn.2 tt

@@ -1,11 +1,12 @@
 -- What is read as a command that names slots is typed, whatever the numbers.
-use Rattle.std.proofs.Common.{◌≡◌, ℕ, ◌==◌, Bool, List, Ok, Err}
+use Rattle.std.proofs.Common.{◌≡◌, ℕ, ◌==◌, Bool, true, false, List, Ok, Err}
 use Rattle.record_text.specs.declared.reader.TextFault.TheVariants.{Malformed}
 use Rattle.record_text.specs.Fields.{Parsed}
+use Rattle.record_text.specs.Signature.{signature_at}
 use Rattle.record_text.specs.Reading.{path_at, value_at, blob_at, stamp_at, u16_at}
 use Rattle.log_codec.specs.declared.slot_command.SlotCommand.{SlotCommand}
-use Rattle.log_codec.specs.declared.slot_command.SlotCommand.TheVariants.{AddM, EvictM, AddB, EvictB, EvictBM, Get, Put, NextEpoch, Absent}
-use Rattle.log_codec.specs.SlotCommand.{add_m_at, evict_m_at, add_b_at, evict_b_at, evict_bm_at, get_at, put_at, absent_at, slot_command_behind, slot_command_at}
+use Rattle.log_codec.specs.declared.slot_command.SlotCommand.TheVariants.{AddM, EvictM, AddB, EvictB, EvictBM, Get, Put, NextEpoch, Absent, SignedGet, SignedPut}
+use Rattle.log_codec.specs.SlotCommand.{add_m_at, evict_m_at, add_b_at, evict_b_at, evict_bm_at, get_at, put_at, absent_at, signed_get_at, signed_put_at, signed_command_behind, slot_command_behind, slot_command_at}
 use Rattle.log_codec.proofs.StepLaws.{then_at}
 use Rattle.soundness.specs.Typed.{IsSlotTyped}
 use Rattle.soundness.proofs.PathTypedLemmas.{ReadsTyped, typed_done, typed_then, typed_of, typed_if, typed_tagged, blob_at-fits}
@@ -87,8 +88,35 @@ absent_typed wide longest =
     slot_first longest (λ parent rest. Ok (Absent path parent, rest))
     (λ parent. typed_done (IsSlotTyped longest) (Absent path parent) tt))
 
-behind_typed : (wide : Bool) (longest : ℕ) (tag : ℕ) → ReadsTyped (IsSlotTyped longest) (slot_command_behind wide longest tag)
-behind_typed wide longest tag =
+signed_get_typed : (longest : ℕ) → ReadsTyped (IsSlotTyped longest) (signed_get_at longest)
+signed_get_typed longest =
+    slot_first longest
+    (λ slot left. then_at (signature_at left) (λ signature left. then_at (blob_at longest left) (λ value rest. Ok (SignedGet slot value signature, rest))))
+    (λ slot.
+    typed_then (IsSlotTyped longest) signature_at
+    (λ signature left. then_at (blob_at longest left) (λ value rest. Ok (SignedGet slot value signature, rest))) (λ bytes signature left e.
+    typed_then (IsSlotTyped longest) (blob_at longest) (λ value rest. Ok (SignedGet slot value signature, rest)) (λ bytes value left e.
+    typed_done (IsSlotTyped longest) (SignedGet slot value signature) tt)))
+
+signed_put_typed : (longest : ℕ) → ReadsTyped (IsSlotTyped longest) (signed_put_at longest)
+signed_put_typed longest =
+    slot_first longest
+    (λ slot left. then_at (signature_at left) (λ signature left. then_at (blob_at longest left) (λ value rest. Ok (SignedPut slot value signature, rest))))
+    (λ slot.
+    typed_then (IsSlotTyped longest) signature_at
+    (λ signature left. then_at (blob_at longest left) (λ value rest. Ok (SignedPut slot value signature, rest))) (λ bytes signature left e.
+    typed_then (IsSlotTyped longest) (blob_at longest) (λ value rest. Ok (SignedPut slot value signature, rest)) (λ bytes value left e.
+    typed_done (IsSlotTyped longest) (SignedPut slot value signature) (blob_at-fits longest bytes value left e))))
+
+signed_typed : (signed : Bool) (longest : ℕ) (tag : ℕ) → ReadsTyped (IsSlotTyped longest) (signed_command_behind signed longest tag)
+signed_typed false longest tag = λ bytes command rest e. absurd (cc)
+signed_typed true longest tag =
+    typed_if (IsSlotTyped longest) (tag == 10) (signed_get_at longest) _ (signed_get_typed longest)
+    (typed_if (IsSlotTyped longest) (tag == 11) (signed_put_at longest) (λ bytes. Err Malformed) (signed_put_typed longest)
+    (λ bytes command rest e. absurd (cc)))
+
+behind_typed : (signed wide : Bool) (longest : ℕ) (tag : ℕ) → ReadsTyped (IsSlotTyped longest) (slot_command_behind signed wide longest tag)
+behind_typed signed wide longest tag =
     typed_if (IsSlotTyped longest) (tag == 1) (add_m_at wide longest) _ (add_m_typed wide longest)
     (typed_if (IsSlotTyped longest) (tag == 2) evict_m_at _ (evict_m_typed longest)
     (typed_if (IsSlotTyped longest) (tag == 3) (add_b_at wide longest) _ (add_b_typed wide longest)
@@ -97,12 +125,12 @@ behind_typed wide longest tag =
     (typed_if (IsSlotTyped longest) (tag == 6) (get_at longest) _ (get_typed longest)
     (typed_if (IsSlotTyped longest) (tag == 7) (put_at longest) _ (put_typed longest)
     (typed_if (IsSlotTyped longest) (tag == 8) (λ bytes. Ok (NextEpoch, bytes)) _ (typed_done (IsSlotTyped longest) NextEpoch tt)
-    (typed_if (IsSlotTyped longest) (tag == 9) (absent_at wide) (λ bytes. Err Malformed) (absent_typed wide longest)
-    (λ bytes command rest e. absurd (cc))))))))))
+    (typed_if (IsSlotTyped longest) (tag == 9) (absent_at wide) _ (absent_typed wide longest)
+    (signed_typed signed longest tag)))))))))
 
 -- What is read as a command that names slots is typed.
-pub slot_command_typed : (wide : Bool) (longest : ℕ) (bytes : List ℕ) (command : SlotCommand) (rest : List ℕ)
-    → slot_command_at wide longest bytes ≡ Ok (command, rest) → IsSlotTyped longest command
+pub slot_command_typed : (signed wide : Bool) (longest : ℕ) (bytes : List ℕ) (command : SlotCommand) (rest : List ℕ)
+    → slot_command_at signed wide longest bytes ≡ Ok (command, rest) → IsSlotTyped longest command
 unfolding slot_command_at
-slot_command_typed wide longest bytes command rest e =
-    typed_tagged (IsSlotTyped longest) (λ tag left. slot_command_behind wide longest tag left) (behind_typed wide longest) bytes command rest e
+slot_command_typed signed wide longest bytes command rest e =
+    typed_tagged (IsSlotTyped longest) (λ tag left. slot_command_behind signed wide longest tag left) (behind_typed signed wide longest) bytes command rest e

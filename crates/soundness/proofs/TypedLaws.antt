@@ -16,22 +16,22 @@ use Rattle.soundness.proofs.PathTypedLemmas.{path_command_typed}
 use Rattle.soundness.proofs.SlotTypedLemmas.{slot_command_typed}
 
 -- a command of either kind
-typed_by : (by_path wide : Bool) (longest : ℕ) (bytes : List ℕ) (command : LogCommand) (rest : List ℕ)
-    → command_by by_path wide longest bytes ≡ Ok (command, rest) → IsTyped longest command
-typed_by true wide longest bytes command rest e =
-    let read = bind_ok (path_command_at wide longest bytes) (λ command. Ok (ByPath command.0, command.1)) (command, rest) e in
+typed_by : (by_path signed wide : Bool) (longest : ℕ) (bytes : List ℕ) (command : LogCommand) (rest : List ℕ)
+    → command_by by_path signed wide longest bytes ≡ Ok (command, rest) → IsTyped longest command
+typed_by true signed wide longest bytes command rest e =
+    let read = bind_ok (path_command_at signed wide longest bytes) (λ command. Ok (ByPath command.0, command.1)) (command, rest) e in
     subst (λ (x : LogCommand × List ℕ). IsTyped longest x.0) (Ok-is (ByPath read.0.0, read.0.1) (command, rest) read.2)
-    (path_command_typed wide longest bytes read.0.0 read.0.1 read.1)
-typed_by false wide longest bytes command rest e =
-    let read = bind_ok (slot_command_at wide longest bytes) (λ command. Ok (BySlot command.0, command.1)) (command, rest) e in
+    (path_command_typed signed wide longest bytes read.0.0 read.0.1 read.1)
+typed_by false signed wide longest bytes command rest e =
+    let read = bind_ok (slot_command_at signed wide longest bytes) (λ command. Ok (BySlot command.0, command.1)) (command, rest) e in
     subst (λ (x : LogCommand × List ℕ). IsTyped longest x.0) (Ok-is (BySlot read.0.0, read.0.1) (command, rest) read.2)
-    (slot_command_typed wide longest bytes read.0.0 read.0.1 read.1)
+    (slot_command_typed signed wide longest bytes read.0.0 read.0.1 read.1)
 
 -- What is read as a command is typed.
 pub command_typed : (format : LogFormat) (bytes : List ℕ) (command : LogCommand) (rest : List ℕ)
     → command_at format bytes ≡ Ok (command, rest) → IsTyped format.longest command
 unfolding command_at
-command_typed format bytes command rest e = typed_by format.by_path format.wide format.longest bytes command rest e
+command_typed format bytes command rest e = typed_by format.by_path format.signed format.wide format.longest bytes command rest e
 
 log_typed : (format : LogFormat) (count : ℕ) (bytes : List ℕ)
     → AllByRecursion (IsTyped format.longest) (log_up_to count format bytes).commands

@@ -17,3 +17,5 @@ pub mod Scheduled
 pub mod World
 pub mod Behind
 pub mod Sound
+pub mod Authorized
+pub mod Plain

@@ -4,7 +4,7 @@ ghost use Rattle.std.specs.Prelude.{◌≡◌, ℕ, ◌≤◌, true, false, List
 ghost use Rattle.std.specs.List.{flat_map, AllByRecursion, IsDistinct};
 ghost use Rattle.lamport_clocks.specs.declared.header.Header.{Header};
 ghost use Rattle.record_text.specs.Longest.{longest_of};
-ghost use Rattle.lamport_clocks.specs.Header.{names_paths};
+ghost use Rattle.lamport_clocks.specs.Header.{names_paths, is_signed};
 ghost use Rattle.log_codec.specs.declared.command.Command.{Command};
 ghost use Rattle.log_codec.specs.declared.slot_command.SlotCommand.{SlotCommand};
 ghost use Rattle.log_codec.specs.declared.log_command.LogCommand.{LogCommand};
@@ -27,6 +27,10 @@ ghost use Rattle.soundness.specs.Permutation.{same_element, count_of};
 ghost use Rattle.soundness.specs.Clash.{none_evicted, first_clash};
 ghost use Rattle.soundness.specs.Exhibit.{exhibit_of};
 ghost use Rattle.soundness.specs.Scheduled.{IsScheduled, ArePermuted};
+ghost use Rattle.verifier_commands.specs.Signed.{RisesFrom, numbers_of};
+ghost use Rattle.soundness.specs.Authorized.{IsAuthorizedIn};
+ghost use Rattle.client_requests.specs.Signing.{opening_numbers};
+ghost use Rattle.soundness.specs.Plain.{plain, without_signer, AreRight};
 ghost use Rattle.soundness.specs.Sound.{AreBalanced, IsSerialOrCollides, histories_read};
 ghost use Rattle.soundness.specs.Spot.{waiting, Spots};
 ghost use Rattle.soundness.specs.Behind.{CachesShow};
@@ -103,8 +107,8 @@ pub fn slot_logs_have_histories()
         → IsHistory (longest_of header) functions.digest header number (slot_log_events (scheme_of functions header) header number commands) }
 {}
 
-/// A log of the first version has the history of its commands that name paths, and one of a later version that of its
-/// commands that name slots; and so have they their refusal.
+/// A log of the first version has the history of its commands that name paths, and one of a later version in which requests are
+/// not signed that of its commands that name slots; and so have they their refusal.
 pub fn versions_name_paths_or_slots()
     ensures paths { (scheme : Scheme) (header : Header) (number : ℕ) (commands : List Command)
         → names_paths header ≡ true
@@ -113,10 +117,10 @@ pub fn versions_name_paths_or_slots()
         → names_paths header ≡ true
         → log_refusal scheme header number (map ByPath commands) ≡ path_log_refusal scheme header number commands }
     ensures slots { (scheme : Scheme) (header : Header) (number : ℕ) (commands : List SlotCommand)
-        → names_paths header ≡ false
+        → names_paths header ≡ false → is_signed header ≡ false
         → log_events scheme header number (map BySlot commands) ≡ slot_log_events scheme header number commands }
     ensures slot_refusal { (scheme : Scheme) (header : Header) (number : ℕ) (commands : List SlotCommand)
-        → names_paths header ≡ false
+        → names_paths header ≡ false → is_signed header ≡ false
         → log_refusal scheme header number (map BySlot commands) ≡ slot_log_refusal scheme header number commands }
     ensures path_histories { (scheme : Scheme) (header : Header) (logs : List (List Command))
         → names_paths header ≡ true
@@ -250,8 +254,29 @@ pub fn adds_take_what_is_there()
         → TakesFromSpots functions.digest header front event.change }
 {}
 
-/// The history of a log, and the refusal that ends it, are told from the opening state of its verifier alone, whatever its
-/// sums: as a host knows what commands do from where a verifier rests.
+/// The history of a log, and the refusal that ends it, are told from the opening state of its verifier and the last numbers of
+/// its clients, whatever its sums: as a host knows what commands do from where a verifier rests.
 pub fn histories_are_told_from_states()
     ensures told { (scheme : Scheme) (header : Header) (number : ℕ) (commands : List LogCommand) → HistoryFromState scheme header number commands }
+{}
+
+/// Where requests must be signed: in the merged order up to any epoch the command of each operation stands in its verifier's log at
+/// the operation's index, and carries the tag that the operation's client makes of client, number, kind, key and (of a put) value.
+/// The numbers of one client rise there: so each stands at most once.
+pub fn signed_requests_stand_once()
+    ensures tags { (scheme : Scheme) (header : Header) (logs : List (List LogCommand)) (epoch : ℕ) → is_signed header ≡ true
+        → AllByRecursion (IsAuthorizedIn scheme logs) (order_up_to epoch (histories_of scheme header logs)) }
+    ensures rising { (scheme : Scheme) (header : Header) (logs : List (List LogCommand)) (epoch client : ℕ) → is_signed header ≡ true
+        → 1 ≤ header.verifiers
+        → RisesFrom 0 (numbers_of client (order_up_to epoch (histories_of scheme header logs))) }
+{}
+
+/// A log whose requests are signed is accepted where the same log without its signatures is, each request is signed, and each
+/// signature is right behind those before it; and it does the same.
+pub fn signed_logs_are_accepted()
+    ensures accepted { (scheme : Scheme) (header : Header) (number : ℕ) (commands : List SlotCommand) → names_paths header ≡ false
+        → slot_log_refusal scheme header number (map plain commands) ≡ None
+        → AreRight scheme header number (opening_numbers header.clients header.verifiers number) commands (slot_log_events scheme header number (map plain commands))
+        → (log_refusal scheme header number (map BySlot commands) ≡ None)
+        × (map without_signer (log_events scheme header number (map BySlot commands)) ≡ map without_signer (slot_log_events scheme header number (map plain commands))) }
 {}

@@ -26,6 +26,6 @@ pub use laws::{
     certified_is_serial_or_collides, elements_added_later_wait, even_epochs_are_scheduled,
     evicted_elements_are_distinct, evicted_elements_are_timed, histories_are_told_from_states,
     logs_have_histories, merged_order_keeps_each_log, operations_come_epoch_by_epoch,
-    path_logs_have_histories, records_have_one_spot, slot_logs_have_histories,
-    versions_name_paths_or_slots,
+    path_logs_have_histories, records_have_one_spot, signed_logs_are_accepted,
+    signed_requests_stand_once, slot_logs_have_histories, versions_name_paths_or_slots,
 };

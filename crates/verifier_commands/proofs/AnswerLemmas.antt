@@ -102,7 +102,7 @@ pub taken_step : (functions : DigestFunctions) (whole machine : Machine) (comman
     → now ≡ new.clock → at ≡ now.at → signer ≡ signer_in command → effect ≡ effect_by machine signer at answer
     → before ≡ machine.state.clock → sums ≡ sums_by before.at.epoch machine.sums answer → numbers ≡ numbers_after machine.header.verifiers machine.numbers signer
     → stepped (scheme_of functions whole.header) whole command
-        ≡ Ok (effect, record machine { state = new; sums = sums; numbers = numbers; accepted = machine.accepted + 1 })
+    ≡ Ok (effect, record machine { state = new; sums = sums; numbers = numbers; accepted = machine.accepted + 1 })
 taken_step functions whole machine command result answer new before now at effect sums signer last numbers view is kept follows clock stamp signed answers earlier summed noted =
     let own : Follows result machine.state new (answered functions.lanes (perform (rules_for (scheme_of functions machine.header) machine) machine.state command)) =
     subst (λ (n : List ℕ). Follows result machine.state new (answered functions.lanes (perform (rules_by (scheme_of functions machine.header) machine.header machine.number n) machine.state command))) kept follows in

@@ -4,6 +4,7 @@ pub mod BelowLaws
 mod CacheLemmas
 mod LinkLemmas
 mod SlotLemmas
+mod AskedLemmas
 mod EitherLemmas
 mod LeavesLemmas
 mod SlotCountLemmas

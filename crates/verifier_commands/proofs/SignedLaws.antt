@@ -165,8 +165,7 @@ module _ (scheme : Scheme) (header : Header) (number : ℕ) (numbers : List ℕ)
       let same = test-ok (not (same_value entry.0.value value)) _ _ done asking.2 in
       let permitted = right (tree_of path) request signature asking.0 asking.1 in
       let there : entry.0.path ≡ path = entry_of-path path state.cache.entries entry.0 entry.1 in
-      let holds : blob_of entry.0.value ≡ blob_of value = ap blob_of (same_value-true entry.0.value value (not-false (same_value entry.0.value value) same.0)) in
-      (
+      let holds : blob_of entry.0.value ≡ blob_of value = ap blob_of (same_value-true entry.0.value value (not-false (same_value entry.0.value value) same.0)) in (
         λ event told. subst (λ (d : Result (Change × State) Refusal). Leaves (λ (one : Change × State). AllByRecursion (CarriesTag scheme (ByPath (paths.SignedGet path value signature))) (operations_by event one.0)) d) same.1
             (carries (ByPath (paths.SignedGet path value signature)) false path entry.0 (blob_of value) signature event refl told there holds permitted, tt),
         next (tree_of path) request signature version permitted,
@@ -178,8 +177,7 @@ module _ (scheme : Scheme) (header : Header) (number : ℕ) (numbers : List ℕ)
       let data_path = test-ok (not (is_data path)) _ _ done entry.2 in
       let asking = and_then-ok (asked (asks rules signature) true path (blob_of value)) _ done data_path.1 in
       let permitted = right (tree_of path) request signature asking.0 asking.1 in
-      let there : entry.0.path ≡ path = entry_of-path path state.cache.entries entry.0 entry.1 in
-      (
+      let there : entry.0.path ≡ path = entry_of-path path state.cache.entries entry.0 entry.1 in (
         λ event told. subst (λ (d : Result (Change × State) Refusal). Leaves (λ (one : Change × State). AllByRecursion (CarriesTag scheme (ByPath (paths.SignedPut path value signature))) (operations_by event one.0)) d) asking.2
             (carries (ByPath (paths.SignedPut path value signature)) true path (record entry.0 { value = value }) (blob_of value) signature event refl told there refl permitted, tt),
         next (tree_of path) request signature version permitted,
@@ -236,8 +234,7 @@ module _ (scheme : Scheme) (header : Header) (number : ℕ) (numbers : List ℕ)
       let asking = and_then-ok (asked (asks rules signature) false entry.0.path value) _ done data_path.1 in
       let same = test-ok (not (same_value entry.0.value (values.Blob value))) _ _ done asking.2 in
       let permitted = right (tree_of entry.0.path) request signature asking.0 asking.1 in
-      let holds : blob_of entry.0.value ≡ value = blob-is entry.0.value value same.0 in
-      (
+      let holds : blob_of entry.0.value ≡ value = blob-is entry.0.value value same.0 in (
         λ event told. subst (λ (d : Result (Change × SlotState) Refusal). Leaves (λ (one : Change × SlotState). AllByRecursion (CarriesTag scheme (BySlot (slots.SignedGet slot value signature))) (operations_by event one.0)) d) same.1
             (carries (BySlot (slots.SignedGet slot value signature)) false entry.0.path entry.0 value signature event refl told refl holds permitted, tt),
         next (tree_of entry.0.path) request signature version permitted,
@@ -248,8 +245,7 @@ module _ (scheme : Scheme) (header : Header) (number : ℕ) (numbers : List ℕ)
       let request : Request = record { put = true; key = key_of entry.0.path; value = value } in
       let data_path = test-ok (not (is_data entry.0.path)) _ _ done entry.2 in
       let asking = and_then-ok (asked (asks rules signature) true entry.0.path value) _ done data_path.1 in
-      let permitted = right (tree_of entry.0.path) request signature asking.0 asking.1 in
-      (
+      let permitted = right (tree_of entry.0.path) request signature asking.0 asking.1 in (
         λ event told. subst (λ (d : Result (Change × SlotState) Refusal). Leaves (λ (one : Change × SlotState). AllByRecursion (CarriesTag scheme (BySlot (slots.SignedPut slot value signature))) (operations_by event one.0)) d) asking.2
             (carries (BySlot (slots.SignedPut slot value signature)) true entry.0.path (with_value entry.0 (values.Blob value)) value signature event refl told refl refl permitted, tt),
         next (tree_of entry.0.path) request signature version permitted,
@@ -294,8 +290,7 @@ module _ (header : Header) (number : ℕ) (numbers : List ℕ) (within : number 
           let place : signer.client / header.verifiers < length numbers =
           omega (arith, has_place header.clients header.verifiers number signer.client within is.there is.own, places) in
           let last : last_number header.verifiers (with_number header.verifiers numbers signer) client ≡ signer.number =
-          ap (last_number header.verifiers (with_number header.verifiers numbers signer)) one ∙ number_noted header.verifiers numbers signer place in
-          (
+          ap (last_number header.verifiers (with_number header.verifiers numbers signer)) one ∙ number_noted header.verifiers numbers signer place in (
             subst (λ (c : ℕ). last_number header.verifiers numbers c < signer.number) (sym one) is.later,
             subst (λ (low : ℕ). RisesFrom low rest) last rises,
           )
@@ -417,11 +412,10 @@ authorized-behind scheme front machine command commands (Ok done) is version cou
       command = command;
       stands = ap (slice_get (front ++ command ∷ commands)) (sym count) ∙ stands_at front command commands;
       carries = signed.0 event refl;
-    } in
-    (
+    } in (
       first,
       subst (λ (log : List LogCommand). AllByRecursion (IsAuthorized scheme log) (events_from scheme after commands)) (regroup front command commands)
-      (further after version (one_longer front command ∙ ap (λ (n : ℕ). n + 1) count)),
+          (further after version (one_longer front command ∙ ap (λ (n : ℕ). n + 1) count)),
     )
 authorized-behind scheme front machine command commands (Err refusal) is version count further = tt
 

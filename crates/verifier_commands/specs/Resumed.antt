@@ -29,10 +29,10 @@ abbrev pub cache_of : Bool → Header → List ListedEntry → AnyCache
 cache_of true header listed = by_path (record { entries = entries_in listed; room = header.cache })
 cache_of false header listed = by_slot (with_listed (empty_slots header.cache) listed)
 
--- The verifier of this number that goes on with listed entries, from where its clock stood, with the sums that it had, the last
--- numbers of its clients, and so many accepted commands.
-abbrev pub resumed_machine : ℕ → Header → List ListedEntry → Stamp → Sums → List ℕ → ℕ → Machine
-resumed_machine number header listed at sums numbers accepted = record {
+-- The verifier of this number that goes on with listed entries, from where its clock stood, with the sums that it had, so many
+-- accepted commands, and the last numbers of its clients.
+abbrev pub resumed_machine : ℕ → Header → List ListedEntry → Stamp → Sums → ℕ → List ℕ → Machine
+resumed_machine number header listed at sums accepted numbers = record {
   number = number;
   header = header;
   state = record { cache = cache_of (names_paths header) header listed; clock = record { first = header.first; end = header.end; at = at } };

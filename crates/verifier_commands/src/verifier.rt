@@ -72,7 +72,7 @@ impl Verifier {
     }
 
     /// The verifier of this number that goes on with listed entries, from where its clock stood, with the sums that it had,
-    /// the last numbers of its clients, and so many accepted commands. It takes all of its memory here.
+    /// so many accepted commands, and the last numbers of its clients. It takes all of its memory here.
     pub fn resume(
         alloc: Global,
         number: u16,
@@ -80,8 +80,8 @@ impl Verifier {
         entries: &[ListedEntry],
         at: Stamp,
         sums: &Sums,
-        numbers: &[u64],
         accepted: u64,
+        numbers: &[u64],
     ) -> Result<Self, Memory>
         requires header { IsHeader header.now }
         requires number { number < header.now.verifiers }
@@ -94,7 +94,7 @@ impl Verifier {
         // The clock is not before the first epoch, and bounds the sums.
         requires from_first { header.now.first ≤ at.epoch }
         requires bounded { AreBounded sums.now (reading_at header.now.first header.now.end at) }
-        ensures resumed { IfOk result (λ verifier. verifier ≡ resumed_machine number header.now entries.now at sums.now numbers.now accepted) }
+        ensures resumed { IfOk result (λ verifier. verifier ≡ resumed_machine number header.now entries.now at sums.now accepted numbers.now) }
     {
         let clock = Clock::resume(header.first, header.end, at);
         let state = EitherState::resume(alloc, header, entries, clock)?;
@@ -164,9 +164,9 @@ impl Verifier {
             (stepped (scheme_of (D.functions d.now) self.old.header) self.old (BySlot command.now)) }
     {
         let before = *self.state.clock();
-        let applied =
-            self.state
-                .apply_slots(d, self.number, &self.header, &self.numbers, command);
+        let applied = self
+            .state
+            .apply_slots(d, self.number, &self.header, &self.numbers, command);
         let answer = match &applied {
             Ok(answer) => answer,
             Err(refusal) => return Err(*refusal),
@@ -282,9 +282,7 @@ fn effect_of<'a>(
         | Answer::EvictBM(_) => return Effect::Plain,
     };
     let value = BlobRef::new(value.bytes());
-    Effect::Did(OperationRef::new(
-        at, number, accepted, put, wide, key, value, signer,
-    ))
+    Effect::Did(OperationRef::new(at, number, accepted, put, wide, key, value, signer))
 }
 
 // The same numbers once more.

@@ -3,6 +3,7 @@ use Rattle.std.proofs.Common.{◌≡◌, ℕ, Bool, true, false, zero, suc, ◌+
 use Rattle.std.specs.Prelude.{IfSome}
 use Rattle.lamport_clocks.specs.declared.header.Header.{Header}
 use Rattle.record_text.specs.declared.refusal.Refusal.{Refusal}
+use Rattle.record_text.specs.declared.signature.Signer.{Signer}
 use Rattle.record_text.specs.declared.refusal.Refusal.TheVariants as refusals
 use Rattle.record_text.specs.declared.reader.TextFault.TheVariants as faults
 use Rattle.record_text.specs.Reading.{byte_at}
@@ -15,7 +16,7 @@ use Rattle.log_codec.specs.LogCommand.{command_text, command_by, command_at, IsC
 use Rattle.log_codec.proofs.LogCommandLaws.{command_shorter, keeps_on-command, command_again}
 use Rattle.merkle_records.specs.Scheme.{Scheme}
 use Rattle.verifier_commands.specs.Event.{Event}
-use Rattle.verifier_commands.specs.VerifierState.{VerifierStep, perform}
+use Rattle.verifier_commands.specs.VerifierState.{VerifierStep, signer_in, perform}
 use Rattle.verifier_commands.specs.Machine.{rules_for}
 use Rattle.verifier_commands.specs.Trace.{done_by}
 use Rattle.verifier_run.specs.Course.{Course, refuse, after_step, after_command}
@@ -207,15 +208,15 @@ module _ {A : Type 0} (keeps : Event → List A) where
   pub over-between : (scheme : Scheme) (course : Course A) (bytes : List ℕ) → IsBetweenPieces scheme.format (progress_over keeps scheme course bytes)
   over-between scheme course bytes = between_up_to (length bytes) scheme course bytes (omega arith)
 
-  accepted_by : (scheme : Scheme) (course : Course A) (step : VerifierStep) → (after_step keeps course (done_by scheme course.machine step)).machine.accepted ≤ course.machine.accepted + 1
-  accepted_by scheme course (Ok done) = omega arith
-  accepted_by scheme course (Err refusal) = omega arith
+  accepted_by : (scheme : Scheme) (course : Course A) (signer : Option Signer) (step : VerifierStep) → (after_step keeps course (done_by scheme course.machine signer step)).machine.accepted ≤ course.machine.accepted + 1
+  accepted_by scheme course signer (Ok done) = omega arith
+  accepted_by scheme course signer (Err refusal) = omega arith
 
   -- a command is one more at most
   pub accepted-one : (scheme : Scheme) (course : Course A) (command : LogCommand) → (after_command keeps scheme course command).machine.accepted ≤ course.machine.accepted + 1
   unfolding after_command
   accepted-one scheme course command =
-      accepted_by scheme course (perform (rules_for scheme course.machine) course.machine.state command)
+      accepted_by scheme course (signer_in command) (perform (rules_for scheme course.machine) course.machine.state command)
 
   weight_up_to : (count : ℕ) (scheme : Scheme) (course : Course A) (bytes : List ℕ) → length bytes ≤ count → weight (progress_over keeps scheme course bytes) ≤ course.machine.accepted + length bytes
   weight_up_to count scheme course [] enough = subst (λ (progress : Progress A). weight progress ≤ course.machine.accepted + 0) (sym (over-empty scheme course)) (omega arith)
@@ -239,13 +240,13 @@ module _ {A : Type 0} (keeps : Event → List A) where
 
   -- ---- the header stays
 
-  header_by : (scheme : Scheme) (course : Course A) (step : VerifierStep) → (after_step keeps course (done_by scheme course.machine step)).machine.header ≡ course.machine.header
-  header_by scheme course (Ok done) = refl
-  header_by scheme course (Err refusal) = refl
+  header_by : (scheme : Scheme) (course : Course A) (signer : Option Signer) (step : VerifierStep) → (after_step keeps course (done_by scheme course.machine signer step)).machine.header ≡ course.machine.header
+  header_by scheme course signer (Ok done) = refl
+  header_by scheme course signer (Err refusal) = refl
 
   pub header-one : (scheme : Scheme) (course : Course A) (command : LogCommand) → (after_command keeps scheme course command).machine.header ≡ course.machine.header
   unfolding after_command
-  header-one scheme course command = header_by scheme course (perform (rules_for scheme course.machine) course.machine.state command)
+  header-one scheme course command = header_by scheme course (signer_in command) (perform (rules_for scheme course.machine) course.machine.state command)
 
   header_up_to : (count : ℕ) (scheme : Scheme) (course : Course A) (bytes : List ℕ) → length bytes ≤ count → (progress_over keeps scheme course bytes).course.machine.header ≡ course.machine.header
   header_up_to count scheme course [] enough = ap header_in (over-empty scheme course)

@@ -11,6 +11,7 @@ use Rattle.lamport_clocks.specs.Clock.{sealed_by_advancing, advanced}
 use Rattle.lamport_clocks.proofs.ClockLaws.{received-epoch, sent-ok, sent-at, advanced-ok, sealed_epoch}
 use Rattle.multiset_sum.specs.declared.part.Part.{Part}
 use Rattle.record_text.specs.declared.refusal.Refusal.{Refusal}
+use Rattle.record_text.specs.declared.signature.Signer.{Signer}
 use Rattle.record_text.specs.declared.refusal.Refusal.TheVariants as refusals
 use Rattle.log_codec.specs.declared.log_command.LogCommand.{LogCommand}
 use Rattle.log_codec.specs.LogCommand.{command_at}
@@ -19,7 +20,7 @@ use Rattle.merkle_records.specs.Scheme.{Scheme}
 use Rattle.verifier_commands.specs.Event.{Event}
 use Rattle.verifier_commands.specs.Change.{Change, did_add_m, did_evict_m, did_add_b, did_evict_b, did_evict_bm, did_get, did_put, did_next_epoch}
 use Rattle.verifier_commands.specs.Outcome.{outcome_of}
-use Rattle.verifier_commands.specs.VerifierState.{VerifierStep, perform}
+use Rattle.verifier_commands.specs.VerifierState.{VerifierStep, signer_in, perform}
 use Rattle.verifier_commands.specs.Machine.{Machine, effect_of, rules_for, opening_machine}
 use Rattle.verifier_commands.specs.Trace.{done_with, done_by, performed}
 use Rattle.verifier_commands.specs.Ticks.{Ticks}
@@ -52,15 +53,15 @@ unsealed old none =
     ]
 
 -- a turn
-turned_parts : (machine : Machine) (old new : Reading) (sealed : Option ℕ) → advanced old ≡ Ok (sealed, new)
-    → OneOfEach (sealed_next old) (sealed_next new) (part_in (effect_of machine new.at (outcome_of (did_next_epoch sealed))))
-turned_parts machine old new None is =
+turned_parts : (machine : Machine) (signer : Option Signer) (old new : Reading) (sealed : Option ℕ) → advanced old ≡ Ok (sealed, new)
+    → OneOfEach (sealed_next old) (sealed_next new) (part_in (effect_of machine signer new.at (outcome_of (did_next_epoch sealed))))
+turned_parts machine signer old new None is =
     let turn = advanced-ok old new None is in
     let first = ap (λ (r : Reading). r.first) turn.2 in
     let epoch = ap (λ (r : Reading). r.at.epoch) turn.2 in
     let within = unsealed old (sym turn.1) in
     omega arith
-turned_parts machine old new (Some last) is =
+turned_parts machine signer old new (Some last) is =
     let turn = advanced-ok old new (Some last) is in
     let first = ap (λ (r : Reading). r.first) turn.2 in
     let epoch = ap (λ (r : Reading). r.at.epoch) turn.2 in
@@ -68,25 +69,25 @@ turned_parts machine old new (Some last) is =
     (omega (arith, own.0, own.1), omega (arith, own.0, own.1))
 
 -- The part that is handed in with a change.
-pub change_parts : (machine : Machine) (old new : Reading) (change : Change) → Ticks old new change
-    → OneOfEach (sealed_next old) (sealed_next new) (part_in (effect_of machine new.at (outcome_of change)))
-change_parts machine old new (did_add_m parent after child) is =
+pub change_parts : (machine : Machine) (signer : Option Signer) (old new : Reading) (change : Change) → Ticks old new change
+    → OneOfEach (sealed_next old) (sealed_next new) (part_in (effect_of machine signer new.at (outcome_of change)))
+change_parts machine signer old new (did_add_m parent after child) is =
     sealed_next-same old new (ap (λ (r : Reading). r.first) is) (ap (λ (r : Reading). r.at.epoch) is)
-change_parts machine old new (did_evict_m parent after child) is =
+change_parts machine signer old new (did_evict_m parent after child) is =
     sealed_next-same old new (ap (λ (r : Reading). r.first) is) (ap (λ (r : Reading). r.at.epoch) is)
-change_parts machine old new (did_add_b child element) is =
+change_parts machine signer old new (did_add_b child element) is =
     sealed_next-same old new (ticks-first old new (did_add_b child element) is) (received-epoch old new element.stamp is)
-change_parts machine old new (did_evict_b child element) is =
+change_parts machine signer old new (did_evict_b child element) is =
     sealed_next-same old new (ticks-first old new (did_evict_b child element) is)
     (ap (λ (s : Stamp). s.epoch) (sent-at old new element.stamp is) ∙ (sent-ok old new element.stamp is).0)
-change_parts machine old new (did_evict_bm parent after child element) is =
+change_parts machine signer old new (did_evict_bm parent after child element) is =
     sealed_next-same old new (ticks-first old new (did_evict_bm parent after child element) is)
     (ap (λ (s : Stamp). s.epoch) (sent-at old new element.stamp is) ∙ (sent-ok old new element.stamp is).0)
-change_parts machine old new (did_get entry) is =
+change_parts machine signer old new (did_get entry) is =
     sealed_next-same old new (ap (λ (r : Reading). r.first) is) (ap (λ (r : Reading). r.at.epoch) is)
-change_parts machine old new (did_put before after) is =
+change_parts machine signer old new (did_put before after) is =
     sealed_next-same old new (ap (λ (r : Reading). r.first) is) (ap (λ (r : Reading). r.at.epoch) is)
-change_parts machine old new (did_next_epoch sealed) is = turned_parts machine old new sealed is
+change_parts machine signer old new (did_next_epoch sealed) is = turned_parts machine signer old new sealed is
 
 -- at the start the first epoch is sealed next
 first_next : (first : ℕ) → max first (first - 1) ≡ first
@@ -190,10 +191,10 @@ module _ {A : Type 0} (keeps : Event → List A) (epoch : A → ℕ)
   -- What is handed out with a step of a machine.
   unfoldable pub step_out : (scheme : Scheme) (course : Course A) (command : LogCommand) (step : VerifierStep)
       → perform (rules_for scheme course.machine) course.machine.state command ≡ step
-      → GoesOn epoch course (after_step keeps course (done_by scheme course.machine step))
+      → GoesOn epoch course (after_step keeps course (done_by scheme course.machine (signer_in command) step))
   step_out scheme course command (Ok done) is =
       let ticks = ticks_perform (rules_for scheme course.machine) course.machine.state command done is in
-      let kept = done_with course.machine done.0 done.1 in
+      let kept = done_with course.machine (signer_in command) done.0 done.1 in
       let later = ticks-epoch (clock_of course) done.1.clock done.0 ticks in
       record {
         header = refl;
@@ -205,7 +206,7 @@ module _ {A : Type 0} (keeps : Event → List A) (epoch : A → ℕ)
           first = ticks-first (clock_of course) done.1.clock done.0 ticks;
           never_falls = later;
           items = all_of_one epoch (clock_of course).at.epoch done.1.clock.at.epoch (keeps kept.event) later (of_epoch kept.event);
-          parts = change_parts course.machine (clock_of course) done.1.clock done.0 ticks;
+          parts = change_parts course.machine (signer_in command) (clock_of course) done.1.clock done.0 ticks;
         };
       }
   step_out scheme course command (Err refusal) is = goes_on-refused epoch course (Some (course.machine.accepted, refusal))

@@ -23,7 +23,7 @@ use Rattle.verifier_commands.specs.declared.sums.Sums.{Sums}
 use Rattle.verifier_commands.specs.declared.effect.Effect.{Effect}
 use Rattle.verifier_commands.specs.State.{root_entry}
 use Rattle.verifier_commands.specs.Event.{Event}
-use Rattle.verifier_commands.specs.VerifierState.{AnyCache, by_path, by_slot, VerifierStep, perform, opening_cache}
+use Rattle.verifier_commands.specs.VerifierState.{AnyCache, by_path, by_slot, VerifierStep, signer_in, perform, opening_cache}
 use Rattle.verifier_commands.specs.Machine.{Machine, opening_machine, rules_for, stepped}
 use Rattle.verifier_commands.specs.Trace.{done_by}
 use Rattle.verifier_commands.specs.Likeness.{AreAlikeCaches}
@@ -69,7 +69,7 @@ size-under header (by_slot slots) (by_slot after) same under = (under.0, same �
 
 step-under : {A : Type 0} (keeps : Event → List A) (scheme : Scheme) (number : ℕ) (header : Header) (course : Course A) (command : LogCommand) (step : VerifierStep)
     → perform (rules_for scheme course.machine) course.machine.state command ≡ step → IsUnder number header course.machine
-    → IsUnder number header (after_step keeps course (done_by scheme course.machine step)).machine
+    → IsUnder number header (after_step keeps course (done_by scheme course.machine (signer_in command) step)).machine
 step-under keeps scheme number header course command (Ok done) is under =
     let machine = course.machine in
     let bounds = bounds-kept (rules_for scheme machine) machine.state command done is in

@@ -11,7 +11,7 @@ use Rattle.log_codec.specs.declared.log_command.LogCommand.{LogCommand}
 use Rattle.log_codec.specs.LogCommand.{command_at}
 use Rattle.log_codec.proofs.LogCommandLaws.{command_shorter}
 use Rattle.merkle_records.specs.Scheme.{Scheme}
-use Rattle.verifier_commands.specs.VerifierState.{VerifierStep, perform}
+use Rattle.verifier_commands.specs.VerifierState.{VerifierStep, signer_in, perform}
 use Rattle.verifier_commands.specs.Machine.{rules_for}
 use Rattle.verifier_commands.specs.Trace.{done_by}
 use Rattle.verifier_run.specs.Kept.{keeps_operations}
@@ -61,11 +61,11 @@ more_left through old new past on =
 -- a step of a course without what was taken
 left_step : (through : ℕ) (scheme : Scheme) (course : Course Operation) (command : LogCommand) (step : VerifierStep) → IsPast through course
     → perform (rules_for scheme course.machine) course.machine.state command ≡ step
-    → after_step keeps_operations (left_behind through course) (done_by scheme course.machine step)
-    ≡ left_behind through (after_step keeps_operations course (done_by scheme course.machine step))
+    → after_step keeps_operations (left_behind through course) (done_by scheme course.machine (signer_in command) step)
+    ≡ left_behind through (after_step keeps_operations course (done_by scheme course.machine (signer_in command) step))
 unfolding step_out
 left_step through scheme course command (Ok done) past is =
-    sym (more_left through course (after_step keeps_operations course (done_by scheme course.machine (Ok done))) past
+    sym (more_left through course (after_step keeps_operations course (done_by scheme course.machine (signer_in command) (Ok done))) past
     (step_out keeps_operations operation_epoch operations-of_epoch scheme course command (Ok done) is))
 left_step through scheme course command (Err refusal) past is = refl
 

@@ -26,7 +26,7 @@ clock_at header kept = record { first = header.first; end = header.end; at = kep
 abbrev pub run_from : ℕ → Header → KeptRun → Progress Operation
 run_from number header kept =
     between_commands (record {
-      machine = resumed_machine number header kept.entries kept.at (sums_of kept) kept.accepted;
+      machine = resumed_machine number header kept.entries kept.at (sums_of kept) kept.accepted kept.numbers;
       items = kept.operations;
       parts = kept.parts;
       refused = None;
@@ -38,6 +38,7 @@ pub record IsKeptOf (course : Course Operation) (kept : KeptRun) : Type 0 where
   pub accepted : kept.accepted ≡ course.machine.accepted
   pub entries : AreListedOf course.machine.state.cache kept.entries
   pub sums : sums_of kept ≡ course.machine.sums
+  pub numbers : kept.numbers ≡ course.machine.numbers
   pub parts : kept.parts ≡ course.parts
   pub operations : kept.operations ≡ course.items
 

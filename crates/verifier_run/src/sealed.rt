@@ -63,6 +63,7 @@ impl Tracer<Operation> {
             evicted_before: sums.evicted_before,
             added: sums.added,
             evicted: sums.evicted,
+            numbers: Vec::from_slice(alloc, self.verifier.numbers())?,
             parts: Vec::from_slice(alloc, self.parts.as_slice())?,
             operations: copies(alloc, self.items.operations())?,
         })
@@ -82,7 +83,10 @@ impl Tracer<Operation> {
     {
         let sums = sums_of(state);
         let (entries, at, accepted) = (state.entries.as_slice(), state.at, state.accepted);
-        let verifier = Verifier::resume(alloc, number, header, entries, at, &sums, accepted)?;
+        let numbers = state.numbers.as_slice();
+        let verifier = Verifier::resume(
+            alloc, number, header, entries, at, &sums, accepted, numbers,
+        )?;
         Ok(Tracer {
             verifier,
             items: queue_of(alloc, &state.operations)?,
