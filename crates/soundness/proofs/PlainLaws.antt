@@ -71,12 +71,12 @@ module _ (scheme : Scheme) (header : Header) (number : ℕ) where
   right_get numbers state value signature event done entry right is taken =
       let same = test-ok (not (same_value entry.value (values.Blob value))) refusals.WrongValue (let taken : SlotStep = Ok (did_get entry, state) in taken) done taken in
       let change : event.change ≡ did_get entry = is ∙ sym (IfOk-at_ok (λ (d : Change × SlotState). did_get entry ≡ d.0) same.1 refl) in
-      let own : IsRight scheme.client_tag (clients_of header number numbers) (tree_of entry.path) (record { put = false; key = key_of entry.path; value = blob_of entry.value }) signature =
+      let own : IsRight scheme.client_tag (clients_of header number numbers) (tree_of entry.path) (record { put = false; key = key_of entry.path; value = blob_of entry.value; signature = None }) signature =
       (subst (λ (c : Change). AllByRecursion (λ operation. IsRight scheme.client_tag (clients_of header number numbers) operation.wide
-      (record { put = operation.put; key = operation.key; value = operation.value }) signature) (operations_by event c)) change right).0 in
+      (record { put = operation.put; key = operation.key; value = operation.value; signature = None }) signature) (operations_by event c)) change right).0 in
       let holds : blob_of entry.value ≡ value = ap blob_of (same_value-true entry.value (values.Blob value) (not-false (same_value entry.value (values.Blob value)) same.0)) in
-      permitted_if_right scheme.client_tag (clients_of header number numbers) (tree_of entry.path) (record { put = false; key = key_of entry.path; value = value }) signature
-      (subst (λ (v : Option (List ℕ)). IsRight scheme.client_tag (clients_of header number numbers) (tree_of entry.path) (record { put = false; key = key_of entry.path; value = v }) signature) holds own)
+      permitted_if_right scheme.client_tag (clients_of header number numbers) (tree_of entry.path) (record { put = false; key = key_of entry.path; value = value; signature = None }) signature
+      (subst (λ (v : Option (List ℕ)). IsRight scheme.client_tag (clients_of header number numbers) (tree_of entry.path) (record { put = false; key = key_of entry.path; value = v; signature = None }) signature) holds own)
 
   -- and of a put
   right_put : (numbers : List ℕ) (state after : SlotState) (value : Option (List ℕ)) (signature : Signature) (event : Event) (done : Change × SlotState) (entry : Entry)
@@ -86,10 +86,10 @@ module _ (scheme : Scheme) (header : Header) (number : ℕ) where
   right_put numbers state after value signature event done entry right is taken =
       let change : event.change ≡ did_put entry (with_value entry (values.Blob value)) =
       is ∙ sym (IfOk-at_ok (λ (d : Change × SlotState). did_put entry (with_value entry (values.Blob value)) ≡ d.0) taken refl) in
-      let own : IsRight scheme.client_tag (clients_of header number numbers) (tree_of entry.path) (record { put = true; key = key_of entry.path; value = value }) signature =
+      let own : IsRight scheme.client_tag (clients_of header number numbers) (tree_of entry.path) (record { put = true; key = key_of entry.path; value = value; signature = None }) signature =
       (subst (λ (c : Change). AllByRecursion (λ operation. IsRight scheme.client_tag (clients_of header number numbers) operation.wide
-      (record { put = operation.put; key = operation.key; value = operation.value }) signature) (operations_by event c)) change right).0 in
-      permitted_if_right scheme.client_tag (clients_of header number numbers) (tree_of entry.path) (record { put = true; key = key_of entry.path; value = value }) signature own
+      (record { put = operation.put; key = operation.key; value = operation.value; signature = None }) signature) (operations_by event c)) change right).0 in
+      permitted_if_right scheme.client_tag (clients_of header number numbers) (tree_of entry.path) (record { put = true; key = key_of entry.path; value = value; signature = None }) signature own
 
   -- What was taken without a signature is taken with one that is right.
   signed_taken : (numbers : List ℕ) (state : SlotState) (command : SlotCommand) (done : Change × SlotState) (event : Event) → is_unsigned_slot command ≡ false

@@ -37,7 +37,7 @@ abbrev pub IsRightFor : Scheme → Header → ℕ → List ℕ → Option Signat
 IsRightFor scheme header number numbers None event = Unit {0}
 IsRightFor scheme header number numbers (Some signature) event =
     AllByRecursion (λ operation. IsRight scheme.client_tag (clients_of header number numbers) operation.wide
-    (record { put = operation.put; key = operation.key; value = operation.value }) signature) (operations_by event event.change)
+    (record { put = operation.put; key = operation.key; value = operation.value; signature = None }) signature) (operations_by event event.change)
 
 -- each request is signed, and each signature is right behind those before it
 abbrev pub AreRight : Scheme → Header → ℕ → List ℕ → List SlotCommand → List Event → Type 0

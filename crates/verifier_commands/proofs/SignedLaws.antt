@@ -99,7 +99,7 @@ module _ (scheme : Scheme) (header : Header) (number : ℕ) (numbers : List ℕ)
   -- the tag of an operation on an entry, whose path is this one and whose data value is this one
   carries : (command : LogCommand) (put : Bool) (path : List Bool) (entry : Entry) (value : Option (List ℕ)) (signature : Signature) (event : Event)
       → signature_in command ≡ Some signature → event.signer ≡ Some (signer_of signature) → entry.path ≡ path → blob_of entry.value ≡ value
-      → IsRight scheme.client_tag (clients_of header number numbers) (tree_of path) (record { put = put; key = key_of path; value = value }) signature
+      → IsRight scheme.client_tag (clients_of header number numbers) (tree_of path) (record { put = put; key = key_of path; value = value; signature = None }) signature
       → CarriesTag scheme command (operation_at event put entry)
   carries command put path entry value signature event carried signed there holds is = record {
     signature = signature;
@@ -108,9 +108,9 @@ module _ (scheme : Scheme) (header : Header) (number : ℕ) (numbers : List ℕ)
     tag =
         is.tag
         ∙ (ap (λ (p : List Bool). scheme.client_tag signature.client
-        (request_text (tree_of p) signature.client signature.number (record { put = put; key = key_of p; value = value }))) (sym there)
+        (request_text (tree_of p) signature.client signature.number (record { put = put; key = key_of p; value = value; signature = None }))) (sym there)
         ∙ ap (λ (v : Option (List ℕ)). scheme.client_tag signature.client
-        (request_text (tree_of entry.path) signature.client signature.number (record { put = put; key = key_of entry.path; value = v }))) (sym holds));
+        (request_text (tree_of entry.path) signature.client signature.number (record { put = put; key = key_of entry.path; value = v; signature = None }))) (sym holds));
   }
 
   -- ---- a command that names paths
@@ -158,7 +158,7 @@ module _ (scheme : Scheme) (header : Header) (number : ℕ) (numbers : List ℕ)
   path_signed state (paths.Absent path parent) done version signed is = absurd (false≢true (sym signed))
   path_signed state (paths.SignedGet path value signature) done version signed is =
       let rules : Rules = rules_by scheme header number numbers in
-      let request : Request = record { put = false; key = key_of path; value = blob_of value } in
+      let request : Request = record { put = false; key = key_of path; value = blob_of value; signature = None } in
       let entry = need-ok (entry_of path state.cache.entries) _ _ done is in
       let data_path = test-ok (not (is_data path)) _ _ done entry.2 in
       let asking = and_then-ok (asked (asks rules signature) false path (blob_of value)) _ done data_path.1 in
@@ -172,7 +172,7 @@ module _ (scheme : Scheme) (header : Header) (number : ℕ) (numbers : List ℕ)
       )
   path_signed state (paths.SignedPut path value signature) done version signed is =
       let rules : Rules = rules_by scheme header number numbers in
-      let request : Request = record { put = true; key = key_of path; value = blob_of value } in
+      let request : Request = record { put = true; key = key_of path; value = blob_of value; signature = None } in
       let entry = need-ok (entry_of path state.cache.entries) _ _ done is in
       let data_path = test-ok (not (is_data path)) _ _ done entry.2 in
       let asking = and_then-ok (asked (asks rules signature) true path (blob_of value)) _ done data_path.1 in
@@ -229,7 +229,7 @@ module _ (scheme : Scheme) (header : Header) (number : ℕ) (numbers : List ℕ)
   slot_signed state (slots.SignedGet slot value signature) done version signed is =
       let rules : Rules = rules_by scheme header number numbers in
       let entry = need-ok (entry_at state.slots slot) _ _ done is in
-      let request : Request = record { put = false; key = key_of entry.0.path; value = value } in
+      let request : Request = record { put = false; key = key_of entry.0.path; value = value; signature = None } in
       let data_path = test-ok (not (is_data entry.0.path)) _ _ done entry.2 in
       let asking = and_then-ok (asked (asks rules signature) false entry.0.path value) _ done data_path.1 in
       let same = test-ok (not (same_value entry.0.value (values.Blob value))) _ _ done asking.2 in
@@ -242,7 +242,7 @@ module _ (scheme : Scheme) (header : Header) (number : ℕ) (numbers : List ℕ)
   slot_signed state (slots.SignedPut slot value signature) done version signed is =
       let rules : Rules = rules_by scheme header number numbers in
       let entry = need-ok (entry_at state.slots slot) _ _ done is in
-      let request : Request = record { put = true; key = key_of entry.0.path; value = value } in
+      let request : Request = record { put = true; key = key_of entry.0.path; value = value; signature = None } in
       let data_path = test-ok (not (is_data entry.0.path)) _ _ done entry.2 in
       let asking = and_then-ok (asked (asks rules signature) true entry.0.path value) _ done data_path.1 in
       let permitted = right (tree_of entry.0.path) request signature asking.0 asking.1 in (

@@ -23,7 +23,7 @@ pub record CarriesTag (scheme : Scheme) (command : LogCommand) (operation : Oper
   pub signer : operation.signer ≡ Some (signer_of signature)
   pub tag : signature.tag ≡ scheme.client_tag signature.client
       (request_text operation.wide signature.client signature.number
-      (record { put = operation.put; key = operation.key; value = operation.value }))
+      (record { put = operation.put; key = operation.key; value = operation.value; signature = None }))
 
 -- the event's command stands in the log at its index, and carries the tag of each operation of the event
 pub record IsAuthorized (scheme : Scheme) (log : List LogCommand) (event : Event) : Type 0 where

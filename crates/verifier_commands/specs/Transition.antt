@@ -134,7 +134,7 @@ unasked wide request = Ok tt
 
 -- what is asked of a get of a data path, or of a put
 abbrev pub asked : Ask → Bool → List Bool → Option (List ℕ) → Result (Unit {0}) Refusal
-asked ask put path value = ask (tree_of path) (record { put = put; key = key_of path; value = value })
+asked ask put path value = ask (tree_of path) (record { put = put; key = key_of path; value = value; signature = None })
 
 -- Reading a data value, which must be this one.
 abbrev pub get : State → List Bool → Value → Ask → Step

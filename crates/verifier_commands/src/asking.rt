@@ -1,5 +1,5 @@
 //! What is asked of requests: who signed them, and whether the signature is right.
-ghost use Rattle.std.specs.Prelude.{◌≡◌, ◌≤◌};
+ghost use Rattle.std.specs.Prelude.{None, ◌≡◌, ◌≤◌};
 ghost use Rattle.std.specs.Option.{option_map};
 ghost use Rattle.verifier_commands.specs.Transition.{clients_of, asked_by};
 ghost use Rattle.verifier_commands.specs.VerifierState.{is_unsigned_path, is_unsigned_slot, path_signature, slot_signature};
@@ -36,7 +36,7 @@ pub(crate) fn permit<D: Digests>(
     value: &BlobRef,
 ) -> Result<(), Refusal>
     ensures value { result ≡ asked_by (D.functions d.now).client_tag clients.now (option_map (λ s. s.now) signature.entry)
-        wide (record { put = put; key = key; value = value.now }) }
+        wide (record { put = put; key = key; value = value.now; signature = None }) }
 {
     match signature {
         Some(signature) => clients.permit(d, wide, put, key, value, signature),
