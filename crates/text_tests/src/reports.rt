@@ -3,7 +3,7 @@ use crate::rows::{data_value, field, number, path_of, same, same_bytes, stamp};
 use fv_outside::MemorySink;
 use multiset_sum::Sum;
 use record_text::{
-    Blob, Cause, Element, Elements, Exhibit, Node, Operation, Pointer, Refusal, Value, ValueText,
+    Blob, Cause, Element, Elements, Exhibit, Node, Operation, Pointer, Refusal, Signer, Value, ValueText,
 };
 use report_text::{
     PAGE_ROOM, Page, Status, write_epoch, write_exhibit, write_last, write_operation, write_sealed,
@@ -101,12 +101,12 @@ fn each_status_has_its_number_and_text(rt: HostRuntime) {
 }
 
 // Its epoch, counter, verifier, whether it is a put, and its key, of 128 bits where it doesn't fit 64; its value in characters, or
-// `none`.
+// `none`; and who signed it, a client and a number, or `none`.
 const OPERATIONS: &str = "
-0 | 0 | 0 | true | 5 | ab
-4294967295 | 16777215 | 63 | false | 18446744073709551615 | none
-1 | 2 | 3 | true | 0 |
-4294967295 | 16777215 | 63 | false | 340282366920938463463374607431768211455 | zzzzzzzzzzzzzzzzzzzzzzzzzzzzzzzzzzzzzzzzzzzzzzzzzzzzzzzzzzzzzzzzzzzzzzzzzzzzzzzzzzzzzzzzzzzzzzzzzzzzzzzzzzzzzzzzzzzzzzzzzzzzzzzzzzzzzzzzzzzzzzzzzzzzzzzzzzzzzzzzzzzzzzzzzzzzzzzzzzzzzzzzzzzzzzzzzzzzzzzzzzzzzzzzzzzzzzzzzzzzzzzzzzzzzzzzzzzzzzzzzzzzzzzzzzzzzzz
+0 | 0 | 0 | true | 5 | ab | none
+4294967295 | 16777215 | 63 | false | 18446744073709551615 | none | 0 1
+1 | 2 | 3 | true | 0 | | none
+4294967295 | 16777215 | 63 | false | 340282366920938463463374607431768211455 | zzzzzzzzzzzzzzzzzzzzzzzzzzzzzzzzzzzzzzzzzzzzzzzzzzzzzzzzzzzzzzzzzzzzzzzzzzzzzzzzzzzzzzzzzzzzzzzzzzzzzzzzzzzzzzzzzzzzzzzzzzzzzzzzzzzzzzzzzzzzzzzzzzzzzzzzzzzzzzzzzzzzzzzzzzzzzzzzzzzzzzzzzzzzzzzzzzzzzzzzzzzzzzzzzzzzzzzzzzzzzzzzzzzzzzzzzzzzzzzzzzzzzzzzzzzzzzz | 4294967295 18446744073709551615
 ";
 
 // The value of a row.
@@ -115,6 +115,21 @@ fn value_of(rt: &impl Abort, row: &str) -> Blob {
         "none" => Blob::none(),
         value => Blob::of_bytes(value.as_bytes()).expect(rt, "long"),
     }
+}
+
+// Who signed the request of a row, if somebody did.
+fn signer_of(rt: &impl Abort, row: &str) -> Option<Signer> {
+    let text = field(rt, row, 6);
+    if text == "none" {
+        return None;
+    }
+    let mut words = text.split_whitespace();
+    let client = words.next().expect(rt, "no client");
+    let number = words.next().expect(rt, "no number");
+    Some(Signer {
+        client: client.parse().expect(rt, "a client"),
+        number: number.parse().expect(rt, "a number"),
+    })
 }
 
 // The operation of a row.
@@ -128,6 +143,7 @@ fn operation_of(rt: &impl Abort, row: &str) -> Operation {
         key > u128::from(u64::MAX),
         key,
         value_of(rt, row),
+        signer_of(rt, row),
     )
 }
 
@@ -140,9 +156,9 @@ fn is_last_written(sink: &mut MemorySink) -> bool {
 const REPORT: &str = "\
 epoch 0 certified 2
 0.0 v0 put 5 6162
-4294967295.16777215 v63 get 18446744073709551615 none
+4294967295.16777215 v63 get 18446744073709551615 none client 0 number 1
 1.2 v3 put 0 .
-4294967295.16777215 v63 get 340282366920938463463374607431768211455 7a7a7a7a7a7a7a7a7a7a7a7a7a7a7a7a7a7a7a7a7a7a7a7a7a7a7a7a7a7a7a7a7a7a7a7a7a7a7a7a7a7a7a7a7a7a7a7a7a7a7a7a7a7a7a7a7a7a7a7a7a7a7a7a7a7a7a7a7a7a7a7a7a7a7a7a7a7a7a7a7a7a7a7a7a7a7a7a7a7a7a7a7a7a7a7a7a7a7a7a7a7a7a7a7a7a7a7a7a7a7a7a7a7a7a7a7a7a7a7a7a7a7a7a7a7a7a7a7a7a7a7a7a7a7a7a7a7a7a7a7a7a7a7a7a7a7a7a7a7a7a7a7a7a7a7a7a7a7a7a7a7a7a7a7a7a7a7a7a7a7a7a7a7a7a7a7a7a7a7a7a7a7a7a7a7a7a7a7a7a7a7a7a7a7a7a7a7a7a7a7a7a7a7a7a7a7a7a7a7a7a7a7a7a7a7a7a7a7a7a7a7a7a7a7a7a7a7a7a7a7a7a7a7a7a7a7a7a7a7a7a7a7a7a7a7a7a7a7a7a7a7a7a7a7a
+4294967295.16777215 v63 get 340282366920938463463374607431768211455 7a7a7a7a7a7a7a7a7a7a7a7a7a7a7a7a7a7a7a7a7a7a7a7a7a7a7a7a7a7a7a7a7a7a7a7a7a7a7a7a7a7a7a7a7a7a7a7a7a7a7a7a7a7a7a7a7a7a7a7a7a7a7a7a7a7a7a7a7a7a7a7a7a7a7a7a7a7a7a7a7a7a7a7a7a7a7a7a7a7a7a7a7a7a7a7a7a7a7a7a7a7a7a7a7a7a7a7a7a7a7a7a7a7a7a7a7a7a7a7a7a7a7a7a7a7a7a7a7a7a7a7a7a7a7a7a7a7a7a7a7a7a7a7a7a7a7a7a7a7a7a7a7a7a7a7a7a7a7a7a7a7a7a7a7a7a7a7a7a7a7a7a7a7a7a7a7a7a7a7a7a7a7a7a7a7a7a7a7a7a7a7a7a7a7a7a7a7a7a7a7a7a7a7a7a7a7a7a7a7a7a7a7a7a7a7a7a7a7a7a7a7a7a7a7a7a7a7a7a7a7a7a7a7a7a7a7a7a7a7a7a7a7a7a7a7a7a7a7a7a7a7a7a7a7a client 4294967295 number 18446744073709551615
 done 1
 ";
 

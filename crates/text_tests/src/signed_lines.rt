@@ -1,7 +1,8 @@
-//! Lines that a client signs, with tags that Python's `hmac` computed, and lines that are refused.
+//! Lines that a client signs, and scripts of such lines, with tags that Python's `hmac` computed, and lines that are refused.
+use lamport_clocks::Header;
 use record_hash::ShaDigests;
 use record_text::Cause;
-use script_text::{ScriptFault, sign_lines};
+use script_text::{Requests, ScriptFault, sign_lines};
 use std::alloc::Global;
 use std::process::Abort;
 
@@ -34,6 +35,36 @@ epoch | 1 Shape
 5 put 5 6 | 1 Hex
 5 put 5 6A | 1 Hex
 18446744073709551615 get 5/18446744073709551615 get 5 | 2 Number
+";
+
+// A script of three clients and two workers, each line behind a slash, and who asks first, by his worker, himself and his number, or which
+// line is refused and why. The key is `0123456789abcdef`.
+const READ: &str = "
+0 1 83e5532ee227eb6f2af0c99cbabd5e8893fcdbc055c6ec6d887d8fdd9c4c23d4 put 5 6162/0 2 7eada194fab2d30506b860e25028cc15d0d23bf35eae71fe4a6162d545aabe52 get 5 | 0 0 1
+1 7 0f16f404d5a04640e058bbb908f5bd4bd4ee523da71497b6ec74a1ed5adceb69 get 5/epoch/2 1 e7e0db3f87da6cee01b7633676cbcb38d91dbb570e3400d27b4e8c2de49cd61e del 5/1 18446744073709551615 38f0a413ccf74b8cb79ba500c4cc41ab520d630b3a22860f1c2dbb45fd8f1bdf put 6 61 | 1 1 7
+2 1 e7e0db3f87da6cee01b7633676cbcb38d91dbb570e3400d27b4e8c2de49cd61e del 5/1 1 d8251bcb9a53ca82805ec7f7bfeea3a3695cbcccb3c0eb4fd46f6866b925ab07 get 5/2 2 5ccd92d6bcdc9798f6abe2d3c90dfe51869e5c4903b413c6e421f9795e20f9fb get 5 | 0 2 1
+0 1 83e5532ee227eb6f2af0c99cbabd5e8893fcdbc055c6ec6d887d8fdd9c4c23d4 put 5 6162/0 1 83e5532ee227eb6f2af0c99cbabd5e8893fcdbc055c6ec6d887d8fdd9c4c23d4 put 5 6162 | 2 Number
+0 2 7eada194fab2d30506b860e25028cc15d0d23bf35eae71fe4a6162d545aabe52 get 5/1 1 d8251bcb9a53ca82805ec7f7bfeea3a3695cbcccb3c0eb4fd46f6866b925ab07 get 5/epoch/0 1 33ff1f9d28da5760f477531a1ee34ea602b2a1c35c887b88627afeefc0f51435 get 5 | 4 Number
+3 1 0f560841343143dcd6a19b56dcf7be1cd6b519f7c79930e2e285afabc0e5865c get 5 | 1 Client
+00 1 33ff1f9d28da5760f477531a1ee34ea602b2a1c35c887b88627afeefc0f51435 get 5 | 1 Client
+0 0 33ff1f9d28da5760f477531a1ee34ea602b2a1c35c887b88627afeefc0f51435 get 5 | 1 Number
+0 18446744073709551616 33ff1f9d28da5760f477531a1ee34ea602b2a1c35c887b88627afeefc0f51435 get 5 | 1 Number
+0 1 33ff1f9d28da5760f477531a1ee34ea602b2a1c35c887b88627afeefc0f51435 get 05 | 1 Key
+0 1 33ff1f9d28da5760f477531a1ee34ea602b2a1c35c887b88627afeefc0f51435 put 5 6 | 1 Hex
+0 1 33ff1f9d28da5760f477531a1ee34ea602b2a1c35c887b88627afeefc0f51435 get 6 | 1 Tag
+1 1 33ff1f9d28da5760f477531a1ee34ea602b2a1c35c887b88627afeefc0f51435 get 5 | 1 Tag
+0 2 33ff1f9d28da5760f477531a1ee34ea602b2a1c35c887b88627afeefc0f51435 get 5 | 1 Tag
+0 1 33ff1f9d28da5760f477531a1ee34ea602b2a1c35c887b88627afeefc0f51435 del 5 | 1 Tag
+0 1 33ff1f9d28da5760f477531a1ee34ea602b2a1c35c887b88627afeefc0f5143 get 5 | 1 Tag
+0 1 33FF1F9D28DA5760F477531A1EE34EA602B2A1C35C887B88627AFEEFC0F51435 get 5 | 1 Tag
+0 1 33ff1f9d28da5760f477531a1ee34ea602b2a1c35c887b88627afeefc0f5143500 get 5 | 1 Tag
+0 1  get 5 | 1 Tag
+0 1 33ff1f9d28da5760f477531a1ee34ea602b2a1c35c887b88627afeefc0f51435 got 5 | 1 Shape
+0 1 get 5 | 1 Shape
+0 get 5 | 1 Shape
+1 33ff1f9d28da5760f477531a1ee34ea602b2a1c35c887b88627afeefc0f51435 get 5 | 1 Shape
+0 1 33ff1f9d28da5760f477531a1ee34ea602b2a1c35c887b88627afeefc0f51435 get 5 61 | 1 Shape
+epoch/epoch / | 2 Shape
 ";
 
 // The field of a row at this place, counted from 0.
@@ -97,5 +128,46 @@ fn a_line_of_768_bytes_is_the_longest(rt: HostRuntime) {
             }
             _ => panic!(rt; "a line of {len} bytes is signed"),
         }
+    }
+}
+
+// Who asks first in a script.
+fn first_in_short(rt: &impl Abort, alloc: Global, requests: &Requests) -> String {
+    assert!(rt; requests.len() > 0);
+    let task = requests.phase(0).next().expect(rt, "no task");
+    let signature = task.signature().expect(rt, "no signature");
+    let (client, number) = (signature.client, signature.number);
+    format!(in alloc; "{} {client} {number}", task.worker()).expect(rt, "memory")
+}
+
+// What is read of a script of three clients and two workers in short.
+fn read_in_short(rt: &impl Abort, alloc: Global, script: &[u8]) -> String {
+    let digests = ShaDigests::new(b"0123456789abcdef");
+    let header = Header {
+        version: 4,
+        verifiers: 2,
+        cache: 128,
+        first: 0,
+        end: 16_777_215,
+        bits: 64,
+        clients: 3,
+    };
+    match Requests::read(alloc, &digests, script, &header) {
+        Ok(requests) => first_in_short(rt, alloc, &requests),
+        Err(ScriptFault::BadScript { line, cause }) => {
+            format!(in alloc; "{line} {}", cause.name()).expect(rt, "memory")
+        }
+        Err(ScriptFault::Memory) => panic!(rt; "no memory"),
+    }
+}
+
+#[test]
+fn scripts_of_clients_are_read_as_signed(rt: HostRuntime) {
+    for row in READ.trim().lines() {
+        let script = field(&rt, row, 0)
+            .replace(rt.alloc(), "/", "\n")
+            .expect(&rt, "memory");
+        let found = read_in_short(&rt, rt.alloc(), script.as_bytes());
+        assert_eq!(rt; found.as_str(), field(&rt, row, 1), "{row}");
     }
 }

@@ -42,7 +42,7 @@ fn operation_of(rt: &impl Abort, text: &str) -> Operation {
         epoch: 0,
         counter: 0,
     };
-    Operation::new(stamp, verifier, 0, put, false, 0, value)
+    Operation::new(stamp, verifier, 0, put, false, 0, value, None)
 }
 
 // The operations of a row.

@@ -48,6 +48,7 @@ fn told(rt: &impl Abort, alloc: Global, acceptance: &Acceptance) -> String {
                 wide,
                 key,
                 value: _,
+                signer: _,
             } = operation;
             let kind = if *put { "put" } else { "get" };
             let tree = if *wide { "wide " } else { "" };

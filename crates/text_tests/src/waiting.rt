@@ -2,7 +2,7 @@
 use crate::rows::same;
 use lamport_clocks::Stamp;
 use operation_queue::{OperationQueue, Operations};
-use record_text::{Blob, Operation};
+use record_text::{Blob, Operation, Signer};
 use slice_queue::SliceQueue;
 use std::process::Abort;
 
@@ -11,7 +11,7 @@ const NARROW: (bool, u128) = (false, 5);
 
 const WIDE: (bool, u128) = (true, u128::MAX - 5);
 
-// A put of a value, or a get of none, in this epoch, of a key of this tree.
+// A put of a value, or a get of none, in this epoch, of a key of this tree: what is of the wide one is signed.
 fn operation(
     rt: &impl Abort,
     epoch: u32,
@@ -26,7 +26,15 @@ fn operation(
         None => Blob::none(),
     };
     let (wide, key) = key;
-    Operation::new(stamp, 3, index, put, wide, key, value)
+    let signer = if wide {
+        Some(Signer {
+            client: 65_535,
+            number: u64::MAX - index,
+        })
+    } else {
+        None
+    };
+    Operation::new(stamp, 3, index, put, wide, key, value, signer)
 }
 
 // An operation joins those that wait.
