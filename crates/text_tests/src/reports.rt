@@ -3,7 +3,8 @@ use crate::rows::{data_value, field, number, path_of, same, same_bytes, stamp};
 use fv_outside::MemorySink;
 use multiset_sum::Sum;
 use record_text::{
-    Blob, Cause, Element, Elements, Exhibit, Node, Operation, Pointer, Refusal, Signer, Value, ValueText,
+    Blob, Cause, Element, Elements, Exhibit, Node, Operation, Pointer, Refusal, Signer, Value,
+    ValueText,
 };
 use report_text::{
     PAGE_ROOM, Page, Status, write_epoch, write_exhibit, write_last, write_operation, write_sealed,
