@@ -165,13 +165,6 @@ asked-spelled longest (a ∷ b ∷ c ∷ d ∷ words) asked is = cc
 
 -- ---- who asks
 
--- a client that is there where workers serve is one of so many, and there are workers
-served : (count workers client : ℕ) → client < (if workers == 0 then 0 else count) → (0 < workers) × (client < count)
-served count workers client there = go (workers == 0) refl there where
-  go : (none : Bool) → (workers == 0) ≡ none → client < (if none then 0 else count) → (0 < workers) × (client < count)
-  go true tested there = absurd (omega (arith, there))
-  go false tested there = (grind (arith, nat_tests, tested), there)
-
 -- a number behind another
 number-spelled : (last number : ℕ) (word : List ℕ) → number_behind last word ≡ Some number → (word ≡ decimal number) × (last < number) × (number < 2 ^ 64)
 number-spelled last number word is = go (below (2 ^ 64) (number_in word)) refl is where
@@ -206,35 +199,34 @@ module _ (functions : DigestFunctions) (longest_line longest : ℕ) (wide : Bool
         let one = below-spelled count worker (number_in front.who) found in
         subst Goal (who-is (record { worker = worker; signer = None }) who same)
         (number_in-spelled worker front.who one.0 (omega (arith, one.1)), (one.1, refl), λ s none. cc)
-  who-spelled (Clients count workers) last front who request few is tagged = client (client_in count workers front.who) refl is where
+  who-spelled (Clients count workers) last front who request few is tagged = client (client_in count front.who) refl is where
     Goal : Who → Type 0
     Goal w = has_tag (Clients count workers) front.digits (signed_by functions wide request w.signer).signature ≡ true
         → WhoSpelled (Clients count workers) last front w.worker (signed_by functions wide request w.signer)
 
-    own : (c n : ℕ) → client_in count workers front.who ≡ Some c → number_behind (get_or last c 0) front.number ≡ Some n → Goal (record { worker = c % workers; signer = Some (record { client = c; number = n }) })
+    own : (c n : ℕ) → client_in count front.who ≡ Some c → number_behind (get_or last c 0) front.number ≡ Some n → Goal (record { worker = c % workers; signer = Some (record { client = c; number = n }) })
     own c n is_c is_n tag =
-        let found = below-spelled (if workers == 0 then 0 else count) c (number_in front.who) is_c in
-        let one = served count workers c found.1 in
+        let one = below-spelled count c (number_in front.who) is_c in
         let two = number-spelled (get_or last c 0) n front.number is_n in
-        let word = number_in-spelled c front.who found.0 (omega (arith, one.1)) in
+        let word = number_in-spelled c front.who one.0 (omega (arith, one.1)) in
         let digits = (bytes_eq-Decides front.digits (encode_lower (request_tag functions wide c n request))).0 tag in (
           ap (λ w. w ++ codes " " ++ front.number ++ codes " " ++ front.digits) word ∙ ap (λ w. decimal c ++ codes " " ++ w ++ codes " " ++ front.digits) two.0
               ∙ ap (λ w. decimal c ++ codes " " ++ decimal n ++ codes " " ++ w) digits,
-          (mod-lt c one.0, one.1, refl),
+          (one.1, refl),
           λ s some.
               let e : record { client = c; number = n; tag = request_tag functions wide c n request } ≡ s = cc in
               let P : Signature → Type 0 = IsSignedRight functions (lines_with (Clients count workers) longest_line longest wide) last (signed_by functions wide request (Some (record { client = c; number = n }))) in
               subst P e (record { tag = refl; later = two.1; fits = two.2 }),
         )
 
-    number : (c : ℕ) → client_in count workers front.who ≡ Some c → (found : Option ℕ) → number_behind (get_or last c 0) front.number ≡ found
+    number : (c : ℕ) → client_in count front.who ≡ Some c → (found : Option ℕ) → number_behind (get_or last c 0) front.number ≡ found
         → need found Number (λ n. Ok (record { worker = c % workers; signer = Some (record { client = c; number = n }) })) ≡ Ok who
         → WhoSpelled (Clients count workers) last front who.worker (signed_by functions wide request who.signer)
     number c is_c None is_n same = cc
     number c is_c (Some n) is_n same =
         subst Goal (who-is (record { worker = c % workers; signer = Some (record { client = c; number = n }) }) who same) (own c n is_c is_n) tagged
 
-    client : (found : Option ℕ) → client_in count workers front.who ≡ found
+    client : (found : Option ℕ) → client_in count front.who ≡ found
         → need found Client (λ c. need (number_behind (get_or last c 0) front.number) Number (λ n. Ok (record { worker = c % workers; signer = Some (record { client = c; number = n }) }))) ≡ Ok who
         → WhoSpelled (Clients count workers) last front who.worker (signed_by functions wide request who.signer)
     client None is_c same = cc
@@ -444,23 +436,25 @@ phases-flat (said.Task task ∷ lines) =
     ∙ ap (λ tasks. task ∷ tasks) (phases-flat lines)
 
 -- what can be asked in a script for a header
-header-task : (header : Header) (task : Task) → CanAsk (form_of header) (longest_of header) (wide_of header) task → IsTask header task
-header-task header task can =
-    record { worker = worker (is_signed header) task.request.signature can.by; key = can.key; size = can.size; bytes = can.bytes; get = can.get; by = can.by }
+header-task : (header : Header) (task : Task) → IsSized header → CanAsk (form_of header) (longest_of header) (wide_of header) task → IsTask header task
+header-task header task sized can =
+    record { worker = worker (is_signed header) refl task.request.signature can.by; key = can.key; size = can.size; bytes = can.bytes; get = can.get; by = can.by }
   where
-    worker : (signed : Bool) (signature : Option Signature)
+    worker : (signed : Bool) → is_signed header ≡ signed → (signature : Option Signature)
         → IsAskedBy (if signed then Clients header.clients header.verifiers else Workers header.verifiers) task.worker signature → task.worker < header.verifiers
-    worker false signature by = by.0
-    worker true None by = absurd by
-    worker true (Some s) by = by.0
+    worker false is signature by = by.0
+    worker true is None by = absurd by
+    worker true is (Some s) by =
+        let P : ℕ → Type 0 = λ w. w < header.verifiers in
+        subst P (sym by.1) (mod-lt s.client (sized.served is))
 
-phases-asked : (header : Header) (lines : List Line) → AllByRecursion (IsAsked (form_of header) (longest_of header) (wide_of header)) lines → AreTasks header (phases_of lines)
+phases-asked : (header : Header) (lines : List Line) → IsSized header → AllByRecursion (IsAsked (form_of header) (longest_of header) (wide_of header)) lines → AreTasks header (phases_of lines)
 unfolding phases_of IsAsked
-phases-asked header [] are = (tt, tt)
-phases-asked header (said.Epoch ∷ lines) are = (tt, phases-asked header lines are.1)
-phases-asked header (said.Task task ∷ lines) are = go (phases_of lines) (phases-asked header lines are.1) where
+phases-asked header [] sized are = (tt, tt)
+phases-asked header (said.Epoch ∷ lines) sized are = (tt, phases-asked header lines sized are.1)
+phases-asked header (said.Task task ∷ lines) sized are = go (phases_of lines) (phases-asked header lines sized are.1) where
   first : IsTask header task
-  first = header-task header task are.0
+  first = header-task header task sized are.0
 
   go : (phases : List (List Task)) → AreTasks header phases → AreTasks header (onto_first task phases)
   go [] others = ((first, tt), tt)
@@ -482,7 +476,7 @@ script-spelled functions header bytes phases sized is = go (lines_say functions 
       let Asked : List (List Task) → Type 0 = AreTasks header in
       let Right : List Task → Type 0 = AreSigned functions (grammar_of header) (opening (form_of header)) in
       let Signed : List (List Task) → Type 0 = ArePhasesSigned functions header in
-      (ends (lines-end bytes) text, subst Asked all (phases-asked header lines facts.1), subst Signed all (subst Right (sym (phases-flat lines)) facts.2))
+      (ends (lines-end bytes) text, subst Asked all (phases-asked header lines sized facts.1), subst Signed all (subst Right (sym (phases-flat lines)) facts.2))
     where
       ends : Ends bytes (lines_of bytes) → ended (lines_of bytes) ≡ script_text phases → IsScriptOf phases bytes
       ends (inl whole) text = inl (whole ∙ text)

@@ -179,7 +179,7 @@ front-written (Clients count workers) worker (Some signature) rest few by whole 
     let line1 = decimal signature.number ++ blank ∷ line2 in
     ap (λ line. front_in (Clients count workers) (words_of line)) (spaced (decimal signature.client) (decimal signature.number) (encode_lower signature.tag) rest)
     ∙ front-three count workers (decimal signature.client ++ blank ∷ line1) (decimal signature.client) line1 (decimal signature.number) line2 (encode_lower signature.tag) rest
-    (words_of-at (decimal signature.client) line1 (decimal-without blank signature.client (lit< tt) (omega (arith, by.1))))
+    (words_of-at (decimal signature.client) line1 (decimal-without blank signature.client (lit< tt) (omega (arith, by.0))))
     (words_of-at (decimal signature.number) line2 (decimal-without blank signature.number (lit< tt) (omega (arith, is.0))))
     (words_of-at (encode_lower signature.tag) rest (tag-without blank signature.tag (lit< tt) is.1))
 front-written (Signing client) worker signature rest few by whole = absurd few
@@ -196,7 +196,7 @@ front-short (Clients count workers) worker (Some signature) few by whole =
     let t = encode_lower signature.tag in
     omega (
       arith,
-      length-decimal-le_wide 20 signature.client (lit< tt) (omega arith) (omega (arith, by.1)),
+      length-decimal-le_wide 20 signature.client (lit< tt) (omega arith) (omega (arith, by.0)),
       length-decimal-le_wide 20 signature.number (lit< tt) (omega arith) (omega (arith, is.0)),
       length-encode_with lower_digits signature.tag,
       is.1.size,
@@ -220,17 +220,10 @@ front-without (Clients count workers) worker (Some signature) few by whole =
     All-append (IsOther line_feed) (c ++ codes " " ++ n ++ codes " ") (encode_lower signature.tag)
     (All-append (IsOther line_feed) (c ++ codes " " ++ n) (codes " ")
     (All-append (IsOther line_feed) (c ++ codes " ") n
-    (All-append (IsOther line_feed) c (codes " ") (decimal-without line_feed signature.client (lit< tt) (omega (arith, by.1))) gap)
+    (All-append (IsOther line_feed) c (codes " ") (decimal-without line_feed signature.client (lit< tt) (omega (arith, by.0))) gap)
     (decimal-without line_feed signature.number (lit< tt) (omega (arith, is.0)))) gap)
     (tag-without line_feed signature.tag (lit< tt) is.1)
 front-without (Signing client) worker signature few by whole = absurd few
-
--- there are workers where one serves
-some-served : (count workers worker : ℕ) → worker < workers → (if workers == 0 then 0 else count) ≡ count
-some-served count workers worker one = go (workers == 0) refl where
-  go : (none : Bool) → (workers == 0) ≡ none → (if none then 0 else count) ≡ count
-  go true tested = absurd (grind (arith, nat_tests, tested, one))
-  go false tested = refl
 
 -- who asks is read of these words
 above-more : (last number : ℕ) → last < number → above last (Some number) ≡ Some number
@@ -249,11 +242,10 @@ who-written (Clients count workers) last worker None rest few by whole later = a
 who-written (Clients count workers) last worker (Some signature) rest few by whole later =
     let is = whole signature refl in
     rw (
-      some-served count workers worker by.0,
-      below-decimal count signature.client by.1 (omega (arith, by.1)),
+      below-decimal count signature.client by.0 (omega (arith, by.0)),
       below-decimal (2 ^ 64) signature.number is.0 (omega (arith, is.0)),
       above-more (get_or last signature.client 0) signature.number (later signature refl),
-      by.2,
+      by.1,
     ) refl
 who-written (Signing client) last worker signature rest few by whole later = absurd few
 

@@ -1,5 +1,5 @@
 -- Which lines may be read: who asks in them, and how long they and their data values may be.
-use Rattle.std.specs.Prelude.{ℕ, nat_lt, Bool, true, false, List, replicate, if◌then◌else◌}
+use Rattle.std.specs.Prelude.{ℕ, ◌<◌, nat_lt, Bool, true, false, List, replicate, if◌then◌else◌}
 use Rattle.lamport_clocks.specs.Header.{is_signed}
 use Rattle.lamport_clocks.specs.declared.header.Header.{Header}
 use Rattle.record_text.specs.Longest.{longest_blob, longest_of}
@@ -45,3 +45,9 @@ abbrev pub place : Form → ℕ → ℕ
 place (Signing client) number = 0
 place (Workers count) number = number
 place (Clients count workers) number = number
+
+-- clients have a worker that serves them
+abbrev pub HaveWorkers : Form → Type 0
+HaveWorkers (Clients count workers) = 0 < workers
+HaveWorkers (Workers count) = Unit {0}
+HaveWorkers (Signing client) = Unit {0}

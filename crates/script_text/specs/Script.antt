@@ -72,7 +72,7 @@ front_in form words = None
 abbrev pub who_in : Form → List ℕ → Front → Result Who Cause
 who_in (Workers count) last front = need (worker_in count front.who) Worker (λ worker. Ok (record { worker = worker; signer = None }))
 who_in (Clients count workers) last front =
-    need (client_in count workers front.who) Client (λ client.
+    need (client_in count front.who) Client (λ client.
     need (number_behind (get_or last client 0) front.number) Number (λ number.
     Ok (record { worker = client % workers; signer = Some (record { client = client; number = number }) })))
 who_in (Signing client) last front =

@@ -64,7 +64,7 @@ script_text (phase ∷ phases) = phase_text phase ++ behind_text phases
 abbrev pub IsAskedBy : Form → ℕ → Option Signature → Type 0
 IsAskedBy (Workers count) worker signature = (worker < count) × (signature ≡ None)
 IsAskedBy (Clients count workers) worker None = ⊥
-IsAskedBy (Clients count workers) worker (Some signature) = (worker < workers) × (signature.client < count) × (worker ≡ signature.client % workers)
+IsAskedBy (Clients count workers) worker (Some signature) = (signature.client < count) × (worker ≡ signature.client % workers)
 IsAskedBy (Signing client) worker None = ⊥
 IsAskedBy (Signing client) worker (Some signature) = (signature.client ≡ client) × (worker ≡ 0)
 
@@ -86,10 +86,11 @@ AreTasks header phases = AllByRecursion (λ phase. AllByRecursion (IsTask header
 abbrev pub HaveTags : DigestFunctions → Type 0
 HaveTags functions = (client : ℕ) (bytes : List ℕ) → IsDigest (functions.client_tag client bytes)
 
--- so many verifiers and clients as a header can name
+-- so many verifiers and clients as a header can name, and where there are clients a verifier
 pub record IsSized (header : Header) : Type 0 where
   pub verifiers : header.verifiers < 2 ^ 16
   pub clients : header.clients < 2 ^ 32
+  pub served : is_signed header ≡ true → 0 < header.verifiers
 
 -- A request is signed right behind others of which the clients' last numbers are these: its tag is the one that its client makes of it,
 -- and its number has 64 bits and is above the client's last.

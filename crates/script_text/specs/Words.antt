@@ -26,9 +26,9 @@ below limit (Some number) = if nat_lt number limit then Some number else None
 abbrev pub worker_in : ℕ → List ℕ → Option ℕ
 worker_in verifiers word = below verifiers (number_in word)
 
--- one of so many clients, where there are workers that serve them
-abbrev pub client_in : ℕ → ℕ → List ℕ → Option ℕ
-client_in clients workers word = below (if workers == 0 then 0 else clients) (number_in word)
+-- one of so many clients
+abbrev pub client_in : ℕ → List ℕ → Option ℕ
+client_in clients word = below clients (number_in word)
 
 -- a number that is above another
 abbrev pub above : ℕ → Option ℕ → Option ℕ

@@ -1,11 +1,11 @@
 //! The words in front of what a line asks, and who asks by them.
-ghost use Rattle.std.specs.Prelude.{◌≡◌, ℕ, List, [], ◌∷◌, get_or, Ok, MatchOption};
+ghost use Rattle.std.specs.Prelude.{◌≡◌, ℕ, ◌<◌, List, [], ◌∷◌, get_or, Ok, MatchOption};
 ghost use Rattle.std.specs.Str.{bytes_eq};
 ghost use Rattle.hex.specs.Hex.{encode_lower};
 ghost use Rattle.base_words.specs.Steps.{need};
 ghost use Rattle.script_text.specs.Lines.{words_of};
 ghost use Rattle.script_text.specs.Words.{number_behind};
-ghost use Rattle.script_text.specs.Grammar.{place};
+ghost use Rattle.script_text.specs.Grammar.{HaveWorkers, place};
 ghost use Rattle.script_text.specs.Script.{front_in, who_in, has_tag, signed_by, numbers_behind};
 
 use crate::grammar::Form;
@@ -104,6 +104,7 @@ fn split_behind(line: &[u8]) -> Option<(&[u8], &[u8])>
 
 /// Who asks behind lines of which the clients' last numbers are these, or why nobody does.
 pub(crate) fn read_who(form: &Form, last: &[u64], front: &FrontWords) -> Result<Who, Cause>
+    requires workers { HaveWorkers form.now }
     ensures value { result ≡ who_in form.now last.now front.now }
 {
     match form {
@@ -130,9 +131,10 @@ pub(crate) fn read_who(form: &Form, last: &[u64], front: &FrontWords) -> Result<
 
 // A client that asks, and the worker that is to serve it.
 fn read_client(count: u32, workers: u16, last: &[u64], front: &FrontWords) -> Result<Who, Cause>
+    requires workers { 0 < workers }
     ensures value { result ≡ who_in (Form.Clients count workers) last.now front.now }
 {
-    let Some(client) = words::client(front.who, count, workers) else {
+    let Some(client) = words::client(front.who, count) else {
         return Err(Cause::Client);
     };
     let number = read_number(last, client as usize, front)?;

@@ -1,5 +1,6 @@
 //! Reads a line.
 ghost use Rattle.std.specs.Prelude.{◌≡◌};
+ghost use Rattle.script_text.specs.Grammar.{HaveWorkers};
 ghost use Rattle.script_text.specs.Script.{task_in, line_says};
 
 use crate::asked::{AskedWords, read_asked, read_request};
@@ -17,6 +18,7 @@ pub(crate) fn read_line<D: Digests>(
     last: &[u64],
     line: &[u8],
 ) -> Result<Line, Cause>
+    requires workers { HaveWorkers grammar.now.form }
     ensures value { result ≡ line_says (D.functions d.now) grammar.now last.now line.now }
 {
     if line.len() > grammar.longest_line {
@@ -43,6 +45,7 @@ fn read_task<D: Digests>(
     front: &FrontWords,
     asked: &AskedWords,
 ) -> Result<Line, Cause>
+    requires workers { HaveWorkers grammar.now.form }
     ensures value { result ≡ task_in (D.functions d.now) grammar.now last.now front.now asked.now }
 {
     let who = match read_who(&grammar.form, last, front) {

@@ -1,6 +1,8 @@
 //! What the workers of a host are asked, phase by phase.
-ghost use Rattle.std.specs.Prelude.{◌≡◌, ◌<◌, ◌∷◌, [], length, IfOk, IfErr, OnOk, OnErr};
+ghost use Rattle.std.specs.Prelude.{◌≡◌, ◌<◌, true, ◌∷◌, [], length, IfOk, IfErr, OnOk, OnErr};
 ghost use Rattle.std.specs.List.{slice_index_or};
+ghost use Rattle.lamport_clocks.specs.Header.{is_signed};
+ghost use Rattle.script_text.specs.Grammar.{HaveWorkers};
 ghost use Rattle.script_text.specs.Script.{phases_in, script_of, then_line, IsFaultOf};
 
 use crate::extent::Extent;
@@ -63,6 +65,7 @@ impl Requests {
         bytes: &[u8],
         header: &Header,
     ) -> Result<Self, ScriptFault>
+        requires workers { is_signed header.now ≡ true → 0 < header.now.verifiers }
         // What is read is what the bytes mean.
         ensures script { IfOk result (λ phases. script_of (D.functions d.now) header.now bytes.now ≡ Ok phases) }
         // A line that is named is the first outside the grammar, and its cause the first that it has.
@@ -78,6 +81,7 @@ impl Requests {
         bytes: &[u8],
         grammar: &Grammar,
     ) -> Result<Self, ScriptFault>
+        requires workers { HaveWorkers grammar.now.form }
         ensures script { IfOk result (λ phases. phases_in (D.functions d.now) grammar.now bytes.now ≡ Ok phases) }
         ensures refused { IfErr result (λ fault. IsFaultOf (phases_in (D.functions d.now) grammar.now bytes.now) fault) }
     {

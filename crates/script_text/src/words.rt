@@ -1,5 +1,5 @@
 //! Reads the words of a line: workers, clients, numbers of requests, keys and data values.
-ghost use Rattle.std.specs.Prelude.{◌≡◌, ◌^◌, ◌*◌, ◌/◌, ◌<◌, ◌≤◌, length, Some, IfSome};
+ghost use Rattle.std.specs.Prelude.{◌≡◌, ◌^◌, ◌*◌, ◌/◌, ◌≤◌, length, Some};
 ghost use Rattle.std.specs.List.{list_all};
 ghost use Rattle.std.specs.Option.{option_map};
 ghost use Rattle.std.specs.Result.{result_ok};
@@ -21,13 +21,12 @@ pub(crate) fn worker(word: &[u8], verifiers: u16) -> Option<u16>
     }
 }
 
-/// The number of a client, one of so many, where there are workers that serve them.
-pub(crate) fn client(word: &[u8], clients: u32, workers: u16) -> Option<u32>
-    ensures value { result ≡ client_in clients workers word.now }
-    ensures served { IfSome result (λ _. 0 < workers) }
+/// The number of a client, one of so many.
+pub(crate) fn client(word: &[u8], clients: u32) -> Option<u32>
+    ensures value { result ≡ client_in clients word.now }
 {
     match number(word) {
-        Some(client) if workers > 0 && client < u128::from(clients) => Some(client as u32),
+        Some(client) if client < u128::from(clients) => Some(client as u32),
         _ => None,
     }
 }
