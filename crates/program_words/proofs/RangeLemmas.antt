@@ -145,7 +145,7 @@ version_at (Some clients) version found is =
     let c = counted (version == last_version) version found is in
     (c.1, sym c.1 ∙ same_number version last_version c.0, λ none. let other : Some clients ≡ None = none in cc)
 
-version_range : (clients : Option ℕ) (found : ℕ) (word : Option Text) → version_in clients word ≡ Some found
+pub version_range : (clients : Option ℕ) (found : ℕ) (word : Option Text) → version_in clients word ≡ Some found
     → (first_version ≤ found) × (found ≤ last_version) × IfSome clients (λ _. found ≡ last_version) × (clients ≡ None → found ≡ last_version → ⊥)
 version_range clients found word is =
     let m = and_then_found (optional_in first_version last_version word) (λ version. version_where clients (unwrap_or version (usual_version clients))) found is in

@@ -1,8 +1,8 @@
 //! What the words behind `run` and `gen` say of a host: its numbers, and where its logs go.
-ghost use Rattle.std.specs.Prelude.{◌≡◌, ◌≤◌, ◌==◌, Some, None, IfOk, IfSome, codes, true};
+ghost use Rattle.std.specs.Prelude.{◌≡◌, ◌==◌, Some, None, IfOk, codes, true};
 ghost use Rattle.clap.specs.Words.{first_of, found_of, rows_of};
 ghost use Rattle.program_words.specs.Found.{flag_in};
-ghost use Rattle.program_words.specs.HostWords.{absent_in, are_key_bits, hot_in, is_shard_count, key_bits_in, last_version, shards_in, numbers_in, version_in};
+ghost use Rattle.program_words.specs.HostWords.{absent_in, are_key_bits, hot_in, is_shard_count, key_bits_in, shards_in, numbers_in, usual_version, version_in, version_where};
 
 use crate::found::{flag_of, word_of};
 use crate::key::Key;
@@ -135,22 +135,32 @@ pub(crate) fn numbers_of(found: &ArgMatches<'_>) -> Option<HostNumbers>
     })
 }
 
-// Which version of the format the bundle is to have: the last one where clients sign, and there alone.
+// Which version of the format the bundle is to have.
 fn version_of(found: &ArgMatches<'_>, clients: Option<u32>) -> Option<u32>
     ensures value { result ≡ version_in clients (first_of (codes "format") (rows_of (found_of found.now))) }
-    ensures most { IfSome result (λ version. version ≤ last_version) }
 {
     let asked = optional(found, "format", FIRST_VERSION, LAST_VERSION)?;
-    let usual = if clients.is_some() {
-        LAST_VERSION
-    } else {
-        FIRST_VERSION
-    };
-    let version = asked.unwrap_or(usual);
-    if clients.is_some() == (version == LAST_VERSION) {
-        Some(version)
-    } else {
-        None
+    version_where(clients, asked.unwrap_or(usual_version(clients)))
+}
+
+// The version where none is given: the last one where clients sign.
+fn usual_version(clients: Option<u32>) -> u32
+    ensures value { result ≡ usual_version clients }
+{
+    match clients {
+        Some(_) => LAST_VERSION,
+        None => FIRST_VERSION,
+    }
+}
+
+// This version, if clients sign in it just where some do.
+fn version_where(clients: Option<u32>, version: u32) -> Option<u32>
+    ensures value { result ≡ version_where clients version }
+{
+    match clients {
+        Some(_) if version == LAST_VERSION => Some(version),
+        None if version != LAST_VERSION => Some(version),
+        _ => None,
     }
 }
 

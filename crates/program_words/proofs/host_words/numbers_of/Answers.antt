@@ -4,13 +4,18 @@ use Rattle.clap.specs.Walk.{Row, first_of}
 use Rattle.clap.specs.Words.{found_of, rows_of}
 use Rattle.program_words.specs.HostWords.{hot_in}
 use Rattle.program_words.proofs.NumberLemmas.{needed_most}
-use Rattle.program_words.proofs.RangeLemmas.{numbers_found}
+use Rattle.program_words.proofs.RangeLemmas.{numbers_found, version_range}
 use Rattle.program_words.proofs.host_words.numbers_of.Goals as goal
 
 pub overflow_cast-result : goal.overflow_cast-result
 overflow_cast-result c =
     let most = needed_most 1 64 c.in_ok-verifiers.verifiers _ c.in_ok-verifiers.ensures.value in
     omega (arith, most)
+
+pub overflow_cast-result-2 : goal.overflow_cast-result-2
+overflow_cast-result-2 c =
+    let range = version_range c.in_ok-clients.clients c.in_ok-version.version _ (sym c.in_ok-version.ensures.value) in
+    omega (arith, range.1)
 
 pub returns : goal.returns
 returns c =
