@@ -132,15 +132,19 @@ bits_range version found word is =
 
 -- ---- clients, and what goes with them
 
+-- where no client signs it isn't the version in which clients do
+abbrev IsOther : Option ℕ → ℕ → Type 0
+IsOther clients version = clients ≡ None → version ≡ last_version → ⊥
+
 version_at : (clients : Option ℕ) (version found : ℕ) → version_where clients version ≡ Some found
     → (version ≡ found) × IfSome clients (λ _. found ≡ last_version) × (clients ≡ None → found ≡ last_version → ⊥)
 version_at None version found is = go (version == last_version) refl is where
   go : (test : Bool) → (version == last_version) ≡ test → (if test then None else Some version) ≡ Some found
-      → (version ≡ found) × Unit {0} × (None ≡ None → found ≡ last_version → ⊥)
-  go true tested same = absurd (cc)
-  go false tested same =
+      → (version ≡ found) × Unit {0} × IsOther None found
+  go true same_version same = absurd (cc)
+  go false same_version same =
       let e : version ≡ found = cc in
-      (e, tt, λ _ last. grind (arith, nat_tests, tested, e, last))
+      (e, tt, λ _ last. grind (arith, nat_tests, same_version, e, last))
 version_at (Some clients) version found is =
     let c = counted (version == last_version) version found is in
     (c.1, sym c.1 ∙ same_number version last_version c.0, λ none. let other : Some clients ≡ None = none in cc)
@@ -158,14 +162,18 @@ version_range clients found word is =
     usual_range None = (omega arith, omega arith)
     usual_range (Some clients) = (omega arith, omega arith)
 
+-- so many clients there are in this version
+abbrev AreClientsIn : Option ℕ → ℕ → Type 0
+AreClientsIn clients version =
+    ((version < last_version) × (unwrap_or clients 0 ≡ 0))
+    ⊎ ((version ≡ last_version) × (1 ≤ unwrap_or clients 0) × (unwrap_or clients 0 ≤ most_clients))
+
 clients_range : (clients : Option ℕ) (version : ℕ) → IfSome clients (λ number. (1 ≤ number) × (number ≤ most_clients)) → version ≤ last_version
-    → IfSome clients (λ _. version ≡ last_version) → (clients ≡ None → version ≡ last_version → ⊥)
-    → ((version < last_version) × (unwrap_or clients 0 ≡ 0)) ⊎ ((version ≡ last_version) × (1 ≤ unwrap_or clients 0) × (unwrap_or clients 0 ≤ most_clients))
+    → IfSome clients (λ _. version ≡ last_version) → IsOther clients version → AreClientsIn clients version
 clients_range None version range most last other = go (cases_lt version last_version) where
-  go : (version < last_version) ⊎ (last_version ≤ version)
-      → ((version < last_version) × (0 ≡ 0)) ⊎ ((version ≡ last_version) × (1 ≤ 0) × (0 ≤ most_clients))
+  go : (version < last_version) ⊎ (last_version ≤ version) → AreClientsIn None version
   go (inl before) = inl (before, refl)
-  go (inr behind) = absurd (other refl (omega arith))
+  go (inr behind) = absurd (other refl (omega (arith, behind, most)))
 clients_range (Some clients) version range most last other = inr (last, range.0, range.1)
 
 recorded_range : (clients : Option ℕ) (version : ℕ) (flag found : Bool) → absent_in clients flag ≡ Some found → (clients ≡ None → version ≡ last_version → ⊥)
@@ -199,7 +207,7 @@ numbers_range rows numbers is =
       rolling = flag_in (codes "rolling") rows;
       clients = unwrap_or n.0 0;
     } in
-    let same : made ≡ numbers = (let inside : Some made ≡ Some numbers = r.1.1 in cc) in
+    let same : made ≡ numbers = ap (λ (o : Option HostNumbers). unwrap_or o made) r.1.1 in
     let verifiers = needed_range 1 most_verifiers a.0 (first_of (codes "verifiers") rows) a.1.0 in
     let first = or_range 0 (2 ^ 32 - 1) 0 f.0 (optional_range 0 (2 ^ 32 - 1) f.0 (first_of (codes "first") rows) f.1.0) (omega arith) (omega arith) in
     let end = or_range 1 greatest_end greatest_end e.0 (optional_range 1 greatest_end e.0 (first_of (codes "counter") rows) e.1.0) (omega arith) (omega arith) in
@@ -246,6 +254,28 @@ module _ (rows : List Row) (verifiers shards version bits : ℕ) (hot first coun
   }) ≡ numbers_in rows
   numbers_found =
       rw (sym some_verifiers, sym some_shards, sym some_hot, sym some_first, sym some_counter, sym some_clients, sym some_version, sym some_bits, sym some_absent) refl
+
+-- and where one of the last isn't found there are none
+module _ (rows : List Row) (verifiers shards : ℕ) (hot first counter clients : Option ℕ)
+    (some_verifiers : Some verifiers ≡ needed_in 1 most_verifiers (first_of (codes "verifiers") rows))
+    (some_shards : Some shards ≡ shards_in (first_of (codes "shards") rows))
+    (some_hot : Some hot ≡ hot_in (flag_in (codes "rolling") rows) (first_of (codes "hot") rows))
+    (some_first : Some first ≡ optional_in 0 (2 ^ 32 - 1) (first_of (codes "first") rows))
+    (some_counter : Some counter ≡ optional_in 1 greatest_end (first_of (codes "counter") rows))
+    (some_clients : Some clients ≡ optional_in 1 most_clients (first_of (codes "clients") rows)) where
+  pub no_version : None ≡ version_in clients (first_of (codes "format") rows) → None ≡ numbers_in rows
+  no_version none =
+      rw (sym some_verifiers, sym some_shards, sym some_hot, sym some_first, sym some_counter, sym some_clients, sym none) refl
+
+  pub no_bits : (version : ℕ) → Some version ≡ version_in clients (first_of (codes "format") rows)
+      → None ≡ key_bits_in version (first_of (codes "bits") rows) → None ≡ numbers_in rows
+  no_bits version some_version none =
+      rw (sym some_verifiers, sym some_shards, sym some_hot, sym some_first, sym some_counter, sym some_clients, sym some_version, sym none) refl
+
+  pub no_absent : (version bits : ℕ) → Some version ≡ version_in clients (first_of (codes "format") rows)
+      → Some bits ≡ key_bits_in version (first_of (codes "bits") rows) → None ≡ absent_in clients (flag_in (codes "absent") rows) → None ≡ numbers_in rows
+  no_absent version bits some_version some_bits none =
+      rw (sym some_verifiers, sym some_shards, sym some_hot, sym some_first, sym some_counter, sym some_clients, sym some_version, sym some_bits, sym none) refl
 
 -- ---- the numbers of a load
 
