@@ -184,6 +184,9 @@ recorded_range (Some clients) version true found is other last = absurd (cc)
 
 -- ---- the numbers of a host
 
+first_range : (first : ℕ) → first ≤ 2 ^ 32 - 1 → first < 2 ^ 32
+first_range first most = omega (arith, most)
+
 pub numbers_range : (rows : List Row) (numbers : HostNumbers) → numbers_in rows ≡ Some numbers → AreHostNumbers numbers
 numbers_range rows numbers is =
     let a = then_found (needed_in 1 most_verifiers (first_of (codes "verifiers") rows)) _ numbers is in
@@ -219,7 +222,7 @@ numbers_range rows numbers is =
       shards = shards_range b.0 (first_of (codes "shards") rows) b.1.0;
       hot = hot.0;
       cold = hot.1;
-      first = omega (arith, first.1);
+      first = first_range (unwrap_or f.0 0) first.1;
       some_end = end.0;
       end = end.1;
       some_version = version.0;
