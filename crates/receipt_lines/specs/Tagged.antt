@@ -65,7 +65,7 @@ receipt_at bytes = do
   tag ← run_at tag_len access.1
   Ok (
     record {
-      operation = record { stamp = moment.0.0; verifier = moment.0.1; index = moment.0.2; put = access.0.0; wide = wide.0; key = access.0.1; value = access.0.2 };
+      operation = record { stamp = moment.0.0; verifier = moment.0.1; index = moment.0.2; put = access.0.0; wide = wide.0; key = access.0.1; value = access.0.2; signer = None };
       tag = tag.0;
     },
     tag.1,
