@@ -219,7 +219,7 @@ receipt_begins bytes receipt rest fits e =
     let made : Receipt = receipt_of a.0.0 b.0.0 c.0.0 d.0.0 in
     let spelled : Begins bytes (receipt_text made.operation ++ made.tag) d.0.1 =
     receipt_joined bytes a.0.0 b.0.0 c.0.0 d.0.0 d.0.1 four in
-    let is : IsReceipt made = (record { stamp = second.1.0; verifier = second.1.1; index = second.1.2; key = third.1.0; value = third.1.1; signer = None }, fourth.1) in
+    let is : IsReceipt made = (record { stamp = second.1.0; verifier = second.1.1; index = second.1.2; key = third.1.0; value = third.1.1 }, fourth.1) in
     let P : Receipt × List ℕ → Type 0 = λ x. Begins bytes (receipt_text x.0.operation ++ x.0.tag) x.1 × IsReceipt x.0 in
     subst P {x = (made, d.0.1)} (Ok-is (made, d.0.1) (receipt, rest) d.2) (spelled, is)
 
