@@ -1,10 +1,10 @@
 -- What stands before the verifiers of a seal, as it is read.
-use Rattle.std.proofs.Common.{◌≡◌, ℕ, ◌≤◌, Bool, false, cond, ltb, List, length, take, drop, Option, Some, Ok, Err, sym, ap, ◌∙◌, length-drop, arith}
+use Rattle.std.proofs.Common.{◌≡◌, ℕ, ◌≤◌, Bool, false, cond, ltb, List, length, take, drop, Option, Some, None, Ok, Err, sym, ap, ◌∙◌, length-drop, arith}
 use Rattle.std.specs.Int.{w32, w64, from_be_bytes}
 use Rattle.std.proofs.lemmas.Bool.{le-ltb}
 use Rattle.std.proofs.lemmas.List.{drop-drop}
 use Rattle.lamport_clocks.specs.declared.header.Header.{Header}
-use Rattle.record_text.specs.declared.reader.TextFault.TheVariants.{Truncated}
+use Rattle.record_text.specs.declared.reader.TextFault.TheVariants.{Truncated, Malformed}
 use Rattle.record_text.specs.Fields.{ranged, field}
 use Rattle.record_text.specs.Reading.{u32_at, u64_at}
 use Rattle.record_text.proofs.FieldLaws.{field_ok}
@@ -33,3 +33,13 @@ header_read bytes left count header is within found behind =
     ∙ (ap (λ (n : ℕ). field n header_in bytes) (sym is)
     ∙ (ap (λ (b : Bool). cond b (Err Truncated) (ranged (header_in (take count bytes)) (drop count bytes))) there
     ∙ (ap (λ (o : Option Header). ranged o (drop count bytes)) found ∙ ap (λ (xs : List ℕ). Ok (header, xs)) (sym behind))))
+
+-- and so many bytes that are no header
+pub header_malformed : (bytes : List ℕ) (count : ℕ) → count ≡ header_bytes_in bytes → count ≤ length bytes → header_in (take count bytes) ≡ None → header_at bytes ≡ Err Malformed
+header_malformed bytes count is within none =
+    let long : magic_bytes ≤ length bytes = omega (arith, (header_bytes-bounds (version_in bytes)).0) in
+    let there : ltb (length bytes) count ≡ false = le-ltb _ _ within in
+    long_enough bytes long
+    ∙ (ap (λ (n : ℕ). field n header_in bytes) (sym is)
+    ∙ (ap (λ (b : Bool). cond b (Err Truncated) (ranged (header_in (take count bytes)) (drop count bytes))) there
+    ∙ ap (λ (o : Option Header). ranged o (drop count bytes)) none))

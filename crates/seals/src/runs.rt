@@ -155,11 +155,7 @@ fn read_operations(
 
 // The last number of each client of the verifier.
 #[tactic(auto, unfolding(crate::specs::Run::numbers_at))]
-fn read_numbers(
-    alloc: Global,
-    bounds: &Bounds,
-    reader: &mut Reader<'_>,
-) -> Result<Vec<u64>, Fault>
+fn read_numbers(alloc: Global, bounds: &Bounds, reader: &mut Reader<'_>) -> Result<Vec<u64>, Fault>
     ensures reads { Reads (λ made. made.items) result reader.new (numbers_at bounds.now reader.old) }
 {
     read_row(alloc, bounds, bounds.number_count(), reader)

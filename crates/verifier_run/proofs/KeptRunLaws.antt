@@ -151,10 +151,10 @@ cache-kept again header (by_slot slots) listed under is =
     ∙ (ap (λ (count : ℕ). with_listed (empty_slots count) (listed_from 0 slots)) (sym under.1) ∙ again slots))
 
 -- a run, by all that it has
-abbrev run_of : ℕ → Header → AnyCache → Reading → Sums → ℕ → List Operation → List Part → Option (ℕ × Refusal) → List ℕ → Progress Operation
-run_of number header cache clock sums accepted items parts refused held = record {
+abbrev run_of : ℕ → Header → AnyCache → Reading → Sums → ℕ → List ℕ → List Operation → List Part → Option (ℕ × Refusal) → List ℕ → Progress Operation
+run_of number header cache clock sums accepted numbers items parts refused held = record {
   course = record {
-    machine = record { number = number; header = header; state = record { cache = cache; clock = clock }; sums = sums; accepted = accepted };
+    machine = record { number = number; header = header; state = record { cache = cache; clock = clock }; sums = sums; numbers = numbers; accepted = accepted };
     items = items;
     parts = parts;
     refused = refused;
@@ -179,16 +179,17 @@ kept-like again number header run kept none taken under is_kept = record {
   cache = cache;
   alike = cache-kept again header machine.state.cache kept.entries under.cache is_kept.entries;
   same =
-      ap (λ (clock : Reading). run_of number header cache clock (sums_of kept) kept.accepted kept.operations kept.parts None [])
+      ap (λ (clock : Reading). run_of number header cache clock (sums_of kept) kept.accepted kept.numbers kept.operations kept.parts None [])
       (clock-kept header machine.state.clock kept.at under.first under.end is_kept.at)
-      ∙ (ap (λ (n : ℕ). run_of n header cache machine.state.clock (sums_of kept) kept.accepted kept.operations kept.parts None []) (sym under.number_is)
-      ∙ (ap (λ (h : Header). run_of machine.number h cache machine.state.clock (sums_of kept) kept.accepted kept.operations kept.parts None []) (sym under.header_is)
-      ∙ (ap (λ (sums : Sums). run_of machine.number machine.header cache machine.state.clock sums kept.accepted kept.operations kept.parts None []) is_kept.sums
-      ∙ (ap (λ (n : ℕ). run_of machine.number machine.header cache machine.state.clock machine.sums n kept.operations kept.parts None []) is_kept.accepted
-      ∙ (ap (λ (items : List Operation). run_of machine.number machine.header cache machine.state.clock machine.sums machine.accepted items kept.parts None []) is_kept.operations
-      ∙ (ap (λ (parts : List Part). run_of machine.number machine.header cache machine.state.clock machine.sums machine.accepted run.course.items parts None []) is_kept.parts
-      ∙ (ap (λ (refused : Option (ℕ × Refusal)). run_of machine.number machine.header cache machine.state.clock machine.sums machine.accepted run.course.items run.course.parts refused []) (sym taken)
-      ∙ ap (λ (held : List ℕ). run_of machine.number machine.header cache machine.state.clock machine.sums machine.accepted run.course.items run.course.parts run.course.refused held) (sym none))))))));
+      ∙ (ap (λ (n : ℕ). run_of n header cache machine.state.clock (sums_of kept) kept.accepted kept.numbers kept.operations kept.parts None []) (sym under.number_is)
+      ∙ (ap (λ (h : Header). run_of machine.number h cache machine.state.clock (sums_of kept) kept.accepted kept.numbers kept.operations kept.parts None []) (sym under.header_is)
+      ∙ (ap (λ (sums : Sums). run_of machine.number machine.header cache machine.state.clock sums kept.accepted kept.numbers kept.operations kept.parts None []) is_kept.sums
+      ∙ (ap (λ (n : ℕ). run_of machine.number machine.header cache machine.state.clock machine.sums n kept.numbers kept.operations kept.parts None []) is_kept.accepted
+      ∙ (ap (λ (numbers : List ℕ). run_of machine.number machine.header cache machine.state.clock machine.sums machine.accepted numbers kept.operations kept.parts None []) is_kept.numbers
+      ∙ (ap (λ (items : List Operation). run_of machine.number machine.header cache machine.state.clock machine.sums machine.accepted machine.numbers items kept.parts None []) is_kept.operations
+      ∙ (ap (λ (parts : List Part). run_of machine.number machine.header cache machine.state.clock machine.sums machine.accepted machine.numbers run.course.items parts None []) is_kept.parts
+      ∙ (ap (λ (refused : Option (ℕ × Refusal)). run_of machine.number machine.header cache machine.state.clock machine.sums machine.accepted machine.numbers run.course.items run.course.parts refused []) (sym taken)
+      ∙ ap (λ (held : List ℕ). run_of machine.number machine.header cache machine.state.clock machine.sums machine.accepted machine.numbers run.course.items run.course.parts run.course.refused held) (sym none)))))))));
 }
   where
     machine : Machine
